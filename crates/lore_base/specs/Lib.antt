@@ -1,0 +1,9 @@
+pub mod Bytes
+pub mod Lists
+pub mod Causes
+pub mod Refusals
+pub mod Names
+pub mod Walks
+pub mod Databases
+pub mod ChangeSets
+pub mod MemoryEnds

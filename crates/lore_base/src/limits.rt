@@ -1,0 +1,31 @@
+//! How much a database and a script may hold.
+
+/// Bytes of a text value.
+pub const TEXT_BYTES: usize = 4_096;
+
+/// Bytes of a label, a name, a variable or a pattern.
+pub const WORD_BYTES: usize = 255;
+
+/// Live objects of a database.
+pub const OBJECTS: usize = 65_536;
+
+/// Edges of a database.
+pub const EDGES: usize = 262_144;
+
+/// The greatest next object number, one past the greatest object number.
+pub const NEXT_NUMBER: u64 = 4_294_967_296;
+
+/// The greatest node limit of the guide, and the one that a new database has.
+pub const NODES: u32 = 4_096;
+
+/// Levels of nesting in a statement.
+pub const NESTING: u32 = 64;
+
+/// Path leaves in one statement.
+pub const LEAVES: usize = 64;
+
+/// Bytes of one chunk before its `;`.
+pub const CHUNK_BYTES: usize = 67_108_864;
+
+/// Bytes of a script.
+pub const SCRIPT_BYTES: usize = 1_073_741_824;

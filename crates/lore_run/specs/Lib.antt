@@ -1,0 +1,16 @@
+pub mod Trees
+pub mod Grammar
+pub mod Reading
+pub mod Made
+pub mod Statements
+pub mod Targets
+pub mod Replies
+pub mod LabelTables
+pub mod Parts
+pub mod Sessions
+pub mod Answers
+pub mod Deliveries
+pub mod Runs
+pub mod Endings
+pub mod Scripts
+pub mod Turns

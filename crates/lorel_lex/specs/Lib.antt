@@ -1,0 +1,9 @@
+pub mod Scan
+pub mod Scanning
+pub mod Gaps
+pub mod Skipping
+pub mod Progress
+pub mod Reader
+pub mod Chunks
+pub mod Tokens
+pub mod Lexing

@@ -1,0 +1,18 @@
+//! The text of a script: how it is cut into chunks, one for each statement, and which tokens a chunk has.
+#![tactic(auto)]
+
+pub use chunk_reader::{Chunks, Fed, FedState, Rest};
+pub use lexer::{one_token_list, tokens};
+pub use scan::one_cut;
+pub use token_types::{Kind, LexFault, Sign, Token, TokenList};
+
+mod byte_class;
+mod chunk_reader;
+mod gaps;
+mod lexer;
+mod numbers;
+mod quoted_texts;
+mod scan;
+mod symbols;
+mod token_types;
+mod words;

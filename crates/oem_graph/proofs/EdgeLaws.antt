@@ -1,0 +1,110 @@
+-- Ascending edges: their order, sorted lists without doubles, and lists of which one comes behind the other.
+use Rattle.std.proofs.Common.{◌≡◌, ℕ, ◌-◌, ◌<◌, ◌↔◌, ◌&&◌, Bool, true, nat_eq, Less, List, [], ◌∷◌, ◌++◌, length, get_or, AllPairs, Contains, IsPermutation, Some, zero, suc, refl, sym, ap, ◌∙◌, ◌⊎◌, inl, inr, arith, length-append}
+use Rattle.std.specs.declared.cmp.Ordering.{Ordering}
+use Rattle.std.specs.Cmp.{IsTotalOrder, IsEquivalence}
+use Rattle.std.specs.Ordering.{eq_by_cmp}
+use Rattle.std.specs.List.{slice_get, dedup}
+use Rattle.std.specs.List.Retain.{IsFiltered, DiffersFromLast}
+use Rattle.std.specs.List.Sorted.{IsSorted, IsStrictlySortedBy}
+use Rattle.std.proofs.lemmas.Bool.{cases_lt}
+use Rattle.std.proofs.lemmas.Bool.Decides.{nat_tests}
+use Rattle.std.proofs.lemmas.Cmp.{nat_cmp_total, on_total, then_total, eq_by_cmp_equiv}
+use Rattle.std.proofs.lemmas.List.{get_or_append_left, get_or-append_right}
+use Rattle.std.proofs.lemmas.List.Elements.{All-from_recursion, Contains-append_cases, Contains-append_left, Contains-append_right}
+use Rattle.std.proofs.lemmas.List.Filters.{dedup_is}
+use Rattle.std.proofs.lemmas.List.Kept.{AllPairs-cons, IsStrictlySortedBy-dedup, Contains-dedup, Contains-from_dedup}
+use Rattle.std.proofs.lemmas.List.Sorted.{Contains-permutation, IsPermutation-sym}
+use Rattle.std.proofs.lemmas.Option.{get_or_from_slice_get}
+use Rattle.lore_base.specs.declared.edges.Edge.{Edge}
+use Rattle.lore_base.specs.Walks.{edge_cmp}
+use Rattle.lore_base.specs.Databases.{AreAscendingEdges}
+
+pub edge_cmp_total : IsTotalOrder edge_cmp
+edge_cmp_total = then_total (on_total (λ e. e.parent.0) nat_cmp_total) (then_total (on_total (λ e. e.label.0) nat_cmp_total) (on_total (λ e. e.child.0) nat_cmp_total))
+
+-- the derived `==` of edges
+abbrev pub edge_eq : Edge → Edge → Bool
+edge_eq a b = nat_eq a.parent.0 b.parent.0 && (nat_eq a.label.0 b.label.0 && nat_eq a.child.0 b.child.0)
+
+pub edge_ties : (a b : Edge) → edge_eq a b ≡ eq_by_cmp edge_cmp a b
+edge_ties a b = grind (arith, nat_tests)
+
+pub edge_same : (a b : Edge) → edge_eq a b ≡ true → a ≡ b
+edge_same a b h =
+    let parent : a.parent.0 ≡ b.parent.0 = grind (arith, nat_tests) in
+    let label : a.label.0 ≡ b.label.0 = grind (arith, nat_tests) in
+    let child : a.child.0 ≡ b.child.0 = grind (arith, nat_tests) in
+    λ i. record { parent = record { 0 = parent i }; label = record { 0 = label i }; child = record { 0 = child i } }
+
+AllPairs-from_strict : {X : Type 0} (R : X → X → Ordering) (xs : List X) → IsStrictlySortedBy R xs → AllPairs (λ a b. R a b ≡ Less) xs
+unfolding IsStrictlySortedBy
+AllPairs-from_strict R [] h = λ i j d lt len. absurd (omega arith)
+AllPairs-from_strict R (x ∷ xs) h = AllPairs-cons (λ a b. R a b ≡ Less) x xs (All-from_recursion _ xs h.0) (AllPairs-from_strict R xs h.1)
+
+-- sorted edges without their doubles ascend
+pub ascend-dedup : (xs ys : List Edge) → IsSorted edge_cmp xs → IsFiltered (DiffersFromLast edge_eq) [] xs ys → AreAscendingEdges ys
+ascend-dedup xs ys sorted filtered =
+    rw (dedup_is edge_eq xs ys filtered) (AllPairs-from_strict edge_cmp (dedup edge_eq xs) (IsStrictlySortedBy-dedup edge_cmp_total edge_ties xs sorted))
+
+edge_eq_equiv : IsEquivalence edge_eq
+edge_eq_equiv = let laws = eq_by_cmp_equiv edge_cmp_total in record {
+  refl = λ a. edge_ties a a ∙ laws.refl a;
+  symm = λ a b. edge_ties a b ∙ laws.symm a b ∙ sym (edge_ties b a);
+  congr = λ a b c h. edge_ties a c ∙ laws.congr a b c (sym (edge_ties a b) ∙ h) ∙ sym (edge_ties b c);
+}
+
+-- moved about and without their doubles they are the same edges
+pub members-dedup : (xs moved ys : List Edge) → IsPermutation xs moved → IsFiltered (DiffersFromLast edge_eq) [] moved ys → (edge : Edge) → Contains ys edge ↔ Contains xs edge
+members-dedup xs moved ys permutation filtered edge =
+    let is = dedup_is edge_eq moved ys filtered in (
+      λ at. Contains-permutation moved xs edge (IsPermutation-sym xs moved permutation) (Contains-from_dedup edge_eq moved edge (rw is at at)),
+      λ at. rw is (Contains-dedup edge_eq_equiv edge_same moved edge (Contains-permutation xs moved edge permutation at)),
+    )
+
+-- pairs within the parts and across them are the pairs of the whole
+pub AllPairs-append : {X : Type 0} (R : X → X → Type 0) (xs ys : List X) → AllPairs R xs → AllPairs R ys
+    → ((i j : ℕ) (d : X) → i < length xs → j < length ys → R (get_or xs i d) (get_or ys j d)) → AllPairs R (xs ++ ys)
+AllPairs-append R xs ys first second across i j d lt len =
+    let total = length-append xs ys in
+    elim (cases_lt j (length xs)) [
+      | inl early ↦ let early_i : i < length xs = omega arith in rw (get_or_append_left xs ys d i early_i, get_or_append_left xs ys d j early) (first i j d lt early)
+      | inr late ↦ elim (cases_lt i (length xs)) [
+        | inl early_i ↦ rw (get_or_append_left xs ys d i early_i, get_or-append_right xs ys (length xs) j d refl late) (across i (j - length xs) d early_i (omega arith))
+        | inr late_i ↦ rw (get_or-append_right xs ys (length xs) i d refl late_i, get_or-append_right xs ys (length xs) j d refl late) (second (i - length xs) (j - length xs) d (omega arith) (omega arith))
+      ]
+    ]
+
+-- each of ascending edges is the last one or comes before it, and the first one comes before each other
+up_to_last : (xs : List Edge) → AreAscendingEdges xs → (last above : Edge) → slice_get xs (length xs - 1) ≡ Some last → edge_cmp last above ≡ Less
+    → (i : ℕ) (d : Edge) → i < length xs → edge_cmp (get_or xs i d) above ≡ Less
+up_to_last xs ascend last above at below i d lt =
+    let read = get_or_from_slice_get xs (length xs - 1) last d at in
+    elim (cases_lt i (length xs - 1)) [
+      | inl early ↦ edge_cmp_total.trans (get_or xs i d) last above (rw read at (ascend i (length xs - 1) d early (omega arith))) below
+      | inr late ↦ let here : i ≡ length xs - 1 = omega arith in rw (ap (λ k. get_or xs k d) here ∙ read) below
+    ]
+
+from_first : (ys : List Edge) → AreAscendingEdges ys → (first below : Edge) → slice_get ys 0 ≡ Some first → edge_cmp below first ≡ Less
+    → (j : ℕ) (d : Edge) → j < length ys → edge_cmp below (get_or ys j d) ≡ Less
+from_first ys ascend first below at above zero d lt = rw (get_or_from_slice_get ys 0 first d at) above
+from_first ys ascend first below at above (suc j) d lt =
+    edge_cmp_total.trans below first (get_or ys (suc j) d) above (rw (get_or_from_slice_get ys 0 first d at) at (ascend 0 (suc j) d (omega arith) lt))
+
+-- where the first of the later edges comes behind the last of the earlier ones, all of them ascend
+pub ascend-append : (xs ys : List Edge) → AreAscendingEdges xs → AreAscendingEdges ys → (last first : Edge)
+    → slice_get xs (length xs - 1) ≡ Some last → slice_get ys 0 ≡ Some first → edge_cmp last first ≡ Less → AreAscendingEdges (xs ++ ys)
+ascend-append xs ys ascend_xs ascend_ys last first at_last at_first less =
+    AllPairs-append (λ a b. edge_cmp a b ≡ Less) xs ys ascend_xs ascend_ys
+    (λ i j d lt_i lt_j. from_first ys ascend_ys first (get_or xs i d) at_first (up_to_last xs ascend_xs last first at_last less i d lt_i) j d lt_j)
+
+-- what stands in either of two lists, of which the second has the members of a third
+pub members-append : (xs ys zs : List Edge) (edge : Edge) → Contains ys edge ↔ Contains zs edge → Contains (xs ++ ys) edge ↔ (Contains xs edge ⊎ Contains zs edge)
+members-append xs ys zs edge same = (
+  λ at. elim (Contains-append_cases xs ys edge at) [ inl first ↦ inl first | inr second ↦ inr (same.0 second) ],
+  λ either. elim either [ inl first ↦ Contains-append_left xs ys edge first | inr second ↦ Contains-append_right xs ys edge (same.1 second) ],
+)
+
+pub members-joined : (all xs ys zs : List Edge) (edge : Edge) → Contains all edge ↔ Contains (xs ++ ys) edge → Contains ys edge ↔ Contains zs edge → Contains all edge ↔ (Contains xs edge ⊎ Contains zs edge)
+members-joined all xs ys zs edge whole same =
+    let parts = members-append xs ys zs edge same in
+    (λ at. parts.0 (whole.0 at), λ either. whole.1 (parts.1 either))

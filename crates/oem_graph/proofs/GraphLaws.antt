@@ -1,0 +1,17 @@
+-- The new graph is sound.
+use Rattle.std.proofs.Common.{arith}
+use Rattle.std.specs.List.Sorted.{IsStrictlySortedBy}
+use Rattle.oem_graph.specs.Graphs.{new_graph, IsSound}
+
+pub sound-new : IsSound new_graph
+unfolding IsStrictlySortedBy
+sound-new = record {
+  ordered = record {
+    names_ascend = tt;
+    objects_ascend = λ i j d lt len. absurd (omega arith);
+    objects_numbered = λ k d lt. absurd (omega arith);
+    edges_ascend = λ i j d lt len. absurd (omega arith);
+    next_numbered = (omega arith, omega arith);
+  };
+  few_edges = omega arith;
+}

@@ -1,0 +1,195 @@
+ghost use Rattle.std.specs.Prelude.{◌≡◌, ◌+◌, ◌<◌, ◌≤◌, ◌^◌, [], ◌++◌, length, Contains, IfSome, IfNone, IfOk, OnOk, OnErr};
+ghost use Rattle.std.specs.Option.{option_copied};
+ghost use Rattle.lore_base.specs.declared.values.Value.{Value as TheValue};
+ghost use Rattle.lore_base.specs.Lists.{Extends};
+ghost use Rattle.lore_base.specs.Names.{object_of};
+ghost use Rattle.lore_base.specs.Walks.{out_of};
+ghost use Rattle.lore_base.specs.Databases.{IsLive};
+ghost use Rattle.lore_base.specs.ChangeSets.{Fits, OnlyAdds, IsAfter};
+ghost use Rattle.oem_graph.specs.Graphs.{new_graph, IsSound};
+ghost use Rattle.oem_graph.specs.Plans.{graph_after, LeadsFrom, HasRoom};
+
+use crate::change_plan::{EdgePlan, GraphPlan, plan_edges};
+use crate::edge_runs::run_of;
+use crate::object_lists::{copied_objects, value_in};
+use lore_base::{Changes, Edge, EdgeBuf, Names, NoMemory, OemText, Oid, OidBuf, Steps, Value};
+use std::alloc::Global;
+use std::marker::Model;
+use std::sync::ledger::Ledger;
+
+/// The graph of a database: names, objects and edges in ascending order, and the number that the next object gets.
+#[derive(Drop)]
+pub struct Graph {
+    names: Names,
+    objects: Vec<(Oid, Value)>,
+    edges: Vec<Edge>,
+    next: u64,
+}
+
+impl Model for Graph {
+    ghost use Rattle.std.specs.Prelude.{◌-◌};
+    ghost use Rattle.std.specs.Vec.{vec_len, vec_capacity};
+    ghost use Rattle.oem_graph.specs.Graphs.{RoomyGraph, IsSound};
+
+    ghost Value = { RoomyGraph };
+
+    ghost view = { λ g. record {
+      graph = record { names = g.names; objects = g.objects.items; edges = g.edges.items; next = g.next };
+      object_room = vec_capacity g.objects - vec_len g.objects;
+      edge_room = vec_capacity g.edges - vec_len g.edges;
+    } };
+
+    ghost invariant = { λ g. IsSound (record {
+      names = g.names;
+      objects = g.objects.items;
+      edges = g.edges.items;
+      next = g.next;
+    }) };
+}
+
+impl Graph {
+    /// The graph of nothing, with 1 as the next number. Takes no memory.
+    pub fn new(alloc: Global) -> Graph
+        ensures { result.graph ≡ new_graph }
+    {
+        Graph {
+            names: Names::new(alloc),
+            objects: Vec::new(alloc),
+            edges: Vec::new(alloc),
+            next: 1,
+        }
+    }
+
+    /// The object's value; None exactly where the object isn't live. Takes no memory.
+    pub fn value(&self, oid: Oid) -> Option<&Value>
+        ensures found { IfSome result (λ value. Contains self.now.graph.objects (oid, value.now)) }
+        ensures none { IfNone result (¬ IsLive self.now.graph.objects oid) }
+        ensures only { (value : TheValue) → Contains self.now.graph.objects (oid, value)
+            → option_copied result ≡ Some value }
+    {
+        value_in(self.objects.as_slice(), oid)
+    }
+
+    /// The table of names.
+    pub fn names(&self) -> &Names
+        ensures { result.now ≡ self.now.graph.names }
+    {
+        &self.names
+    }
+
+    /// The object of the name; None exactly where the name isn't there. Takes no memory.
+    pub fn name(&self, text: &OemText) -> Option<Oid>
+        ensures { result ≡ object_of self.now.graph.names text.now }
+    {
+        self.names.find(text)
+    }
+
+    /// The number of live objects.
+    pub fn objects(&self) -> u32
+        ensures count { result ≡ length self.now.graph.objects }
+        ensures sound { IsSound self.now.graph }
+    {
+        self.objects.len() as u32
+    }
+
+    /// The number of edges.
+    pub fn edges(&self) -> u32
+        ensures count { result ≡ length self.now.graph.edges }
+        ensures sound { IsSound self.now.graph }
+    {
+        self.edges.len() as u32
+    }
+
+    /// The number that the next object gets, 1 to 4,294,967,296.
+    pub fn next(&self) -> u64
+        ensures number { result ≡ self.now.graph.next }
+        ensures sound { IsSound self.now.graph }
+    {
+        self.next
+    }
+
+    /// Appends the edges that leave the object to `buf`, ascending by label and child. Counts one step, and one more
+    /// for each edge. A number that isn't live has no edges.
+    pub fn out_edges<L: Ledger>(
+        &self,
+        oid: Oid,
+        buf: &mut EdgeBuf,
+        steps: &mut Steps<L>,
+    ) -> Result<(), NoMemory>
+        ensures edges { OnOk result (buf.new ≡ buf.old ++ out_of oid self.now.graph.edges) }
+        ensures steps { OnOk result (steps.new ≡ steps.old + 1 + length (out_of oid self.now.graph.edges)) }
+        ensures err { OnErr result (Extends buf.old buf.new) }
+        ensures unticked { OnErr result (steps.new ≡ steps.old) }
+    {
+        let run = run_of(self.edges.as_slice(), oid);
+        buf.append(run)?;
+        steps.tick(1 + run.len() as u64);
+        Ok(())
+    }
+
+    /// Works out what comes with these changes, which only make, add and bind. `dead` lists the objects that vanish, so
+    /// it is empty. The graph stays as it is.
+    ///
+    /// It sorts the added edges, and copies the names and the made objects. Kept edges are copied only where an added
+    /// one doesn't come behind all of them.
+    pub fn prepare(
+        &self,
+        alloc: Global,
+        changes: &Changes,
+        dead: &OidBuf,
+    ) -> Result<GraphPlan, NoMemory>
+        requires fits { Fits self.now.graph changes.now }
+        requires only_adds { OnlyAdds changes.now }
+        requires none_dead { dead.now ≡ [] }
+        ensures leads { IfOk result (λ plan. LeadsFrom self.now.graph plan) }
+        ensures after { IfOk result (λ plan. IsAfter self.now.graph changes.now (graph_after self.now.graph plan)) }
+        ensures few { IfOk result (λ plan.
+            length (graph_after self.now.graph plan).edges ≤ length self.now.graph.edges + length changes.now.added) }
+    {
+        prove!(dead.is_empty());
+        Ok(GraphPlan {
+            names: self.names.joined(alloc, &changes.named)?,
+            made: copied_objects(alloc, &changes.made)?,
+            edges: plan_edges(alloc, self.edges.as_slice(), changes.added.as_slice())?,
+        })
+    }
+
+    /// Takes the memory that `commit` needs for this plan. The graph stays equal, whatever the answer.
+    pub fn reserve(&mut self, plan: &GraphPlan) -> Result<(), NoMemory>
+        ensures room { OnOk result (HasRoom self.new plan.now) }
+        ensures same { self.new.graph ≡ self.old.graph }
+    {
+        self.objects.reserve(plan.made.len())?;
+        if let EdgePlan::Behind(edges) = &plan.edges {
+            self.edges.reserve(edges.len())?;
+        }
+        Ok(())
+    }
+
+    /// Puts in place what the plan brings. Takes no memory.
+    pub fn commit(&mut self, plan: GraphPlan)
+        requires leads { LeadsFrom self.old.graph plan }
+        requires room { HasRoom self.old plan }
+        requires few { length (graph_after self.old.graph plan).edges < 2 ^ 32 }
+        ensures { self.new.graph ≡ graph_after self.old.graph plan }
+    {
+        let GraphPlan {
+            names,
+            mut made,
+            edges,
+        } = plan;
+        self.names = names;
+        self.next += made.len() as u64;
+        let Ok(()) = self.objects.append(&mut made) else {
+            unreachable!();
+        };
+        match edges {
+            EdgePlan::Behind(more) => {
+                let Ok(()) = self.edges.extend_from_slice(more.as_slice()) else {
+                    unreachable!();
+                };
+            }
+            EdgePlan::Merged(all) => self.edges = all,
+        }
+    }
+}
