@@ -1,11 +1,14 @@
 use Rattle.std.specs.Prelude.{◌≡◌, ℕ, ◌+◌, ◌⊎◌, List, [], ◌∷◌, ◌++◌, length, map, All}
 use Rattle.std.specs.List.{flat_map}
-use Rattle.lore_base.specs.declared.refusals.Refusal.TheVariants.{BadToken, Syntax, Unfinished}
+use Rattle.lore_base.specs.declared.refusals.Refusal.{Refusal}
+use Rattle.lore_base.specs.declared.refusals.Refusal.TheVariants.{BadToken, RealRefused, NumberRange, TextTooLong, Syntax, Unfinished}
 use Rattle.lore_base.specs.Databases.{Database, new_database}
 use Rattle.lorel_lex.specs.declared.token_types.Token.{Token}
 use Rattle.lorel_lex.specs.Scan.{IsChunk, IsScript}
 use Rattle.lorel_lex.specs.Gaps.{IsBlank}
-use Rattle.lorel_lex.specs.Tokens.{AreTokens}
+use Rattle.lorel_lex.specs.declared.token_types.LexFault.{LexFault}
+use Rattle.lorel_lex.specs.declared.token_types.LexFault.TheVariants as lex
+use Rattle.lorel_lex.specs.Tokens.{AreTokens, HasFault}
 use Rattle.lore_run.specs.Trees.{Sentence}
 use Rattle.lore_run.specs.Grammar.{HasTokens}
 use Rattle.lore_run.specs.Statements.{Reply, Changed, Rows, Refused, Executes}
@@ -23,10 +26,21 @@ pub record HasStatements (script : List ℕ) (statements : List Statement) : Typ
   pub cut : IsScript script chunks behind
   pub listed : (IsBlank behind × (statements ≡ map chunk chunks)) ⊎ ((IsBlank behind → ⊥) × (statements ≡ map chunk chunks ++ rest ∷ []))
 
--- a chunk that has no list of tokens is refused
+-- the refusal that a fault of a chunk's text is answered with
+abbrev pub IsRefusedAs : LexFault → Refusal → Type 0
+IsRefusedAs lex.BadToken refusal = refusal ≡ BadToken
+IsRefusedAs lex.RealRefused refusal = refusal ≡ RealRefused
+IsRefusedAs lex.NumberRange refusal = refusal ≡ NumberRange
+IsRefusedAs lex.TextTooLong refusal = refusal ≡ TextTooLong
+IsRefusedAs lex.NoMemory refusal = ⊥
+
+-- a chunk whose text has a fault is refused
 pub record LacksTokens (before : Database) (text : List ℕ) (reply : Reply) (after : Database) : Type 0 where
-  pub none : (tokens : List Token) → AreTokens text tokens → ⊥
-  pub refused : reply ≡ Refused BadToken
+  pub fault : LexFault
+  pub broken : HasFault text fault
+  pub refusal : Refusal
+  pub named : IsRefusedAs fault refusal
+  pub refused : reply ≡ Refused refusal
   pub same : after ≡ before
 
 -- a chunk whose tokens are no statement is refused

@@ -108,9 +108,10 @@ fn answer<L: Ledger>(
     let tokens = match tokens(alloc, text) {
         Ok(tokens) => tokens,
         Err(LexFault::BadToken) => return Ok(Reply::Refused(Refusal::BadToken)),
+        Err(LexFault::RealRefused) => return Ok(Reply::Refused(Refusal::RealRefused)),
+        Err(LexFault::NumberRange) => return Ok(Reply::Refused(Refusal::NumberRange)),
+        Err(LexFault::TextTooLong) => return Ok(Reply::Refused(Refusal::TextTooLong)),
         Err(LexFault::NoMemory) => return Err(NoMemory),
-        Err(LexFault::RealRefused | LexFault::NumberRange | LexFault::TextTooLong) =>
-            unreachable!(),
     };
     match parse(alloc, &tokens) {
         Ok(statement) => session.execute(alloc, &statement, steps),

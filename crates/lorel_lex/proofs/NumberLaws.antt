@@ -1,6 +1,6 @@
--- The number at the front of bytes that begin with a digit or a minus.
-use Rattle.std.proofs.Common.{◌≡◌, ℕ, ◌+◌, ◌-◌, ◌*◌, ◌<◌, ◌≤◌, true, false, List, [], ◌∷◌, ◌++◌, length, get_or, take, drop, suc, zero, to_z, of_z, refl, sym, ap, ◌∙◌, subst, inl, inr, arith, add-one, leb, eqb-true}
-use Rattle.std.specs.Prelude.{ℤ, pos, neg_ℤ, FitsSigned, ◌||◌, ◌==◌}
+-- The number or the local at the front.
+use Rattle.std.proofs.Common.{◌≡◌, ℕ, ◌+◌, ◌-◌, ◌*◌, ◌<◌, ◌≤◌, true, false, Bool, List, [], ◌∷◌, ◌++◌, length, get_or, take, drop, to_z, of_z, refl, sym, ap, ◌∙◌, subst, inl, inr, arith, add-one, leb}
+use Rattle.std.specs.Prelude.{ℤ, pos, neg_ℤ, FitsSigned}
 use Rattle.std.specs.List.{list_all}
 use Rattle.std.specs.Int.{IsInRange, w64}
 use Rattle.std.proofs.lemmas.Int.{to_z-of_z}
@@ -9,15 +9,18 @@ use Rattle.std.specs.Str.Parse.{AllDigits, IsNumeral, digits_value}
 use Rattle.std.proofs.lemmas.Str.{digit_value_digit}
 use Rattle.std.proofs.lemmas.Str.Parse.{digit_from_value, digits_value-take-le}
 use Rattle.std.proofs.lemmas.Int.Digits.{digits_value_more}
-use Rattle.std.proofs.lemmas.Bool.{and_parts, and_from, leb-true, le-leb, or_cases}
+use Rattle.std.proofs.lemmas.Bool.{and_parts, and_from, leb-true, le-leb}
 use Rattle.std.proofs.lemmas.List.{length-take-le, take_rest}
-use Rattle.lore_base.specs.Names.{is_word_start}
 use Rattle.lorel_lex.specs.declared.token_types.Kind.{Kind}
-use Rattle.lorel_lex.specs.declared.token_types.Kind.TheVariants.{Number}
-use Rattle.lorel_lex.specs.declared.byte_class.ByteClass.TheVariants.{Digit, Other}
-use Rattle.lorel_lex.specs.Tokens.{IsNumber, StandsFor}
-use Rattle.lorel_lex.specs.Lexing.{class_of, EndsRun, IsShape, BeginsNone}
-use Rattle.lorel_lex.proofs.ShapeLaws.{digit_from, digit_kind, front_class, IsLongest-of, run_most}
+use Rattle.lorel_lex.specs.declared.token_types.Kind.TheVariants.{Number, Local}
+use Rattle.lorel_lex.specs.declared.byte_class.ByteClass.TheVariants.{Digit, Minus, Ampersand, Other}
+use Rattle.lorel_lex.specs.Shapes.{IsNumber, begins, IsToken}
+use Rattle.lorel_lex.specs.Tokens.{begins_fraction, BeginsNone}
+use Rattle.lorel_lex.specs.Lexing.{class_of, EndsRun, BeginsSymbol, IsShape}
+use Rattle.lorel_lex.proofs.RunLaws.{run_most, run_some}
+use Rattle.lorel_lex.proofs.SymbolLaws.{sign_short}
+use Rattle.lorel_lex.proofs.ClassLaws.{admitted, class_says, digit_kind, minus_kind, local_kind}
+use Rattle.lorel_lex.proofs.FaultLaws.{shape}
 
 digit_range : (byte : ℕ) → is_ascii_digit byte ≡ true → IsInRange 48 57 byte
 digit_range byte e =
@@ -32,49 +35,46 @@ AllDigits-from_run (byte ∷ bytes) e =
     let value = digit_value_digit byte range in
     (omega arith, AllDigits-from_run bytes both.1)
 
+pub digit_passes : (byte : ℕ) → digit_value byte < 10 → is_ascii_digit byte ≡ true
+digit_passes byte d =
+    let range = digit_from_value byte d in
+    and_from (leb 48 byte) (leb byte 57) (le-leb 48 byte (omega arith)) (le-leb byte 57 (omega arith))
+
 run_from_AllDigits : (bytes : List ℕ) → AllDigits 10 bytes → list_all is_ascii_digit bytes ≡ true
 run_from_AllDigits [] d = refl
-run_from_AllDigits (byte ∷ bytes) d =
-    let range = digit_from_value byte d.0 in
-    and_from (is_ascii_digit byte) (list_all is_ascii_digit bytes)
-    (and_from (leb 48 byte) (leb byte 57) (le-leb 48 byte (omega arith)) (le-leb byte 57 (omega arith))) (run_from_AllDigits bytes d.1)
+run_from_AllDigits (byte ∷ bytes) d = and_from (is_ascii_digit byte) (list_all is_ascii_digit bytes) (digit_passes byte d.0) (run_from_AllDigits bytes d.1)
 
--- a number at the front
-front_number : (bytes front back : List ℕ) (kind : Kind) → class_of (get_or bytes 0 0) ≡ Digit → bytes ≡ front ++ back → StandsFor front kind → (number : ℤ) × IsNumber front number
-front_number bytes front back kind class parts s =
-    let (number, n, is) = digit_kind front kind s (sym (front_class bytes front back kind parts s) ∙ class) in (number, n)
+numeral : (bytes : List ℕ) (len : ℕ) → EndsRun is_ascii_digit bytes len → 0 < len → IsNumeral 10 (take len bytes)
+numeral bytes len run some = let size : length (take len bytes) ≡ len = length-take-le len bytes run.within in (omega arith, AllDigits-from_run (take len bytes) run.passed)
 
-some_digit : (bytes : List ℕ) (len : ℕ) → EndsRun is_ascii_digit bytes len → class_of (get_or bytes 0 0) ≡ Digit → (get_or bytes 0 0 ≡ 45 → ⊥) → 0 < len
-some_digit [] len run class plain = absurd (let other : class_of 0 ≡ Other = refl in let same : Digit ≡ Other = sym class ∙ other in cc)
-some_digit (byte ∷ bytes) zero run class plain = absurd (
-    elim (or_cases (byte == 45) (is_ascii_digit byte) (digit_from (is_word_start byte) ((byte == 45) || is_ascii_digit byte) (byte == 34) class)) [
-      | inl minus ↦ plain (eqb-true byte 45 minus)
-      | inr digit ↦ let stops : is_ascii_digit byte ≡ false = run.stops (omega arith) in let no : true ≡ false = sym digit ∙ stops in cc
-    ])
-some_digit (byte ∷ bytes) (suc n) run class plain = omega arith
+-- digits at the front are no more than the run
+digits_most : (bytes digits back : List ℕ) (len : ℕ) → EndsRun is_ascii_digit bytes len → bytes ≡ digits ++ back → IsNumeral 10 digits → length digits ≤ len
+digits_most bytes digits back len run e n = run_most is_ascii_digit bytes digits back len run e (run_from_AllDigits digits n.1)
+
+-- a digit is no minus
+pub digit_first : (bytes : List ℕ) → class_of (get_or bytes 0 0) ≡ Digit → (0 < length bytes) × (is_ascii_digit (get_or bytes 0 0) ≡ true)
+digit_first [] e = absurd (let other : class_of 0 ≡ Other = refl in let same : Digit ≡ Other = sym e ∙ other in cc)
+digit_first (byte ∷ bytes) e = (omega arith, class_says byte Digit e)
+
+pub no_minus : (byte : ℕ) → is_ascii_digit byte ≡ true → byte ≡ 45 → ⊥
+no_minus byte e is = let range = digit_range byte e in omega arith
 
 unsigned_most : (bytes front back : List ℕ) (number : ℤ) (len : ℕ) → EndsRun is_ascii_digit bytes len → (get_or bytes 0 0 ≡ 45 → ⊥) → bytes ≡ front ++ back → IsNumber front number
     → length front ≤ len
 unsigned_most bytes front back number len run plain parts (digits, n, inl (e, v)) =
-    run_most is_ascii_digit bytes front back len run parts (subst (λ (l : List ℕ). list_all is_ascii_digit l ≡ true) (sym e) (run_from_AllDigits digits n.1))
+    let most = digits_most bytes digits back len run (parts ∙ ap (λ (l : List ℕ). l ++ back) e) n in omega (arith, ap length e)
 unsigned_most bytes front back number len run plain parts (digits, n, inr (e, v)) =
     absurd (plain (ap (λ (l : List ℕ). get_or l 0 0) (parts ∙ ap (λ (l : List ℕ). l ++ back) e)))
 
 -- digits with no minus before them
-pub unsigned_shape : (bytes : List ℕ) (number : ℤ) (len : ℕ) → EndsRun is_ascii_digit bytes len → class_of (get_or bytes 0 0) ≡ Digit → (get_or bytes 0 0 ≡ 45 → ⊥)
+pub unsigned_shape : (bytes : List ℕ) (number : ℤ) (len : ℕ) → EndsRun is_ascii_digit bytes len → class_of (get_or bytes 0 0) ≡ Digit
     → number ≡ pos (digits_value 10 (take len bytes)) → IsShape bytes (Number number) len
-unsigned_shape bytes number len run class plain value =
-    let size : length (take len bytes) ≡ len = length-take-le len bytes run.within in
-    let some = some_digit bytes len run class plain in
-    record {
-      within = run.within;
-      stands_for = (take len bytes, (omega arith, AllDigits-from_run (take len bytes) run.passed), inl (refl, value));
-      longest = IsLongest-of bytes len run.within (λ front back kind parts s.
-          let (number', n) = front_number bytes front back kind class parts s in unsigned_most bytes front back number' len run plain parts n);
-    }
-
-minus_class : (bytes rest : List ℕ) → bytes ≡ 45 ∷ rest → class_of (get_or bytes 0 0) ≡ Digit
-minus_class bytes rest e = ap (λ (l : List ℕ). class_of (get_or l 0 0)) e
+unsigned_shape bytes number len run class value =
+    let (some, digit) = digit_first bytes class in
+    let more = run_some is_ascii_digit bytes len run some digit in
+    shape bytes (Number number) len run.within (take len bytes, numeral bytes len run more, inl (refl, value)) (λ front back kind parts s.
+    let (number', n, is) = digit_kind front back kind s (admitted bytes front back kind Digit class parts s) in
+    unsigned_most bytes front back number' len run (no_minus (get_or bytes 0 0) digit) parts n)
 
 -- a number behind a minus
 signed_front : (bytes rest front back : List ℕ) (number : ℤ) → bytes ≡ 45 ∷ rest → bytes ≡ front ++ back → IsNumber front number
@@ -83,36 +83,77 @@ signed_front bytes rest front back number e parts ([], n, inl (f, v)) = absurd (
 signed_front bytes rest front back number e parts (digit ∷ digits, n, inl (f, v)) = absurd (
     let both : 45 ∷ rest ≡ (digit ∷ digits) ++ back = sym e ∙ parts ∙ ap (λ (l : List ℕ). l ++ back) f in
     let minus : digit ≡ 45 = cc in
-    let range = digit_from_value digit n.1.0 in
-    omega arith)
+    no_minus digit (digit_passes digit n.1.0) minus)
 signed_front bytes rest front back number e parts (digits, n, inr (f, v)) =
     let both : 45 ∷ rest ≡ (45 ∷ digits) ++ back = sym e ∙ parts ∙ ap (λ (l : List ℕ). l ++ back) f in
     (digits, n, f, (cc))
+
+minus_class : (bytes rest : List ℕ) → bytes ≡ 45 ∷ rest → class_of (get_or bytes 0 0) ≡ Minus
+minus_class bytes rest e = ap (λ (l : List ℕ). class_of (get_or l 0 0)) e
 
 -- digits behind a minus
 pub signed_shape : (bytes rest digits : List ℕ) (number : ℤ) (len : ℕ) → bytes ≡ 45 ∷ rest → EndsRun is_ascii_digit rest len → 0 < len → digits ≡ take len rest
     → number ≡ neg_ℤ (pos (digits_value 10 digits)) → IsShape bytes (Number number) (len + 1)
 signed_shape bytes rest digits number len minus run some same value =
-    let size : length (take len rest) ≡ len = length-take-le len rest run.within in
     let within : len + 1 ≤ length bytes = omega (arith, ap length minus, run.within) in
-    let shape : take (len + 1) bytes ≡ 45 ∷ digits = ap (take (len + 1)) minus ∙ ap (λ (n : ℕ). take n (45 ∷ rest)) (add-one len) ∙ ap (λ (l : List ℕ). 45 ∷ l) (sym same) in
-    let numeral : IsNumeral 10 (take len rest) = (omega arith, AllDigits-from_run (take len rest) run.passed) in
-    record {
-      within = within;
-      stands_for = (digits, subst (IsNumeral 10) (sym same) numeral, inr (shape, value));
-      longest = IsLongest-of bytes (len + 1) within (λ front back kind parts s.
-          let (number', n) = front_number bytes front back kind (minus_class bytes rest minus) parts s in
+    let text : take (len + 1) bytes ≡ 45 ∷ digits = ap (take (len + 1)) minus ∙ ap (λ (n : ℕ). take n (45 ∷ rest)) (add-one len) ∙ ap (λ (l : List ℕ). 45 ∷ l) (sym same) in
+    shape bytes (Number number) (len + 1) within (digits, subst (IsNumeral 10) (sym same) (numeral rest len run some), inr (text, value)) (λ front back kind parts s.
+    elim (minus_kind front back kind s (admitted bytes front back kind Minus (minus_class bytes rest minus) parts s)) [
+      | inl (number', n, is) ↦
           let (others, m, f, rests) = signed_front bytes rest front back number' minus parts n in
-          let most = run_most is_ascii_digit rest others back len run rests (run_from_AllDigits others m.1) in
-          omega (arith, ap length f, most));
-    }
+          let most = digits_most rest others back len run rests m in
+          omega (arith, ap length f)
+      | inr (sign, is, _) ↦ omega (arith, ap length is, sign_short sign)
+    ])
 
--- a minus with no digit behind it begins no token
-pub none_minus : (bytes rest : List ℕ) (len : ℕ) → bytes ≡ 45 ∷ rest → EndsRun is_ascii_digit rest len → len ≡ 0 → BeginsNone bytes
-none_minus bytes rest len minus run none text back kind parts s w l =
-    let (number, n) = front_number bytes text back kind (minus_class bytes rest minus) parts s in
-    let (others, m, f, rests) = signed_front bytes rest text back number minus parts n in
-    let most = run_most is_ascii_digit rest others back len run rests (run_from_AllDigits others m.1) in
+-- a minus with no digit behind it begins no number
+no_number : (bytes rest front back : List ℕ) (number : ℤ) → bytes ≡ 45 ∷ rest → begins is_ascii_digit rest ≡ false → bytes ≡ front ++ back → IsNumber front number → ⊥
+no_number bytes rest front back number minus plain parts n = head (signed_front bytes rest front back number minus parts n) where
+  head : (digits : List ℕ) × IsNumeral 10 digits × (front ≡ 45 ∷ digits) × (rest ≡ digits ++ back) → ⊥
+  head ([], m, f, rests) = omega (arith, m.0)
+  head (digit ∷ digits, m, f, rests) =
+      let passes : begins is_ascii_digit rest ≡ true = ap (begins is_ascii_digit) rests ∙ digit_passes digit m.1.0 in cc
+
+-- a known byte at the front, and the rest
+pub rest_is : (byte : ℕ) (bytes : List ℕ) → 0 < length bytes → get_or bytes 0 0 ≡ byte → bytes ≡ byte ∷ drop 1 bytes
+rest_is byte [] some e = absurd (omega arith)
+rest_is byte (first ∷ bytes) some e = ap (λ (b : ℕ). b ∷ bytes) e
+
+pub minus_symbol : (bytes : List ℕ) → 0 < length bytes → get_or bytes 0 0 ≡ 45 → begins is_ascii_digit (drop 1 bytes) ≡ false → BeginsSymbol bytes
+minus_symbol bytes some e plain front back kind parts s =
+    let minus = rest_is 45 bytes some e in
+    elim (minus_kind front back kind s (admitted bytes front back kind Minus (minus_class bytes (drop 1 bytes) minus) parts s)) [
+      | inl (number, n, is) ↦ absurd (no_number bytes (drop 1 bytes) front back number minus plain parts n)
+      | inr (sign, f, is) ↦ (sign, is)
+    ]
+
+-- locals
+
+local_class : (bytes rest : List ℕ) → bytes ≡ 38 ∷ rest → class_of (get_or bytes 0 0) ≡ Ampersand
+local_class bytes rest e = ap (λ (l : List ℕ). class_of (get_or l 0 0)) e
+
+local_front : (bytes rest front back : List ℕ) (kind : Kind) → bytes ≡ 38 ∷ rest → bytes ≡ front ++ back → IsToken front back kind
+    → (digits : List ℕ) × IsNumeral 10 digits × (front ≡ 38 ∷ digits) × (rest ≡ digits ++ back)
+local_front bytes rest front back kind e parts s =
+    let (local, (digits, n, f, v), is) = local_kind front back kind s (admitted bytes front back kind Ampersand (local_class bytes rest e) parts s) in
+    let both : 38 ∷ rest ≡ (38 ∷ digits) ++ back = sym e ∙ parts ∙ ap (λ (l : List ℕ). l ++ back) f in
+    (digits, n, f, (cc))
+
+pub local_shape : (bytes rest digits : List ℕ) (local len : ℕ) → bytes ≡ 38 ∷ rest → EndsRun is_ascii_digit rest len → 0 < len → digits ≡ take len rest
+    → local ≡ digits_value 10 digits → IsShape bytes (Local local) (len + 1)
+local_shape bytes rest digits local len e run some same value =
+    let within : len + 1 ≤ length bytes = omega (arith, ap length e, run.within) in
+    let text : take (len + 1) bytes ≡ 38 ∷ digits = ap (take (len + 1)) e ∙ ap (λ (n : ℕ). take n (38 ∷ rest)) (add-one len) ∙ ap (λ (l : List ℕ). 38 ∷ l) (sym same) in
+    shape bytes (Local local) (len + 1) within (digits, subst (IsNumeral 10) (sym same) (numeral rest len run some), text, value) (λ front back kind parts s.
+    let (others, m, f, rests) = local_front bytes rest front back kind e parts s in
+    let most = digits_most rest others back len run rests m in
+    omega (arith, ap length f))
+
+-- a `&` with no digit behind it begins no token
+pub no_local : (bytes rest : List ℕ) (len : ℕ) → bytes ≡ 38 ∷ rest → EndsRun is_ascii_digit rest len → len ≡ 0 → BeginsNone bytes
+no_local bytes rest len e run none front back kind parts s =
+    let (others, m, f, rests) = local_front bytes rest front back kind e parts s in
+    let most = digits_most rest others back len run rests m in
     omega (arith, m.0)
 
 -- one digit more
@@ -130,9 +171,22 @@ read_back number value fits e =
     let back : to_z w64 (of_z w64 number) ≡ number = to_z-of_z w64 number fits' in
     (back ∙ e, subst (FitsSigned w64) (sym back) fits')
 
-pub behind_minus : (bytes : List ℕ) → get_or bytes 0 0 ≡ 45 → bytes ≡ 45 ∷ take (length bytes - 1) (drop 1 bytes)
-behind_minus [] e = absurd (omega arith)
-behind_minus (byte ∷ bytes) e = ap (λ (b : ℕ). b ∷ bytes) e ∙ ap (λ (l : List ℕ). 45 ∷ l) (sym (take_rest (byte ∷ bytes) 1))
+pub behind : (byte : ℕ) (bytes : List ℕ) → 0 < length bytes → get_or bytes 0 0 ≡ byte → bytes ≡ byte ∷ take (length bytes - 1) (drop 1 bytes)
+behind byte bytes some e = rest_is byte bytes some e ∙ ap (λ (l : List ℕ). byte ∷ l) (sym (take_rest bytes 1))
 
-pub digits_between : (bytes : List ℕ) (len : ℕ) → take (len + 1 - 1) (drop 1 bytes) ≡ take len (take (length bytes - 1) (drop 1 bytes))
-digits_between bytes len = let count : len + 1 - 1 ≡ len = omega arith in ap (λ (n : ℕ). take n (drop 1 bytes)) count ∙ ap (take len) (sym (take_rest bytes 1))
+pub between : (bytes : List ℕ) (len : ℕ) → take (len + 1 - 1) (drop 1 bytes) ≡ take len (take (length bytes - 1) (drop 1 bytes))
+between bytes len = let count : len + 1 - 1 ≡ len = omega arith in ap (λ (n : ℕ). take n (drop 1 bytes)) count ∙ ap (take len) (sym (take_rest bytes 1))
+
+pub fraction_is : (bytes : List ℕ) (len : ℕ) (found is : Bool) → found ≡ begins_fraction (take (length bytes - len) (drop len bytes)) → found ≡ is → begins_fraction (drop len bytes) ≡ is
+fraction_is bytes len found is e f = ap begins_fraction (sym (take_rest bytes len)) ∙ sym e ∙ f
+
+-- a digit behind the first byte
+pub second_some : (byte : ℕ) (bytes rest : List ℕ) (len : ℕ) → bytes ≡ byte ∷ rest → begins is_ascii_digit (drop 1 bytes) ≡ true → EndsRun is_ascii_digit rest len → 0 < len
+second_some byte bytes rest len e digit run = first rest (ap (λ (l : List ℕ). begins is_ascii_digit (drop 1 l)) (sym e) ∙ digit) run where
+  first : (l : List ℕ) → begins is_ascii_digit l ≡ true → EndsRun is_ascii_digit l len → 0 < len
+  first [] f r = absurd (cc)
+  first (b ∷ l) f r = run_some is_ascii_digit (b ∷ l) len r (omega arith) f
+
+pub byte_behind : (byte : ℕ) (bytes : List ℕ) → 0 < byte → get_or bytes 0 0 ≡ byte → bytes ≡ byte ∷ take (length bytes - 1) (drop 1 bytes)
+byte_behind byte [] some e = absurd (omega arith)
+byte_behind byte (first ∷ bytes) some e = behind byte (first ∷ bytes) (omega arith) e

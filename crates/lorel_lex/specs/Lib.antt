@@ -5,5 +5,6 @@ pub mod Skipping
 pub mod Progress
 pub mod Reader
 pub mod Chunks
+pub mod Shapes
 pub mod Tokens
 pub mod Lexing

@@ -1,90 +1,99 @@
-use Rattle.std.specs.Prelude.{◌≡◌, ◌≢◌, ℕ, ◌+◌, ◌≤◌, ◌⊎◌, false, if◌then◌else◌, ◌==◌, List, [], ◌∷◌, ◌++◌, length, codes, Option, Some, None, ℤ, pos, neg_ℤ, FitsSigned, IsUtf8}
+use Rattle.std.specs.Prelude.{◌≡◌, ℕ, ◌+◌, ◌<◌, ◌≤◌, ◌^◌, ◌⊎◌, Bool, false, ◌&&◌, ◌==◌, List, [], ◌∷◌, ◌++◌, length, Result, Ok, Err, FitsSigned, IsUtf8}
 use Rattle.std.specs.Int.{w64}
-use Rattle.std.specs.Str.Parse.{IsNumeral, digits_value}
+use Rattle.std.specs.Char.{is_ascii_digit}
 use Rattle.lore_base.specs.Names.{IsIdentifier}
 use Rattle.lore_base.specs.declared.limits.TheConstants.{WORD_BYTES, TEXT_BYTES}
 use Rattle.lorel_lex.specs.declared.token_types.Token.{Token}
 use Rattle.lorel_lex.specs.declared.token_types.Kind.{Kind}
-use Rattle.lorel_lex.specs.declared.token_types.Kind.TheVariants.{Word, Number, Chars, Symbol}
-use Rattle.lorel_lex.specs.declared.token_types.Sign.{Sign}
-use Rattle.lorel_lex.specs.declared.token_types.Sign.TheVariants.{LeftBrace, RightBrace, Comma, Dot, Assign}
+use Rattle.lorel_lex.specs.declared.token_types.Kind.TheVariants.{Word, Wild, PathOf, Number, Local, Chars, Quoted, Symbol}
+use Rattle.lorel_lex.specs.declared.token_types.LexFault.{LexFault}
+use Rattle.lorel_lex.specs.declared.token_types.LexFault.TheVariants.{BadToken, RealRefused, NumberRange, TextTooLong, NoMemory}
 use Rattle.lorel_lex.specs.Gaps.{IsGap, IsBlank, begins_gap}
+use Rattle.lorel_lex.specs.Shapes.{IsPattern, begins, IsToken}
 
--- one decimal digit or more, perhaps behind a minus, and the whole number that they write
-abbrev pub IsNumber : List ℕ → ℤ → Type 0
-IsNumber text number = (digits : List ℕ) × IsNumeral 10 digits ×
-    (((text ≡ digits) × (number ≡ pos (digits_value 10 digits)))
-    ⊎ ((text ≡ 45 ∷ digits) × (number ≡ neg_ℤ (pos (digits_value 10 digits)))))
-
--- the byte that a letter behind a backslash stands for: `\"`, `\\`, `\n`, `\r`, `\t`
-abbrev pub escape_of : ℕ → Option ℕ
-escape_of letter =
-    if letter == 34 then Some 34
-    else (if letter == 92 then Some 92
-    else (if letter == 110 then Some 10
-    else (if letter == 114 then Some 13
-    else (if letter == 116 then Some 9
-    else None))))
-
--- the bytes between the quotes of a text, and the bytes that they stand for: an escape stands for its byte, any other byte but
--- a quote for itself
-abbrev mutual
-  pub IsContents : List ℕ → List ℕ → Type 0
-  IsContents [] text = text ≡ []
-  IsContents (byte ∷ raw) text =
-      ((byte ≡ 92) × IsEscaped raw text)
-      ⊎ ((byte ≢ 34) × (byte ≢ 92) × (rest : List ℕ) × (text ≡ byte ∷ rest) × IsContents raw rest)
-
-  pub IsEscaped : List ℕ → List ℕ → Type 0
-  IsEscaped [] text = ⊥
-  IsEscaped (letter ∷ raw) text =
-      (byte : ℕ) × (rest : List ℕ) × (escape_of letter ≡ Some byte) × (text ≡ byte ∷ rest) × IsContents raw rest
-
--- a quote, contents and a quote
-abbrev pub IsText : List ℕ → List ℕ → Type 0
-IsText text contents = (raw : List ℕ) × (text ≡ 34 ∷ (raw ++ 34 ∷ [])) × IsContents raw contents
-
--- the symbols that are tokens
-abbrev pub IsSymbol : List ℕ → Sign → Type 0
-IsSymbol text LeftBrace = text ≡ codes "{"
-IsSymbol text RightBrace = text ≡ codes "}"
-IsSymbol text Comma = text ≡ codes ","
-IsSymbol text Dot = text ≡ codes "."
-IsSymbol text Assign = text ≡ codes ":="
-IsSymbol text _ = ⊥
-
--- these bytes have the shape of a token, and this is what they stand for
-abbrev pub StandsFor : List ℕ → Kind → Type 0
-StandsFor text (Word word) = IsIdentifier text × (word ≡ text)
-StandsFor text (Number number) = IsNumber text number
-StandsFor text (Chars contents) = IsText text contents
-StandsFor text (Symbol sign) = IsSymbol text sign
-StandsFor text _ = ⊥
-
--- an identifier has at most 255 bytes, a text at most 4,096 behind its escapes, and a number is one of 64 bits
-abbrev pub IsWithinLimits : Kind → Type 0
-IsWithinLimits (Word word) = length word ≤ WORD_BYTES
-IsWithinLimits (Number number) = FitsSigned w64 number
-IsWithinLimits (Chars contents) = length contents ≤ TEXT_BYTES
-IsWithinLimits _ = Unit {0}
-
--- of all that stands at the front here, nothing longer has the shape of a token
+-- of all fronts of these bytes, none longer than the text is a token
 abbrev pub IsLongest : List ℕ → List ℕ → Type 0
-IsLongest text rest = (front back : List ℕ) (kind : Kind) → text ++ rest ≡ front ++ back → StandsFor front kind →
-    length front ≤ length text
+IsLongest text rest = (front back : List ℕ) (kind : Kind) → text ++ rest ≡ front ++ back → IsToken front back kind → length front ≤ length text
 
--- the first token of the bytes from a place on: blank bytes and comments before it are dropped, and behind it stands the rest
+-- the longest token that starts a list of bytes, what it stands for, and the rest behind it
+pub record IsFirst (bytes : List ℕ) (kind : Kind) (rest : List ℕ) : Type 0 where
+  pub text : List ℕ
+  pub parts : bytes ≡ text ++ rest
+  pub token : IsToken text rest kind
+  pub longest : IsLongest text rest
+
+-- a `.` and a digit
+abbrev pub begins_fraction : List ℕ → Bool
+begins_fraction [] = false
+begins_fraction (byte ∷ bytes) = (byte == 46) && begins is_ascii_digit bytes
+
+-- no fraction follows a number
+abbrev pub IsWhole : Kind → List ℕ → Type 0
+IsWhole (Number number) rest = begins_fraction rest ≡ false
+IsWhole _ rest = Unit {0}
+
+-- a number is one of 64 bits with a sign, a local one of 32 bits without
+abbrev pub IsInRange : Kind → Type 0
+IsInRange (Number number) = FitsSigned w64 number
+IsInRange (Local local) = local < 2 ^ 32
+IsInRange _ = Unit {0}
+
+-- identifiers, patterns and labels have at most 255 bytes, texts at most 4,096, both behind their escapes
+abbrev pub IsShort : Kind → Type 0
+IsShort (Word word) = length word ≤ WORD_BYTES
+IsShort (Wild pattern) = length pattern ≤ WORD_BYTES
+IsShort (Chars contents) = length contents ≤ TEXT_BYTES
+IsShort (Quoted label) = length label ≤ WORD_BYTES
+IsShort _ = Unit {0}
+
+-- what a token keeps where it hasn't this fault
+abbrev pub Keeps : LexFault → Kind → List ℕ → Type 0
+Keeps BadToken kind rest = Unit {0}
+Keeps RealRefused kind rest = IsWhole kind rest
+Keeps NumberRange kind rest = IsInRange kind
+Keeps TextTooLong kind rest = IsShort kind
+Keeps NoMemory kind rest = Unit {0}
+
+-- of two faults at one place that with the smaller number counts
+abbrev pub fault_number : LexFault → ℕ
+fault_number BadToken = 1
+fault_number RealRefused = 2
+fault_number NumberRange = 3
+fault_number TextTooLong = 4
+fault_number NoMemory = 5
+
+-- no front of the bytes is a token
+abbrev pub BeginsNone : List ℕ → Type 0
+BeginsNone bytes = (text rest : List ℕ) (kind : Kind) → bytes ≡ text ++ rest → IsToken text rest kind → ⊥
+
+-- the longest token that starts the bytes has this fault, and none with a smaller number
+pub record Breaks (fault : LexFault) (bytes : List ℕ) : Type 0 where
+  pub kind : Kind
+  pub rest : List ℕ
+  pub first : IsFirst bytes kind rest
+  pub broken : Keeps fault kind rest → ⊥
+  pub least : (other : LexFault) → fault_number other < fault_number fault → Keeps other kind rest
+
+-- the fault at the place where these bytes stand
+abbrev pub IsFaultAt : LexFault → List ℕ → Type 0
+IsFaultAt fault bytes = ((fault ≡ BadToken) × BeginsNone bytes) ⊎ Breaks fault bytes
+
+-- a place where a token has to start: blank bytes and comments before it are dropped
+pub record IsPlace (bytes gap place : List ℕ) : Type 0 where
+  pub parts : bytes ≡ gap ++ place
+  pub dropped : IsGap gap
+  pub outside : begins_gap place ≡ false
+  pub some : 0 < length place
+
+-- the first token of the bytes from a place on, which has no fault, and the rest behind it
 pub record IsNext (at : ℕ) (bytes : List ℕ) (token : Token) (rest : List ℕ) : Type 0 where
   pub gap : List ℕ
-  pub text : List ℕ
-  pub parts : bytes ≡ gap ++ (text ++ rest)
-  pub dropped : IsGap gap
-  pub outside : begins_gap (text ++ rest) ≡ false
-  pub stands_for : StandsFor text token.kind
-  pub limits : IsWithinLimits token.kind
-  pub longest : IsLongest text rest
+  pub place : List ℕ
+  pub stands : IsPlace bytes gap place
+  pub first : IsFirst place token.kind rest
+  pub kept : (fault : LexFault) → Keeps fault token.kind rest
   pub starts : token.start ≡ at + length gap
-  pub ends : token.end ≡ at + length gap + length text
+  pub ends : token.end ≡ token.start + length first.text
 
 -- the bytes from a place on have these tokens, and else only blank bytes and comments
 abbrev pub AreTokensFrom : ℕ → List ℕ → List Token → Type 0
@@ -96,19 +105,35 @@ pub record AreTokens (chunk : List ℕ) (tokens : List Token) : Type 0 where
   pub utf8 : IsUtf8 chunk
   pub all : AreTokensFrom 0 chunk tokens
 
--- no chunk has two lists of tokens
-abbrev pub HasOneTokenList : Type 0
-HasOneTokenList = (chunk : List ℕ) (tokens others : List Token) → AreTokens chunk tokens → AreTokens chunk others →
-    tokens ≡ others
+-- the bytes from a place on have these tokens without a fault, and the next place has this fault
+abbrev pub IsFaultBehind : ℕ → List ℕ → List Token → LexFault → Type 0
+IsFaultBehind at bytes [] fault = (gap place : List ℕ) × IsPlace bytes gap place × IsFaultAt fault place
+IsFaultBehind at bytes (token ∷ tokens) fault = (rest : List ℕ) × IsNext at bytes token rest × IsFaultBehind token.end rest tokens fault
 
--- the form that a token has
+-- the fault of a chunk: BadToken where it isn't UTF-8, else the fault at the first place that has one
+abbrev pub HasFault : List ℕ → LexFault → Type 0
+HasFault chunk fault = ((fault ≡ BadToken) × (IsUtf8 chunk → ⊥)) ⊎ (IsUtf8 chunk × (tokens : List Token) × IsFaultBehind 0 chunk tokens fault)
+
+-- the outcome of a chunk: its tokens or its fault
+abbrev pub IsOutcome : List ℕ → Result (List Token) LexFault → Type 0
+IsOutcome chunk (Ok tokens) = AreTokens chunk tokens
+IsOutcome chunk (Err fault) = HasFault chunk fault
+
+-- no chunk has two outcomes: it has one list of tokens or one fault, and not both
+abbrev pub HasOneOutcome : Type 0
+HasOneOutcome = (chunk : List ℕ) (outcome other : Result (List Token) LexFault) → IsOutcome chunk outcome → IsOutcome chunk other → outcome ≡ other
+
+-- each chunk has a list of tokens or a fault
+abbrev pub HasSomeOutcome : Type 0
+HasSomeOutcome = (chunk : List ℕ) → (outcome : Result (List Token) LexFault) × IsOutcome chunk outcome
+
+-- the form that a token has, within its limits
 abbrev pub HasForm : Kind → Type 0
 HasForm (Word word) = IsIdentifier word × (length word ≤ WORD_BYTES)
+HasForm (Wild pattern) = IsPattern pattern × (length pattern ≤ WORD_BYTES)
+HasForm PathOf = Unit {0}
 HasForm (Number number) = FitsSigned w64 number
+HasForm (Local local) = local < 2 ^ 32
 HasForm (Chars contents) = length contents ≤ TEXT_BYTES
-HasForm (Symbol LeftBrace) = Unit {0}
-HasForm (Symbol RightBrace) = Unit {0}
-HasForm (Symbol Comma) = Unit {0}
-HasForm (Symbol Dot) = Unit {0}
-HasForm (Symbol Assign) = Unit {0}
-HasForm _ = ⊥
+HasForm (Quoted label) = (1 ≤ length label) × (length label ≤ WORD_BYTES)
+HasForm (Symbol sign) = Unit {0}

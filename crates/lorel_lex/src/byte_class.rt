@@ -1,43 +1,53 @@
 ghost use Rattle.std.specs.Prelude.{◌≡◌};
-ghost use Rattle.lore_base.specs.Names.{is_word_start, is_word_byte};
+ghost use Rattle.lorel_lex.specs.Shapes.{is_pattern_start, is_pattern_byte};
 ghost use Rattle.lorel_lex.specs.Lexing as spec;
 
 /// Which tokens a byte may begin.
 #[derive(Clone, Copy)]
 pub enum ByteClass {
-    /// A letter or an underscore: an identifier.
+    /// A letter, an underscore or a `%`: an identifier, a pattern or `path-of`.
     Letter,
-    /// A digit or a minus: a number.
+    /// A digit: a number.
     Digit,
+    /// A minus: a number or a symbol.
+    Minus,
+    /// A `&`: a local.
+    Ampersand,
     /// A double quote: a text.
-    Quote,
+    DoubleQuote,
+    /// A single quote: a quoted label.
+    SingleQuote,
     /// Any other byte: a symbol, or nothing.
     Other,
 }
 
-fn is_word_start(byte: u8) -> bool
-    ensures { result ≡ is_word_start byte }
+fn is_pattern_start(byte: u8) -> bool
+    ensures { result ≡ is_pattern_start byte }
 {
-    byte.is_ascii_alphabetic() || byte == b'_'
+    byte.is_ascii_alphabetic() || byte == b'_' || byte == b'%'
 }
 
-/// Whether the byte may stand in an identifier behind its first.
-pub(crate) fn is_word_byte(byte: u8) -> bool
-    ensures { result ≡ is_word_byte byte }
+/// Whether the byte may stand in a pattern behind its first.
+pub(crate) fn is_pattern_byte(byte: u8) -> bool
+    ensures { result ≡ is_pattern_byte byte }
 {
-    is_word_start(byte) || byte.is_ascii_digit()
+    byte.is_ascii_alphanumeric() || byte == b'_' || byte == b'%'
 }
 
 pub(crate) fn class_of(byte: u8) -> ByteClass
     ensures { result ≡ spec.class_of byte }
 {
-    if is_word_start(byte) {
+    if is_pattern_start(byte) {
         ByteClass::Letter
-    } else if byte == b'-' || byte.is_ascii_digit() {
+    } else if byte.is_ascii_digit() {
         ByteClass::Digit
-    } else if byte == b'"' {
-        ByteClass::Quote
     } else {
-        ByteClass::Other
+        match byte {
+            b'-' => ByteClass::Minus,
+            b'&' => ByteClass::Ampersand,
+            b'"' => ByteClass::DoubleQuote,
+            b'\'' => ByteClass::SingleQuote,
+            _ => ByteClass::Other,
+        }
     }
 }

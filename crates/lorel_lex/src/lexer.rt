@@ -1,19 +1,32 @@
-ghost use Rattle.std.specs.Prelude.{◌≡◌, ◌<◌, ◌≤◌, ◌⊎◌, List, length, drop, All, IfOk, IfErr};
-ghost use Rattle.lorel_lex.specs.Tokens.{AreTokens, HasForm, HasOneTokenList};
+ghost use Rattle.std.specs.Prelude.{◌≡◌, ◌≢◌, ◌<◌, ◌≤◌, length, drop, slice_index, All, IfOk, IfErr};
+ghost use Rattle.lorel_lex.specs.Tokens.{AreTokens, HasFault, HasForm, HasOneOutcome, HasSomeOutcome};
 ghost use Rattle.lorel_lex.specs.Lexing.{ReadsFirst, ReadsNext};
-ghost use Rattle.lorel_lex.specs.declared.token_types.Token.{Token};
 
 use crate::byte_class::{ByteClass, class_of};
+use crate::counting::count_tokens;
 use crate::gaps::gap_len;
-use crate::numbers::number;
-use crate::quoted_texts::text;
+use crate::numbers::{digit_follows, local, signed, unsigned};
+use crate::quoted_texts::{label, text};
 use crate::symbols::symbol;
-use crate::token_types::{Kind, LexFault, Token, TokenList};
+use crate::token_list::TokenList;
+use crate::token_types::{Kind, LexFault, Token};
 use crate::words::word;
-use lore_base::Listing;
 use lore_base::limits::CHUNK_BYTES;
 use simdutf8::is_utf8;
 use std::alloc::Global;
+
+// The number or the symbol at the front, with its length; a minus begins it.
+fn minus(bytes: &[u8]) -> Result<(Kind, usize), LexFault>
+    requires some { 0 < length bytes.now }
+    requires minus { slice_index bytes.now 0 ≡ 45 }
+    ensures { ReadsFirst bytes.now result }
+{
+    if digit_follows(bytes) {
+        signed(bytes)
+    } else {
+        symbol(bytes)
+    }
+}
 
 // The token at the front, with its length.
 fn first_token(alloc: Global, bytes: &[u8]) -> Result<(Kind, usize), LexFault>
@@ -22,8 +35,11 @@ fn first_token(alloc: Global, bytes: &[u8]) -> Result<(Kind, usize), LexFault>
 {
     match class_of(bytes[0]) {
         ByteClass::Letter => word(alloc, bytes),
-        ByteClass::Digit => number(bytes),
-        ByteClass::Quote => text(alloc, bytes),
+        ByteClass::Digit => unsigned(bytes),
+        ByteClass::Minus => minus(bytes),
+        ByteClass::Ampersand => local(bytes),
+        ByteClass::DoubleQuote => text(alloc, bytes),
+        ByteClass::SingleQuote => label(alloc, bytes),
         ByteClass::Other => symbol(bytes),
     }
 }
@@ -50,21 +66,21 @@ fn next_token(alloc: Global, chunk: &[u8], at: usize) -> Result<Option<Token>, L
 
 /// The tokens of a chunk, with their places.
 ///
-/// Blank bytes and comments are dropped; elsewhere the longest token that starts at a place is taken. BadToken comes
-/// exactly where the chunk isn't UTF-8, no token starts at some place, a number lies outside 64 bits, a text passes
-/// 4,096 bytes or an identifier 255.
+/// Blank bytes and comments are dropped; elsewhere the longest token that starts at a place is taken. A chunk that isn't
+/// UTF-8 is BadToken. Of several faults that at the earliest place counts, and at one place the first of these: BadToken
+/// where no token starts there, RealRefused where a `.` and a digit follow a number, NumberRange where a number lies
+/// outside 64 bits or a local outside 32, TextTooLong where a text has more than 4,096 bytes, or an identifier, a pattern
+/// or a quoted label more than 255. The list is sized before it is filled.
 pub fn tokens(alloc: Global, chunk: &[u8]) -> Result<TokenList, LexFault>
     requires { length chunk.now ≤ CHUNK_BYTES }
     ensures found { IfOk result (AreTokens chunk.now) }
     ensures formed { IfOk result (All (λ token. HasForm token.kind)) }
-    ensures none { IfErr result
-        (λ fault. fault ≡ LexFault.BadToken → (tokens : List Token) → AreTokens chunk.now tokens → ⊥) }
-    ensures only { IfErr result (λ fault. (fault ≡ LexFault.BadToken) ⊎ (fault ≡ LexFault.NoMemory)) }
+    ensures fault { IfErr result (λ fault. fault ≢ LexFault.NoMemory → HasFault chunk.now fault) }
 {
     if !is_utf8(chunk) {
         return Err(LexFault::BadToken);
     }
-    let mut tokens = Listing::new(alloc);
+    let mut tokens = TokenList::with_capacity(alloc, count_tokens(chunk))?;
     let mut at = 0;
     'tokens: while at < chunk.len() {
         match next_token(alloc, chunk, at) {
@@ -79,7 +95,12 @@ pub fn tokens(alloc: Global, chunk: &[u8]) -> Result<TokenList, LexFault>
     Ok(tokens)
 }
 
-/// A chunk has at most one list of tokens.
-pub fn one_token_list()
-    ensures { HasOneTokenList }
+/// A chunk has at most one outcome: one list of tokens or one fault.
+pub fn one_outcome()
+    ensures { HasOneOutcome }
+{}
+
+/// Each chunk has an outcome: a list of tokens or a fault.
+pub fn some_outcome()
+    ensures { HasSomeOutcome }
 {}

@@ -1,22 +1,21 @@
-ghost use Rattle.std.specs.Prelude.{◌≡◌, ◌<◌, length, slice_index, false, Some};
-ghost use Rattle.lorel_lex.specs.Tokens.{escape_of};
-ghost use Rattle.lorel_lex.specs.Lexing.{class_of, escaped_after, FindsQuote, FindsByte, Resolves, ReadsFirst};
-ghost use Rattle.lorel_lex.specs.declared.byte_class.ByteClass.TheVariants.{Quote};
+ghost use Rattle.std.specs.Prelude.{◌≡◌, ◌≢◌, ◌<◌, length, slice_index, false, Some};
+ghost use Rattle.lorel_lex.specs.Shapes as shape;
+ghost use Rattle.lorel_lex.specs.Lexing.{escaped_after, FindsQuote, FindsByte, Resolves, ReadsQuoted, ReadsFirst};
 
 use crate::token_types::{Kind, LexFault};
 use lore_base::OemText;
-use lore_base::limits::TEXT_BYTES;
+use lore_base::limits::{TEXT_BYTES, WORD_BYTES};
 use std::alloc::Global;
 
-// The place of the quote that ends a text; the bytes begin behind the quote that opens it.
-fn closing_quote(bytes: &[u8]) -> Option<usize>
-    ensures { FindsQuote bytes.now result }
+/// The place of the quote that ends the contents; the bytes begin behind the quote that opens them.
+pub(crate) fn closing_quote(bytes: &[u8], quote: u8) -> Option<usize>
+    ensures { FindsQuote quote bytes.now result }
 {
     let mut escaped = false;
     'bytes: for (i, byte) in bytes.iter().enumerate() {
         if escaped {
             escaped = false;
-        } else if *byte == b'"' {
+        } else if *byte == quote {
             return Some(i);
         } else {
             escaped = *byte == b'\\';
@@ -26,11 +25,13 @@ fn closing_quote(bytes: &[u8]) -> Option<usize>
 }
 
 // The byte that a letter behind a backslash stands for.
-fn escape_of(letter: u8) -> Option<u8>
-    ensures { result ≡ escape_of letter }
+fn escape_of(quote: u8, letter: u8) -> Option<u8>
+    ensures { result ≡ shape.escape_of quote letter }
 {
+    if letter == quote {
+        return Some(quote);
+    }
     match letter {
-        b'"' => Some(b'"'),
         b'\\' => Some(b'\\'),
         b'n' => Some(b'\n'),
         b'r' => Some(b'\r'),
@@ -40,12 +41,13 @@ fn escape_of(letter: u8) -> Option<u8>
 }
 
 // The first byte that the contents stand for, and how many of their bytes it takes.
-fn first_byte(raw: &[u8]) -> Option<(u8, usize)>
-    requires { 0 < length raw.now }
-    ensures { FindsByte raw.now result }
+fn first_byte(raw: &[u8], quote: u8) -> Option<(u8, usize)>
+    requires some { 0 < length raw.now }
+    requires quote { quote ≢ 92 }
+    ensures { FindsByte quote raw.now result }
 {
     let byte = raw[0];
-    if byte == b'"' {
+    if byte == quote {
         return None;
     }
     if byte != b'\\' {
@@ -54,18 +56,19 @@ fn first_byte(raw: &[u8]) -> Option<(u8, usize)>
     if raw.len() == 1 {
         return None;
     }
-    let byte = escape_of(raw[1])?;
+    let byte = escape_of(quote, raw[1])?;
     Some((byte, 2))
 }
 
 // The bytes that the contents stand for.
-fn unescaped(alloc: Global, raw: &[u8]) -> Result<Vec<u8>, LexFault>
-    ensures { Resolves (λ bytes. bytes.items) raw.now result }
+fn unescaped(alloc: Global, raw: &[u8], quote: u8) -> Result<Vec<u8>, LexFault>
+    requires { quote ≢ 92 }
+    ensures { Resolves (λ bytes. bytes.items) quote raw.now result }
 {
     let mut bytes = Vec::with_capacity(alloc, raw.len())?;
     let mut at = 0;
     'raw: while at < raw.len() {
-        let Some((byte, len)) = first_byte(&raw[at..]) else {
+        let Some((byte, len)) = first_byte(&raw[at..], quote) else {
             return Err(LexFault::BadToken);
         };
         bytes.push(byte)?;
@@ -75,15 +78,16 @@ fn unescaped(alloc: Global, raw: &[u8]) -> Result<Vec<u8>, LexFault>
 }
 
 // The text that the contents stand for. Contents without escapes are copied as they are.
-fn contents(alloc: Global, raw: &[u8]) -> Result<OemText, LexFault>
-    requires { escaped_after false raw.now ≡ Some false }
-    ensures { Resolves (λ text. text) raw.now result }
+fn contents(alloc: Global, raw: &[u8], quote: u8) -> Result<OemText, LexFault>
+    requires quote { quote ≢ 92 }
+    requires inside { escaped_after quote false raw.now ≡ Some false }
+    ensures { Resolves (λ text. text) quote raw.now result }
 {
     if !raw.contains(&b'\\') {
         let text = OemText::from_bytes(alloc, raw)?;
         return Ok(text);
     }
-    match unescaped(alloc, raw) {
+    match unescaped(alloc, raw, quote) {
         Ok(bytes) => {
             let text = OemText::from_bytes(alloc, bytes.as_slice())?;
             Ok(text)
@@ -92,20 +96,53 @@ fn contents(alloc: Global, raw: &[u8]) -> Result<OemText, LexFault>
     }
 }
 
-/// The text at the front, with its length.
-pub(crate) fn text(alloc: Global, bytes: &[u8]) -> Result<(Kind, usize), LexFault>
-    requires { class_of (slice_index bytes.now 0) ≡ Quote }
-    ensures { ReadsFirst bytes.now result }
+// The text that the quoted contents at the front stand for, and how many bytes these are with their quotes.
+fn quoted(alloc: Global, bytes: &[u8], quote: u8) -> Result<(OemText, usize), LexFault>
+    requires quote { quote ≢ 92 }
+    requires opens { slice_index bytes.now 0 ≡ quote }
+    requires some { 0 < length bytes.now }
+    ensures { ReadsQuoted quote bytes.now result }
 {
-    let Some(len) = closing_quote(&bytes[1..]) else {
+    let Some(len) = closing_quote(&bytes[1..], quote) else {
         return Err(LexFault::BadToken);
     };
-    match contents(alloc, &bytes[1..len + 1]) {
-        Ok(text) => {
+    match contents(alloc, &bytes[1..len + 1], quote) {
+        Ok(text) => Ok((text, len + 2)),
+        Err(fault) => Err(fault),
+    }
+}
+
+/// The text at the front, with its length.
+pub(crate) fn text(alloc: Global, bytes: &[u8]) -> Result<(Kind, usize), LexFault>
+    requires { slice_index bytes.now 0 ≡ 34 }
+    ensures { ReadsFirst bytes.now result }
+{
+    match quoted(alloc, bytes, b'"') {
+        Ok((text, len)) => {
             if text.as_bytes().len() > TEXT_BYTES {
+                return Err(LexFault::TextTooLong);
+            }
+            Ok((Kind::Chars(text), len))
+        }
+        Err(fault) => Err(fault),
+    }
+}
+
+/// The quoted label at the front, with its length. Two quotes with nothing between them are none.
+pub(crate) fn label(alloc: Global, bytes: &[u8]) -> Result<(Kind, usize), LexFault>
+    requires { slice_index bytes.now 0 ≡ 39 }
+    ensures { ReadsFirst bytes.now result }
+{
+    match quoted(alloc, bytes, b'\'') {
+        Ok((text, len)) => {
+            let size = text.as_bytes().len();
+            if size == 0 {
                 return Err(LexFault::BadToken);
             }
-            Ok((Kind::Chars(text), len + 2))
+            if size > WORD_BYTES {
+                return Err(LexFault::TextTooLong);
+            }
+            Ok((Kind::Quoted(text), len))
         }
         Err(fault) => Err(fault),
     }

@@ -1,8 +1,8 @@
 ghost use Rattle.std.specs.Prelude.{◌≡◌};
 ghost use Rattle.lorel_lex.specs.declared.token_types.LexFault.TheVariants.{NoMemory as MemoryRefused};
 
-use lore_base::{Listing, NoMemory, OemText};
-use std::alloc::{AllocError, AllocFailed};
+use lore_base::{NoMemory, OemText, TryCopy};
+use std::alloc::{AllocError, AllocFailed, Global};
 use thiserror::Error;
 
 /// A token of a chunk, with its place: the bytes of the chunk from `start` up to `end` are the token.
@@ -12,6 +12,9 @@ pub struct Token {
     pub start: u32,
     pub end: u32,
 }
+
+// A list of as many tokens as a chunk may have bytes stays below 3 GiB.
+const _: () = prove!(size_of::<Token>() <= 40);
 
 /// What a token is. Texts stand without their quotes and with their escapes resolved.
 #[derive(Debug, Drop)]
@@ -30,6 +33,31 @@ pub enum Kind {
     /// A label in single quotes.
     Quoted(OemText),
     Symbol(Sign),
+}
+
+impl TryCopy for Kind {
+    fn try_copy(&self, alloc: Global) -> Result<Self, NoMemory> {
+        match self {
+            Kind::Word(text) => Ok(Kind::Word(text.try_copy(alloc)?)),
+            Kind::Wild(text) => Ok(Kind::Wild(text.try_copy(alloc)?)),
+            Kind::PathOf => Ok(Kind::PathOf),
+            Kind::Number(number) => Ok(Kind::Number(*number)),
+            Kind::Local(local) => Ok(Kind::Local(*local)),
+            Kind::Chars(text) => Ok(Kind::Chars(text.try_copy(alloc)?)),
+            Kind::Quoted(text) => Ok(Kind::Quoted(text.try_copy(alloc)?)),
+            Kind::Symbol(sign) => Ok(Kind::Symbol(*sign)),
+        }
+    }
+}
+
+impl TryCopy for Token {
+    fn try_copy(&self, alloc: Global) -> Result<Self, NoMemory> {
+        Ok(Token {
+            kind: self.kind.try_copy(alloc)?,
+            start: self.start,
+            end: self.end,
+        })
+    }
 }
 
 /// The symbols `{ } ( ) , . : := = == != < <= > >= += -= ? * + | # @`, in this order.
@@ -60,23 +88,20 @@ pub enum Sign {
     At,
 }
 
-/// The tokens of a chunk, in order.
-pub type TokenList = Listing<Token>;
-
 /// Why a chunk has no tokens.
 #[derive(Clone, Copy, Debug, PartialEq, Eq, Error)]
 pub enum LexFault {
-    /// The chunk is not UTF-8, or no token starts at some place, or a token is beyond its limit.
+    /// The chunk is not UTF-8, or no token starts at some place.
     #[error("some bytes are no token")]
     BadToken,
-    /// A number with a fraction.
+    /// A `.` and a digit right behind a number.
     #[error("a number has a fraction")]
     RealRefused,
-    /// A number beyond 64 bits.
+    /// A number beyond 64 bits, or a local beyond 32.
     #[error("a number is out of range")]
     NumberRange,
-    /// A text beyond 4,096 bytes, or a word beyond 255.
-    #[error("a text or word is too long")]
+    /// A text beyond 4,096 bytes, or an identifier, a pattern or a quoted label beyond 255.
+    #[error("a text, a word or a label is too long")]
     TextTooLong,
     #[error("out of memory")]
     NoMemory,

@@ -178,7 +178,7 @@ fn check_what_passes_a_limit(rt: &impl Abort, alloc: Global) -> Result<(), Fail>
                 status: Status::DoneRefused,
                 done: 1,
                 refused: 1,
-                written: &[Part(b"refused 1 BadToken\n", 1)],
+                written: &[Part(b"refused 4 TextTooLong\n", 1)],
             },
             Case {
                 name: "identifiers of 256 bytes",
@@ -193,7 +193,7 @@ fn check_what_passes_a_limit(rt: &impl Abort, alloc: Global) -> Result<(), Fail>
                 done: 3,
                 refused: 3,
                 written: &[Part(
-                    b"refused 1 BadToken\nrefused 1 BadToken\nrefused 7 UnknownName\n",
+                    b"refused 4 TextTooLong\nrefused 4 TextTooLong\nrefused 7 UnknownName\n",
                     1,
                 )],
             },

@@ -126,7 +126,23 @@ fn texts_and_numbers_are_read_and_printed(rt: HostRuntime) -> Result<(), Fail> {
                 status: Status::DoneRefused,
                 done: 4,
                 refused: 4,
-                written: b"refused 1 BadToken\nrefused 1 BadToken\nrefused 5 Syntax\nrefused 7 UnknownName\n",
+                written: b"refused 3 NumberRange\nrefused 3 NumberRange\nrefused 2 RealRefused\nrefused 7 UnknownName\n",
+            },
+            Case {
+                name: "a real, the greatest number and one more",
+                script: b"load R := { w 3.5 }; load R := { w 9223372036854775807 }; load R := { w 9223372036854775808 };",
+                status: Status::DoneRefused,
+                done: 3,
+                refused: 2,
+                written: b"refused 2 RealRefused\nok objects 2 edges 1\nrefused 3 NumberRange\n",
+            },
+            Case {
+                name: "tokens of forms that are not built",
+                script: b"load X := { a &9 }; select A.b%; select A where A = 1; load Y := { 'a b' 1 }; &4294967296;",
+                status: Status::DoneRefused,
+                done: 5,
+                refused: 5,
+                written: b"refused 5 Syntax\nrefused 5 Syntax\nrefused 5 Syntax\nrefused 5 Syntax\nrefused 3 NumberRange\n",
             },
             Case {
                 name: "the byte FF in a chunk",
@@ -216,7 +232,7 @@ fn scripts_are_cut_into_statements(rt: HostRuntime) -> Result<(), Fail> {
                 status: Status::DoneRefused,
                 done: 4,
                 refused: 1,
-                written: b"ok objects 1 edges 0\n&1 \"1;2\"\nrows 1\nrefused 1 BadToken\nok objects 2 edges 0\n",
+                written: b"ok objects 1 edges 0\n&1 \"1;2\"\nrows 1\nrefused 5 Syntax\nok objects 2 edges 0\n",
             },
         ],
     )

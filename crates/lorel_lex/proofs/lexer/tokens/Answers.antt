@@ -1,8 +1,8 @@
-use Rattle.std.proofs.Common.{Ok, Option, Some, None, drop, sym, subst}
+use Rattle.std.proofs.Common.{Ok, Option, Some, None, ◌++◌, [], drop, sym, subst, inr, arith}
 use Rattle.lorel_lex.specs.declared.token_types.Token.{Token}
 use Rattle.lorel_lex.specs.Lexing.{ReadsNext}
 use Rattle.lorel_lex.specs.Tokens.{AreTokens}
-use Rattle.lorel_lex.proofs.TokenLaws.{GoesOnFrom, GoesOnFrom-more, blank_behind, all_found, formed}
+use Rattle.lorel_lex.proofs.TokenLaws.{GoesOnFrom, GoesOnFrom-more, next_leaves, blank_behind, all_found, fault_found, formed}
 use Rattle.lorel_lex.proofs.lexer.tokens.Goals as goal
 
 pub tokens-preserved : goal.tokens-preserved
@@ -12,6 +12,15 @@ tokens-preserved c =
     let token = c.in-Ok-Some.token in
     let next : ReadsNext at (drop at chunk) (Ok (Some token)) = subst (λ (found : Option Token). ReadsNext at (drop at chunk) (Ok found)) c.in-Ok-Some.field-0-is c.in-Ok-Some.ensures in
     subst (GoesOnFrom token.end chunk) (sym c.in_ok-push-in-Ok-Some.ensures.ok) (GoesOnFrom-more at chunk next.0 token c.tokens.tokens next.1 c.tokens.invariant)
+
+pub tokens-smaller : goal.tokens-smaller
+tokens-smaller c =
+    let chunk = c.args.chunk.now in
+    let at = c.tokens.at in
+    let token = c.in-Ok-Some.token in
+    let next : ReadsNext at (drop at chunk) (Ok (Some token)) = subst (λ (found : Option Token). ReadsNext at (drop at chunk) (Ok found)) c.in-Ok-Some.field-0-is c.in-Ok-Some.ensures in
+    let leaves = next_leaves at chunk next.0 token c.tokens.invariant.within next.1 in
+    omega (arith, leaves.further, c.tokens-test.true)
 
 found-in-Ok-None : (c : goal.In-Ok-None) → AreTokens c.args.chunk.now c.tokens.tokens
 found-in-Ok-None c =
@@ -31,6 +40,10 @@ returns-in-Ok-None-clause-found c = found-in-Ok-None c
 
 pub returns-in-Ok-None-clause-formed : goal.returns-in-Ok-None-clause-formed
 returns-in-Ok-None-clause-formed c = formed c.args.chunk.now c.tokens.tokens (found-in-Ok-None c)
+
+pub returns-in-Err-clause-fault : goal.returns-in-Err-clause-fault
+returns-in-Err-clause-fault c = λ free.
+    inr (c.is_utf8.ensures.0 c.if-not-is_utf8.false, c.tokens.tokens ++ [], fault_found c.tokens.at c.args.chunk.now c.tokens.tokens c.in-Err.fault c.tokens.invariant (c.in-Err.ensures free))
 
 pub returns-clause-found : goal.returns-clause-found
 returns-clause-found c = found-after c

@@ -3,4 +3,4 @@ use Rattle.lorel_lex.specs.Lexing.{escaped_after}
 use Rattle.lorel_lex.proofs.quoted_texts.closing_quote.Given as goal
 
 abbrev pub invariant-bytes : goal.invariant-bytes
-invariant-bytes l = escaped_after false (take l.i l.bytes) ≡ Some l.escaped
+invariant-bytes l = escaped_after l.quote false (take l.i l.bytes) ≡ Some l.escaped
