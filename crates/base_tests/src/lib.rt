@@ -9,3 +9,5 @@ mod ends;
 mod graphs;
 #[cfg(test)]
 mod lexing;
+#[cfg(test)]
+mod trees;

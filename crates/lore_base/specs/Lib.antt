@@ -3,6 +3,7 @@ pub mod Lists
 pub mod Causes
 pub mod Refusals
 pub mod Names
+pub mod Paths
 pub mod Walks
 pub mod Databases
 pub mod ChangeSets

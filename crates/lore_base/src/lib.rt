@@ -1,5 +1,5 @@
-//! The data of an OEM database and its outside world: values, edges, lists of them, names, refusals, the step
-//! counter, and the sources and sinks that a script comes from and its replies go to.
+//! The data of an OEM database and its outside world: values, edges, lists of them, names, paths, operators, refusals,
+//! the step counter, and the sources and sinks that a script comes from and its replies go to.
 //!
 //! Its `specs/` hold the definitions that several crates cite: walks, names, databases and changes of them.
 #![tactic(auto)]
@@ -11,7 +11,9 @@ pub use memory::NoMemory;
 pub use memory_ends::{MemSink, MemSource, SureSink, SureSource};
 pub use modes::Mode;
 pub use name_table::Names;
+pub use operators::Op;
 pub use outside::{Failed, Sink, Source};
+pub use paths::{Path, PathList, Pattern};
 pub use refusals::Refusal;
 pub use standard_ends::{StdSink, StdSource};
 pub use step_counter::Steps;
@@ -26,9 +28,12 @@ mod memory;
 mod memory_ends;
 mod modes;
 mod name_table;
+mod operators;
 mod outside;
+mod paths;
 mod refusals;
 mod standard_ends;
 mod step_counter;
 mod texts;
+mod triples;
 mod values;

@@ -1,4 +1,3 @@
-use Rattle.std.proofs.Common.{◌≡◌}
 use Rattle.lore_base.specs.Bytes.{bytes_cmp}
 use Rattle.lore_base.proofs.NameLaws.{sorted_rekeyed}
 use Rattle.lore_base.proofs.name_table.Names.len.Goals as goal

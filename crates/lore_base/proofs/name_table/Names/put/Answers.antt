@@ -1,4 +1,4 @@
-use Rattle.std.proofs.Common.{◌≡◌, sym, ap, ◌∙◌}
+use Rattle.std.proofs.Common.{sym, ap, ◌∙◌}
 use Rattle.std.specs.BTreeMap.{insert_entry}
 use Rattle.lore_base.specs.Bytes.{bytes_cmp}
 use Rattle.lore_base.proofs.NameLaws.{rekeyed, insert_entry-rekeyed}

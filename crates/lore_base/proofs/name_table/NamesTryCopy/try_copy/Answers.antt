@@ -1,4 +1,4 @@
-use Rattle.std.proofs.Common.{◌≡◌, ap, ◌∙◌}
+use Rattle.std.proofs.Common.{◌∙◌}
 use Rattle.std.specs.List.{each_same}
 use Rattle.lore_base.proofs.NameLaws.{rekeyed_clones}
 use Rattle.lore_base.proofs.name_table.NamesTryCopy.try_copy.Goals as goal

@@ -1,0 +1,17 @@
+pub mod Trees
+pub mod UpdateRows
+pub mod Grammar
+pub mod Spelling
+pub mod Meaning
+pub mod Nesting
+pub mod Tokens
+pub mod Sound
+pub mod Laws
+pub mod Worked
+pub mod WorkedLoads
+pub mod WorkedUpdates
+pub mod WorkedPaths
+pub mod WorkedConditions
+pub mod WorkedSettings
+pub mod Printing
+pub mod PrintingLaws

@@ -1,0 +1,70 @@
+-- Statements about the whole database: worked statements with their trees and tokens.
+use Rattle.std.specs.Prelude.{[], ◌∷◌, codes, pos}
+use Rattle.lore_base.specs.declared.values.Value.TheVariants.{Complex}
+use Rattle.lore_base.specs.declared.modes.Mode.TheVariants.{Auto, Top, Bottom, Guided}
+use Rattle.lorel_lex.specs.declared.token_types.Kind.TheVariants as k
+use Rattle.lorel_lex.specs.declared.token_types.Sign.TheVariants as s
+use Rattle.lorel_ast.specs.Trees as t
+use Rattle.lorel_ast.specs.Tokens.{HasTokens}
+use Rattle.lorel_ast.specs.Worked.{word, sign, number, whole, object}
+
+pub record WorkedSettings : Type 0 where
+  -- guide
+  pub guide : HasTokens
+      (t.guide)
+      (word "guide" ∷ [])
+  -- browse Guide.restaurant
+  pub browsed : HasTokens
+      (t.browse (codes "Guide") (codes "restaurant" ∷ []))
+      (word "browse" ∷ word "Guide" ∷ sign s.Dot ∷ word "restaurant" ∷ [])
+  -- sample Guide.restaurant.name 1
+  pub sampled : HasTokens
+      (t.sample (codes "Guide") (codes "restaurant" ∷ codes "name" ∷ []) (pos 1))
+      (word "sample" ∷ word "Guide" ∷ sign s.Dot ∷ word "restaurant" ∷ sign s.Dot ∷ word "name" ∷ number 1 ∷ [])
+  -- set nodes 3
+  pub node_limit : HasTokens
+      (t.set_nodes (pos 3))
+      (word "set" ∷ word "nodes" ∷ number 3 ∷ [])
+  -- set plan auto
+  pub plan_auto : HasTokens
+      (t.set_plan Auto)
+      (word "set" ∷ word "plan" ∷ word "auto" ∷ [])
+  -- set plan top
+  pub plan_top : HasTokens
+      (t.set_plan Top)
+      (word "set" ∷ word "plan" ∷ word "top" ∷ [])
+  -- set plan bottom
+  pub plan_bottom : HasTokens
+      (t.set_plan Bottom)
+      (word "set" ∷ word "plan" ∷ word "bottom" ∷ [])
+  -- set plan guide
+  pub plan_guide : HasTokens
+      (t.set_plan Guided)
+      (word "set" ∷ word "plan" ∷ word "guide" ∷ [])
+  -- dump
+  pub dumped : HasTokens
+      (t.dump)
+      (word "dump" ∷ [])
+  -- restore oem 1 next 4 nodes 4096 plan auto label next label v name G &1 object &1 {} object &2 {} object &3 5 edge
+  --   &1 next &2 edge &2 next &1 edge &2 v &3 end
+  pub restored : HasTokens
+      (t.restore record {
+        version = pos 1;
+        next = pos 4;
+        nodes = pos 4096;
+        mode = Auto;
+        labels = codes "next" ∷ codes "v" ∷
+            [];
+        names = (codes "G", object 1) ∷ [];
+        objects = (object 1, Complex) ∷ (object 2, Complex) ∷ (object 3, whole 5) ∷ [];
+        edges = (object 1, codes "next", object 2) ∷ (object 2, codes "next", object 1) ∷ (object 2, codes "v", object 3) ∷ [];
+      })
+      (word "restore" ∷ word "oem" ∷ number 1 ∷ word "next" ∷ number 4 ∷ word "nodes" ∷ number 4096 ∷ word "plan" ∷ word
+      "auto" ∷ word "label" ∷ word "next" ∷ word "label" ∷ word "v" ∷ word "name" ∷ word "G" ∷ k.Local 1 ∷ word "object" ∷
+      k.Local 1 ∷ sign s.LeftBrace ∷ sign s.RightBrace ∷ word "object" ∷ k.Local 2 ∷ sign s.LeftBrace ∷ sign s.RightBrace ∷
+      word "object" ∷ k.Local 3 ∷ number 5 ∷ word "edge" ∷ k.Local 1 ∷ word "next" ∷ k.Local 2 ∷ word "edge" ∷ k.Local 2 ∷
+      word "next" ∷ k.Local 1 ∷ word "edge" ∷ k.Local 2 ∷ word "v" ∷ k.Local 3 ∷ word "end" ∷ [])
+  -- generate 7 1000
+  pub generated : HasTokens
+      (t.generate (pos 7) (pos 1000))
+      (word "generate" ∷ number 7 ∷ number 1000 ∷ [])
