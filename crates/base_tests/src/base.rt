@@ -65,12 +65,11 @@ fn texts_and_values_are_copied(rt: HostRuntime) -> Result<(), Fail> {
         return Err(Fail::from("the text is lost"));
     };
     assert_eq!(rt; chars.as_bytes(), text.as_bytes());
-    assert_eq!(rt; text.into_bytes().as_slice(), b"Chef \xff Chu".as_slice());
     Ok(())
 }
 
 fn named(alloc: Global, names: &mut Names, name: &[u8], oid: u32) -> Result<(), NoMemory> {
-    names.put(OemText::from_bytes(alloc, name)?, Oid(oid))
+    names.put(alloc, &OemText::from_bytes(alloc, name)?, Oid(oid))
 }
 
 fn found(alloc: Global, names: &Names, name: &[u8]) -> Result<Option<Oid>, NoMemory> {

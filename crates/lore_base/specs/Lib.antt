@@ -1,4 +1,5 @@
 pub mod Bytes
+pub mod Texts
 pub mod Lists
 pub mod Causes
 pub mod Refusals

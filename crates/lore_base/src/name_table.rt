@@ -53,11 +53,12 @@ impl Names {
     }
 
     /// Binds the name, in place of an older binding.
-    pub fn put(&mut self, name: OemText, oid: Oid) -> Result<(), NoMemory>
-        ensures ok { OnOk result (self.new ≡ insert_entry bytes_cmp self.old name oid) }
+    pub fn put(&mut self, alloc: Global, name: &OemText, oid: Oid) -> Result<(), NoMemory>
+        ensures ok { OnOk result (self.new ≡ insert_entry bytes_cmp self.old name.now oid) }
         ensures err { OnErr result (self.new ≡ self.old) }
     {
-        self.objects.insert(name.into_bytes(), oid)?;
+        let bytes = Vec::from_slice(alloc, name.as_bytes())?;
+        self.objects.insert(bytes, oid)?;
         Ok(())
     }
 
@@ -67,7 +68,7 @@ impl Names {
     {
         let mut names = self.try_copy(alloc)?;
         'entries: for (text, oid) in &more.objects {
-            names.put(OemText::from_bytes(alloc, text.as_slice())?, *oid)?;
+            names.put(alloc, &OemText::from_bytes(alloc, text.as_slice())?, *oid)?;
         }
         Ok(names)
     }

@@ -1,20 +1,31 @@
-ghost use Rattle.std.specs.Prelude.{◌≡◌, ℕ, List, IfOk};
+ghost use Rattle.std.specs.Prelude.{◌≡◌, IfOk};
 
 use crate::lists::TryCopy;
 use crate::memory::NoMemory;
+use arrayvec::ArrayVec;
 use std::alloc::Global;
 use std::marker::Model;
 
-/// A text, kept as its bytes and seen by contracts as their list. They need not be UTF-8.
+/// A text, kept as its bytes and seen by contracts as their list. They need not be UTF-8. Up to 8 bytes stand in the text
+/// itself, so that most labels and words take no block of memory of their own.
 #[derive(Debug, Drop)]
 pub struct OemText {
-    bytes: Vec<u8>,
+    bytes: TextBytes,
+}
+
+#[derive(Debug, Drop)]
+pub(crate) enum TextBytes {
+    Short(ArrayVec<u8, 8>),
+    Long(Box<Vec<u8>>),
 }
 
 impl Model for OemText {
+    ghost use Rattle.std.specs.Prelude.{ℕ, List};
+    ghost use Rattle.lore_base.specs.Texts.{bytes_of};
+
     ghost Value = { List ℕ };
 
-    ghost view = { λ t. t.bytes.items };
+    ghost view = { λ t. bytes_of t.bytes };
 }
 
 impl OemText {
@@ -22,8 +33,14 @@ impl OemText {
     pub fn from_bytes(alloc: Global, bytes: &[u8]) -> Result<OemText, NoMemory>
         ensures { IfOk result (λ text. text ≡ bytes.now) }
     {
+        if let Ok(short) = ArrayVec::try_from(bytes) {
+            return Ok(OemText {
+                bytes: TextBytes::Short(short),
+            });
+        }
+        let long = Box::new(alloc, Vec::from_slice(alloc, bytes)?)?;
         Ok(OemText {
-            bytes: Vec::from_slice(alloc, bytes)?,
+            bytes: TextBytes::Long(long),
         })
     }
 
@@ -31,14 +48,10 @@ impl OemText {
     pub fn as_bytes(&self) -> &[u8]
         ensures { result.now ≡ self.now }
     {
-        self.bytes.as_slice()
-    }
-
-    /// The bytes themselves, for a table that keeps them as its key. Takes no memory.
-    pub fn into_bytes(self) -> Vec<u8>
-        ensures { result.items ≡ self }
-    {
-        self.bytes
+        match &self.bytes {
+            TextBytes::Short(short) => short.as_slice(),
+            TextBytes::Long(long) => long.as_slice(),
+        }
     }
 }
 

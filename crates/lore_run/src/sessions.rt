@@ -174,6 +174,6 @@ fn load_changes(
     let mut changes = Changes::new(alloc);
     changes.made = made;
     changes.added = added;
-    changes.named.put(name.try_copy(alloc)?, root)?;
+    changes.named.put(alloc, name, root)?;
     Ok(changes)
 }

@@ -42,6 +42,23 @@ returns-in-Err-reply_to-clause-stopped g c =
     ends_at_chunk c.in-Err-reply_to.stop c.args.script.now _ c.in-Ok-Chunk.chunk _ c.chunks.tally c.reply_to.new.tally _ (g.K.Sink.written c.chunks.sink) _ c.chunks.session c.reply_to.new.session
     (front_piece_behind c.chunks.at c.in-Ok-Chunk.used c.args.script.now _ cut.taken) c.chunks.invariant.so_far cut.ended cut.sized stops
 
+pub chunks-preserved-in-Ok : goal.chunks-preserved-in-Ok
+chunks-preserved-in-Ok g c =
+    let cut = rw c.in-Ok-Chunk.field-0-is at c.in-Ok-Chunk.ensures.cut in
+    let replied = rw c.as_bytes.ensures at c.in-Ok.ensures.ok in
+    let text = c.args.script.now in
+    let at = c.chunks.at in
+    record {
+      within = omega (arith, cut.within, ap length (take_rest text at), length-drop at text);
+      reader_empty = cut.empty;
+      buffer_empty = c.in-Ok.ensures.emptied;
+      so_far = so_far_more (take at text) (take (at + c.in-Ok-Chunk.used) text) c.in-Ok-Chunk.chunk c.chunks.tally c.reply_to.new.tally _ (g.K.Sink.written c.chunks.sink) _ c.chunks.session c.reply_to.new.session
+          c.chunks.invariant.so_far (next_front at c.in-Ok-Chunk.used text _ cut.taken) cut.ended cut.sized replied;
+      few = omega (arith, replied.done, c.chunks.invariant.few, ap length cut.taken, length-take c.in-Ok-Chunk.used (take (length text - at) (drop at text)), length-append c.in-Ok-Chunk.chunk (59 ∷ []));
+      fewer = omega (arith, replied.done, replied.refused, c.chunks.invariant.fewer, refusals_le replied.reply);
+      faults = c.in-Ok.ensures.unfailed ∙ c.chunks.invariant.faults;
+    }
+
 pub chunks-preserved : goal.chunks-preserved
 chunks-preserved g c =
     let cut = rw c.in-Ok-Chunk.field-0-is at c.in-Ok-Chunk.ensures.cut in

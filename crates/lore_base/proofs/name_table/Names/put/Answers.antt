@@ -7,6 +7,6 @@ use Rattle.lore_base.proofs.name_table.Names.put.Goals as goal
 pub returns-clause-ok : goal.returns-clause-ok
 returns-clause-ok c =
     ap (λ es. rekeyed (λ k. k.items) es) c.in_ok-insert.ensures.entries
-    ∙ sym (insert_entry-rekeyed (λ k. k.items) bytes_cmp c.self.inside.objects.entries c.into_bytes.result c.args.oid)
-    ∙ ap (λ names. insert_entry bytes_cmp names c.into_bytes.result.items c.args.oid) c.self.view_is
-    ∙ ap (λ name. insert_entry bytes_cmp c.args.self.now name c.args.oid) c.into_bytes.ensures
+    ∙ sym (insert_entry-rekeyed (λ k. k.items) bytes_cmp c.self.inside.objects.entries c.in_ok-bytes.bytes c.args.oid)
+    ∙ ap (λ names. insert_entry bytes_cmp names c.in_ok-bytes.bytes.items c.args.oid) c.self.view_is
+    ∙ ap (λ name. insert_entry bytes_cmp c.args.self.now name c.args.oid) (c.in_ok-bytes.ensures.items ∙ c.as_bytes.ensures)
