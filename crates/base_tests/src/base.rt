@@ -1,8 +1,8 @@
 ghost use Rattle.std.specs.Prelude.{◌≡◌, ◌<◌};
 
 use lore_base::{
-    Changes, Edge, EdgeBuf, Failed, Label, Listing, Names, NoMemory, OemText, Oid, OidBuf, Refusal,
-    Steps, TextList, TryCopy, Value,
+    Changes, Edge, EdgeBuf, Failed, Label, Names, NoMemory, ObjectList, OemText, Oid, OidBuf,
+    Refusal, Steps, TextList, TryCopy, Value,
 };
 use std::alloc::Global;
 use std::marker::Brand;
@@ -17,58 +17,95 @@ fn edge(parent: u32, label: u32, child: u32) -> Edge {
     }
 }
 
-#[test]
-fn lists_grow_shrink_and_sort(rt: HostRuntime) -> Result<(), Fail> {
-    let mut oids = OidBuf::new(rt.alloc());
-    assert!(rt; oids.is_empty());
+// The objects 7, 9, 8 and 3.
+fn four_objects(alloc: Global) -> Result<OidBuf, NoMemory> {
+    let mut oids = OidBuf::new(alloc);
     oids.append(&[Oid(7), Oid(9)])?;
     oids.push(Oid(8))?;
     oids.push(Oid(3))?;
+    Ok(oids)
+}
+
+fn sort(oids: &mut OidBuf, from: usize) {
+    if from <= oids.len() {
+        oids.sort_from(from);
+    }
+}
+
+fn cut(oids: &mut OidBuf, len: usize) {
+    if len <= oids.len() {
+        oids.cut(len);
+    }
+}
+
+fn copied(alloc: Global, oids: &OidBuf) -> Result<OidBuf, NoMemory> {
+    oids.try_copy(alloc)
+}
+
+#[test]
+fn lists_grow_shrink_and_sort(rt: HostRuntime) -> Result<(), Fail> {
+    let mut oids = four_objects(rt.alloc())?;
+    let copy = copied(rt.alloc(), &oids)?;
+    sort(&mut oids, 1);
+    let sorted = [Oid(7), Oid(3), Oid(8), Oid(9)];
+    assert_eq!(rt; oids.as_slice(), sorted.as_slice());
+    cut(&mut oids, 2);
+    assert_eq!(rt; oids.as_slice(), [Oid(7), Oid(3)].as_slice());
+    let first = [Oid(7), Oid(9), Oid(8), Oid(3)];
+    assert_eq!(rt; copy.as_slice(), first.as_slice());
+    Ok(())
+}
+
+#[test]
+fn lists_have_places(rt: HostRuntime) -> Result<(), Fail> {
+    let oids = four_objects(rt.alloc())?;
     assert_eq!(rt; oids.len(), 4);
     assert_eq!(rt; oids.get(1).copied(), Some(Oid(9)));
     assert_eq!(rt; oids.get(4).copied(), None);
-    let copy = oids.try_copy(rt.alloc())?;
-    assert!(rt; 1 <= oids.len());
-    oids.sort_from(1);
-    assert_eq!(rt;
-        oids.as_slice(),
-        [Oid(7), Oid(3), Oid(8), Oid(9)].as_slice()
-    );
-    assert!(rt; 2 <= oids.len());
-    oids.cut(2);
-    assert_eq!(rt; oids.as_slice(), [Oid(7), Oid(3)].as_slice());
-    assert_eq!(rt;
-        copy.as_slice(),
-        [Oid(7), Oid(9), Oid(8), Oid(3)].as_slice()
-    );
-
-    let mut edges = EdgeBuf::new(rt.alloc());
-    edges.append(&[edge(2, 0, 1), edge(1, 1, 9), edge(1, 1, 8), edge(1, 0, 9)])?;
-    edges.sort_from(0);
-    let sorted = [edge(1, 0, 9), edge(1, 1, 8), edge(1, 1, 9), edge(2, 0, 1)];
-    assert_eq!(rt; edges.as_slice(), sorted.as_slice());
+    assert!(rt; OidBuf::new(rt.alloc()).is_empty());
     Ok(())
+}
+
+fn sorted_edges(alloc: Global, edges: &[Edge]) -> Result<EdgeBuf, NoMemory> {
+    let mut list = EdgeBuf::new(alloc);
+    list.append(edges)?;
+    list.sort_from(0);
+    Ok(list)
+}
+
+#[test]
+fn edges_ascend(rt: HostRuntime) -> Result<(), Fail> {
+    let edges = [edge(2, 0, 1), edge(1, 1, 9), edge(1, 1, 8), edge(1, 0, 9)];
+    let sorted = [edge(1, 0, 9), edge(1, 1, 8), edge(1, 1, 9), edge(2, 0, 1)];
+    let list = sorted_edges(rt.alloc(), edges.as_slice())?;
+    assert_eq!(rt; list.as_slice(), sorted.as_slice());
+    Ok(())
+}
+
+// A list of the three kinds of values, copied.
+fn values(alloc: Global, text: &[u8]) -> Result<ObjectList, NoMemory> {
+    let mut values = ObjectList::new(alloc);
+    values.push((Oid(1), Value::Complex))?;
+    values.push((Oid(2), Value::Whole(-12)))?;
+    values.push((Oid(3), Value::Chars(OemText::from_bytes(alloc, text)?)))?;
+    values.try_copy(alloc)
 }
 
 #[test]
 fn texts_and_values_are_copied(rt: HostRuntime) -> Result<(), Fail> {
-    let text = OemText::from_bytes(rt.alloc(), b"Chef \xff Chu")?;
-    assert_eq!(rt; text.as_bytes(), b"Chef \xff Chu".as_slice());
-    let mut values = Listing::new(rt.alloc());
-    values.push((Oid(1), Value::Complex))?;
-    values.push((Oid(2), Value::Whole(-12)))?;
-    values.push((Oid(3), Value::Chars(text.try_copy(rt.alloc())?)))?;
-    let copy = values.try_copy(rt.alloc())?;
-    assert!(rt; matches!(copy.get(0), Some((Oid(1), Value::Complex))));
-    assert!(rt; matches!(copy.get(1), Some((Oid(2), Value::Whole(-12)))));
-    let Some((_, Value::Chars(chars))) = copy.get(2) else {
-        return Err(Fail::from("the text is lost"));
-    };
-    assert_eq!(rt; chars.as_bytes(), text.as_bytes());
+    for text in [b"Chef \xff Chu".as_slice(), b"", b"12345678", b"123456789"] {
+        let copy = values(rt.alloc(), text)?;
+        assert!(rt; matches!(copy.get(0), Some((Oid(1), Value::Complex))));
+        assert!(rt; matches!(copy.get(1), Some((Oid(2), Value::Whole(-12)))));
+        let Some((Oid(3), Value::Chars(chars))) = copy.get(2) else {
+            return Err(Fail::from("the text is lost"));
+        };
+        assert_eq!(rt; chars.as_bytes(), text);
+    }
     Ok(())
 }
 
-fn named(alloc: Global, names: &mut Names, name: &[u8], oid: u32) -> Result<(), NoMemory> {
+fn bind(alloc: Global, names: &mut Names, name: &[u8], oid: u32) -> Result<(), NoMemory> {
     names.put(alloc, &OemText::from_bytes(alloc, name)?, Oid(oid))
 }
 
@@ -76,31 +113,43 @@ fn found(alloc: Global, names: &Names, name: &[u8]) -> Result<Option<Oid>, NoMem
     Ok(names.find(&OemText::from_bytes(alloc, name)?))
 }
 
+// The table of these bindings, one after another, over those of the other table.
+fn bound(alloc: Global, names: &Names, table: &[(&[u8], u32)]) -> Result<Names, NoMemory> {
+    let mut more = names.try_copy(alloc)?;
+    for (name, oid) in table {
+        bind(alloc, &mut more, name, *oid)?;
+    }
+    Ok(more)
+}
+
+fn joined(alloc: Global, names: &Names, more: &Names) -> Result<Names, NoMemory> {
+    names.joined(alloc, more)
+}
+
 #[test]
 fn names_are_bound_and_bound_anew(rt: HostRuntime) -> Result<(), Fail> {
     let alloc = rt.alloc();
-    let mut names = Names::new(alloc);
-    named(alloc, &mut names, b"Guide", 1)?;
-    named(alloc, &mut names, b"Apartments", 5)?;
-    named(alloc, &mut names, b"Guide", 9)?;
+    let none = Names::new(alloc);
+    let names = bound(
+        alloc,
+        &none,
+        &[(b"Guide", 1), (b"Apartments", 5), (b"Guide", 9)],
+    )?;
     assert_eq!(rt; names.len(), 2);
     assert_eq!(rt; found(alloc, &names, b"Guide")?, Some(Oid(9)));
     assert_eq!(rt; found(alloc, &names, b"Guid")?, None);
-    let mut more = names.try_copy(alloc)?;
-    named(alloc, &mut more, b"Zagat", 3)?;
-    named(alloc, &mut more, b"Guide", 4)?;
-    let joined = names.joined(alloc, &more)?;
-    assert_eq!(rt; joined.len(), 3);
-    assert_eq!(rt; found(alloc, &joined, b"Guide")?, Some(Oid(4)));
-    assert_eq!(rt; found(alloc, &joined, b"Apartments")?, Some(Oid(5)));
+    let more = bound(alloc, &names, &[(b"Zagat", 3), (b"Guide", 4)])?;
+    let all = joined(alloc, &names, &more)?;
+    assert_eq!(rt; all.len(), 3);
+    assert_eq!(rt; found(alloc, &all, b"Guide")?, Some(Oid(4)));
+    assert_eq!(rt; found(alloc, &all, b"Apartments")?, Some(Oid(5)));
     assert_eq!(rt; found(alloc, &names, b"Guide")?, Some(Oid(9)));
     Ok(())
 }
 
-#[test]
-fn no_change_lists_nothing(rt: HostRuntime) -> Result<(), Fail> {
-    let changes = Changes::new(rt.alloc());
-    let lens = [
+// The lengths of the lists of a change.
+fn lengths(changes: &Changes) -> [usize; 7] {
+    [
         changes.made.len(),
         changes.values.len(),
         changes.added.len(),
@@ -108,10 +157,13 @@ fn no_change_lists_nothing(rt: HostRuntime) -> Result<(), Fail> {
         changes.named.len(),
         changes.unnamed.len(),
         changes.labels.len(),
-    ];
-    assert_eq!(rt; lens, [0; 7]);
+    ]
+}
+
+#[test]
+fn no_change_lists_nothing(rt: HostRuntime) {
+    assert_eq!(rt; lengths(&Changes::new(rt.alloc())), [0; 7]);
     assert_eq!(rt; TextList::new(rt.alloc()).len(), 0);
-    Ok(())
 }
 
 #[test]

@@ -12,16 +12,20 @@ fn calls(alloc: Global, numbers: &[u64]) -> Result<CallList, NoMemory> {
     Ok(list)
 }
 
-// Four reads into a buffer of five bytes, each as the number of its bytes, or 99 where it fails.
-fn four_reads<S: Source>(source: &mut S) -> [usize; 4] {
-    let mut buffer = [0; 5];
-    let mut counts = [99; 4];
-    for count in counts.iter_mut() {
-        if let Ok(read) = source.read(&mut buffer) {
-            *count = read;
-        }
-    }
-    counts
+// A source of nine bytes, in pieces, which fails at these reads.
+fn source(alloc: Global, piece: u32, fails: &[u64]) -> Result<MemSource, NoMemory> {
+    let bytes = OemText::from_bytes(alloc, b"load A :=")?;
+    Ok(MemSource::new(bytes, piece.max(1), calls(alloc, fails)?))
+}
+
+// Reads into the buffer: the number of bytes, or 99 where it fails.
+fn read<S: Source>(source: &mut S, buffer: &mut [u8]) -> usize {
+    source.read(buffer).unwrap_or(99)
+}
+
+// Writes the piece: the number of bytes, or 99 where it fails.
+fn write<K: Sink>(sink: &mut K, piece: &[u8]) -> usize {
+    sink.write(piece).unwrap_or(99)
 }
 
 #[test]
@@ -32,30 +36,42 @@ fn a_memory_source_gives_pieces_and_fails_where_it_is_told(rt: HostRuntime) -> R
         (4, [].as_slice(), [4, 4, 1, 0]),
         (65_536, [1, 4].as_slice(), [99, 5, 4, 99]),
     ] {
-        let bytes = OemText::from_bytes(rt.alloc(), b"load A :=")?;
-        assert!(rt; 1 <= piece);
-        let mut source = MemSource::new(bytes, piece, calls(rt.alloc(), fails)?);
-        assert_eq!(rt; four_reads(&mut source), counts, "in pieces of {piece}");
+        let mut source = source(rt.alloc(), piece, fails)?;
+        let mut buffer = [0; 5];
+        for count in counts {
+            assert_eq!(rt;
+                read(&mut source, &mut buffer),
+                count,
+                "in pieces of {piece}"
+            );
+        }
     }
+    let mut source = source(rt.alloc(), 4, &[])?;
     let mut buffer = [0; 5];
-    let bytes = OemText::from_bytes(rt.alloc(), b"load A :=")?;
-    let mut source = MemSource::new(bytes, 4, calls(rt.alloc(), &[])?);
-    assert_eq!(rt; source.read(&mut buffer), Ok(4));
-    assert_eq!(rt; source.read(&mut buffer), Ok(4));
+    assert_eq!(rt; read(&mut source, &mut buffer), 4);
+    assert_eq!(rt; read(&mut source, &mut buffer), 4);
     assert_eq!(rt; buffer, *b" A :\0");
     Ok(())
 }
 
+fn sink(alloc: Global, fails: &[u64]) -> Result<MemSink, NoMemory> {
+    MemSink::new(alloc, 9, 4, calls(alloc, fails)?)
+}
+
 #[test]
 fn a_memory_sink_keeps_what_it_has_room_for(rt: HostRuntime) -> Result<(), Fail> {
-    let mut sink = MemSink::new(rt.alloc(), 9, 4, calls(rt.alloc(), &[2])?)?;
-    assert_eq!(rt; sink.write(b"rows 2"), Ok(4));
-    assert_eq!(rt; sink.write(b" 2"), Err(Failed));
-    assert_eq!(rt; sink.write(b" 2"), Ok(2));
-    assert_eq!(rt; sink.write(b""), Ok(0));
-    assert_eq!(rt; sink.write(b"\nrows"), Ok(3));
-    assert_eq!(rt; sink.write(b"ws"), Err(Failed));
-    assert_eq!(rt; sink.write(b""), Ok(0));
+    let mut sink = sink(rt.alloc(), &[2])?;
+    for (piece, count) in [
+        (b"rows 2".as_slice(), 4),
+        (b" 2", 99),
+        (b" 2", 2),
+        (b"", 0),
+        (b"\nrows", 3),
+        (b"ws", 99),
+        (b"", 0),
+    ] {
+        assert_eq!(rt; write(&mut sink, piece), count, "the piece {piece:?}");
+    }
     assert_eq!(rt; sink.bytes(), b"rows 2\nro".as_slice());
     Ok(())
 }
@@ -70,17 +86,21 @@ impl Read for Broken {
 }
 
 #[test]
-fn the_standard_ends_pass_bytes_and_faults_on(rt: HostRuntime) -> Result<(), Fail> {
+fn a_standard_source_passes_bytes_and_faults_on(rt: HostRuntime) {
     let mut buffer = [0; 8];
     let mut source = StdSource::new(Cursor::new(b"load".as_slice()));
-    assert_eq!(rt; source.read(&mut buffer), Ok(4));
-    assert_eq!(rt; source.read(&mut buffer), Ok(0));
+    assert_eq!(rt; read(&mut source, &mut buffer), 4);
+    assert_eq!(rt; read(&mut source, &mut buffer), 0);
     assert_eq!(rt; buffer, *b"load\0\0\0\0");
     assert_eq!(rt; StdSource::new(Broken).read(&mut buffer), Err(Failed));
+}
 
+#[test]
+fn a_standard_sink_passes_bytes_on(rt: HostRuntime) {
     let mut bytes = Vec::new(rt.alloc());
     let mut sink = StdSink::new(&mut bytes);
-    assert_eq!(rt; sink.write(b"rows 0\n"), Ok(7));
-    assert_eq!(rt; sink.write(b""), Ok(0));
-    Ok(())
+    assert_eq!(rt; write(&mut sink, b"rows 0\n"), 7);
+    assert_eq!(rt; write(&mut sink, b""), 0);
+    drop(sink);
+    assert_eq!(rt; bytes.as_slice(), b"rows 0\n".as_slice());
 }

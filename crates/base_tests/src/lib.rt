@@ -1,4 +1,5 @@
-//! Tests of single crates: each public call once with ample memory, with values from outside the program.
+//! Tests of the lowest crates: each public call once with ample memory, with values from outside
+//! the program.
 #![tactic(auto)]
 
 #[cfg(test)]
@@ -8,6 +9,4 @@ mod ends;
 #[cfg(test)]
 mod graphs;
 #[cfg(test)]
-mod lexing;
-#[cfg(test)]
-mod trees;
+mod sets;

@@ -50,5 +50,5 @@ fn main(rt: HostRuntime) -> ExitCode {
         Ok(words) => run::<Brand>(&rt, words.as_slice(), Blank::new(1)).unwrap_or(Status::NoMemory),
         Err(status) => status,
     };
-    ExitCode::from(status as u8)
+    ExitCode::from(status.number())
 }

@@ -1,2 +1,9 @@
 pub mod NameLaws
+pub mod WordLaws
 pub mod ListLaws
+pub mod CauseLaws
+pub mod MemberLaws
+pub mod SetLaws
+pub mod DeadLaws
+pub mod TargetLaws
+pub mod QuoteLaws

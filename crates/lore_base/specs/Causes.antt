@@ -1,8 +1,9 @@
-use Rattle.std.specs.Prelude.{◌≡◌, ℕ, ◌+◌, ◌-◌, ◌^◌, ◌<◌, ◌≤◌, min, List, length, Result, IfOk, OnOk, OnErr}
+-- Faults of the outside world: a fault is answered only where the count of faults has risen.
+use Rattle.std.specs.Prelude.{◌≡◌, ℕ, ◌<◌, ◌≤◌, ◌⊎◌, List, length, Result, IfOk, OnOk, OnErr}
 
--- the count of faults is greater than before, or stands at its end, 2 ^ 64 - 1
+-- the count of faults is greater than before, or stands at its end
 abbrev pub Rose : ℕ → ℕ → Type 0
-Rose before now = min (before + 1) (2 ^ 64 - 1) ≤ now
+Rose before now = (before < now) ⊎ (now ≡ 18_446_744_073_709_551_615)
 
 -- a count of faults never falls, stays at Ok and has risen at a fault
 pub record HasCause {A E : Type 0} (before now : ℕ) (result : Result A E) : Type 0 where

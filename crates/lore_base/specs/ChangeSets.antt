@@ -1,13 +1,11 @@
-use Rattle.std.specs.Prelude.{◌≡◌, ℕ, ◌+◌, ◌≤◌, ◌⊎◌, ◌↔◌, List, [], ◌∷◌, ◌++◌, length, All, Contains}
+-- Changes of a graph: when they fit it, and what it is once they are made.
+use Rattle.std.specs.Prelude.{◌≡◌, ℕ, ◌+◌, ◌<◌, ◌≤◌, ◌⊎◌, ◌↔◌, List, [], ◌∷◌, ◌++◌, length, All, AllPairs}
+use Rattle.std.specs.Prelude.{Contains}
 use Rattle.std.specs.BTreeMap.{insert_entry}
-use Rattle.lore_base.specs.declared.edges.Oid.{Oid}
-use Rattle.lore_base.specs.declared.edges.Edge.{Edge}
-use Rattle.lore_base.specs.declared.values.Value.{Value}
-use Rattle.lore_base.specs.declared.change_set.Changes.{Changes}
-use Rattle.lore_base.specs.declared.limits.TheConstants.{NEXT_NUMBER}
+use Rattle.lore_base.specs.Types.{Oid, Edge, Value, Changes, NEXT_NUMBER}
 use Rattle.lore_base.specs.Bytes.{bytes_cmp}
 use Rattle.lore_base.specs.Names.{IsName}
-use Rattle.lore_base.specs.Databases.{OemGraph, IsLive, IsComplex, IsSized, AreAscendingEdges}
+use Rattle.lore_base.specs.Databases.{OemGraph, IsLive, IsComplex, IsSized, AreAscendingEdges, IsReached}
 
 -- the objects are numbered one after another, from `next` on
 abbrev pub AreNumberedFrom : ℕ → List (Oid × Value) → Type 0
@@ -23,8 +21,8 @@ abbrev pub names_after : List (List ℕ × Oid) → List (List ℕ × Oid) → L
 names_after names [] = names
 names_after names (entry ∷ others) = names_after (insert_entry bytes_cmp names entry.0 entry.1) others
 
--- the changes, which only add, fit the graph: they number what they make from the next number on, and name and link
--- what is live
+-- the changes, which only add, fit the graph: they number what they make from the next number on, and name
+-- and link what is live
 pub record Fits (graph : OemGraph) (changes : Changes) : Type 0 where
   pub numbered : AreNumberedFrom graph.next changes.made
   pub room : graph.next + length changes.made ≤ NEXT_NUMBER
@@ -39,10 +37,19 @@ pub record OnlyAdds (changes : Changes) : Type 0 where
   pub removed : changes.removed ≡ []
   pub unnamed : changes.unnamed ≡ []
 
--- the graph after changes that only add
-pub record IsAfter (before : OemGraph) (changes : Changes) (after : OemGraph) : Type 0 where
+-- the graph once changes that only add are made, before anything vanishes
+pub record IsGraphThen (before : OemGraph) (changes : Changes) (after : OemGraph) : Type 0 where
   pub names : after.names ≡ names_after before.names changes.named
   pub objects : after.objects ≡ objects_after before changes
   pub edges_ascend : AreAscendingEdges after.edges
-  pub edges : (edge : Edge) → Contains after.edges edge ↔ (Contains before.edges edge ⊎ Contains changes.added edge)
+  pub edges : (edge : Edge) → Contains after.edges edge
+      ↔ (Contains before.edges edge ⊎ Contains changes.added edge)
   pub next : after.next ≡ before.next + length changes.made
+
+-- the objects that no name walks to once the changes are made, in ascending order
+pub record AreDead (before : OemGraph) (changes : Changes) (dead : List Oid) : Type 0 where
+  pub ascend : AllPairs (λ a b. a.0 < b.0) dead
+  pub vanish : (after : OemGraph) → IsGraphThen before changes after → (oid : Oid) → Contains dead oid
+      → IsLive after.objects oid × (¬ IsReached after.names after.edges oid)
+  pub stay : (after : OemGraph) → IsGraphThen before changes after → (oid : Oid) → IsLive after.objects oid
+      → Contains dead oid ⊎ IsReached after.names after.edges oid

@@ -1,14 +1,10 @@
-use Rattle.std.specs.Prelude.{◌≡◌, ◌≢◌, ℕ, ◌<◌, ◌≤◌, List, [], length, ⊤, All, AllPairs, Contains}
+-- Databases: the graph of objects that names reach, its labels and its limits, and which of them are valid.
+use Rattle.std.specs.Prelude.{◌≡◌, ◌≢◌, ℕ, ◌<◌, ◌≤◌, List, [], length, FitsSigned, All, AllPairs, Contains}
+use Rattle.std.specs.Int.{w64}
 use Rattle.std.specs.declared.cmp.Ordering.TheVariants.{Less}
-use Rattle.lore_base.specs.declared.edges.Oid.{Oid}
-use Rattle.lore_base.specs.declared.edges.Label.{Label}
-use Rattle.lore_base.specs.declared.edges.Edge.{Edge}
-use Rattle.lore_base.specs.declared.values.Value.{Value}
-use Rattle.lore_base.specs.declared.values.Value.TheVariants.{Whole, Chars, Complex}
-use Rattle.lore_base.specs.declared.modes.Mode.{Mode}
-use Rattle.lore_base.specs.declared.modes.Mode.TheVariants.{Auto}
-use Rattle.lore_base.specs.declared.limits.TheConstants.{TEXT_BYTES, WORD_BYTES, OBJECTS, EDGES, NEXT_NUMBER, NODES}
-use Rattle.lore_base.specs.Names.{IsNameTable, IsName}
+use Rattle.lore_base.specs.Types.{Oid, Label, Edge, Value, Whole, Chars, Complex, Mode, Auto}
+use Rattle.lore_base.specs.Types.{TEXT_BYTES, OBJECTS, EDGES, NEXT_NUMBER, NODES}
+use Rattle.lore_base.specs.Names.{IsNameTable, IsName, IsLabel}
 use Rattle.lore_base.specs.Walks.{Walk, edge_cmp}
 
 -- the graph of a database: its names, objects and edges, and the number that the next object gets
@@ -18,23 +14,21 @@ pub record OemGraph : Type 0 where
   pub edges : List Edge
   pub next : ℕ
 
--- a database (Abiteboul et al. 1997): label texts in the order of their numbers, the graph, the limit on the guide's nodes
--- and the plan mode
+-- a database (Abiteboul et al. 1997): label texts in the order of their numbers, the graph, the limit on the
+-- guide's nodes and the plan mode
 pub record Database : Type 0 where
   pub labels : List (List ℕ)
-  pub names : List (List ℕ × Oid)
-  pub objects : List (Oid × Value)
-  pub edges : List Edge
-  pub next : ℕ
+  pub graph : OemGraph
   pub nodes : ℕ
   pub mode : Mode
 
-abbrev pub graph_of : Database → OemGraph
-graph_of db = record { names = db.names; objects = db.objects; edges = db.edges; next = db.next }
+-- the graph of nothing
+abbrev pub new_graph : OemGraph
+new_graph = record { names = []; objects = []; edges = []; next = 1 }
 
 -- the new database has nothing
 abbrev pub new_database : Database
-new_database = record { labels = []; names = []; objects = []; edges = []; next = 1; nodes = NODES; mode = Auto }
+new_database = record { labels = []; graph = new_graph; nodes = NODES; mode = Auto }
 
 -- an object is live where it has a value
 abbrev pub IsLive : List (Oid × Value) → Oid → Type 0
@@ -43,11 +37,11 @@ IsLive objects oid = (value : Value) × Contains objects (oid, value)
 abbrev pub IsComplex : List (Oid × Value) → Oid → Type 0
 IsComplex objects oid = Contains objects (oid, Complex)
 
--- a text value keeps its limit
+-- a number has 64 bits with its sign, and a text value keeps its limit
 abbrev pub IsSized : Value → Type 0
-IsSized (Whole number) = ⊤
+IsSized (Whole number) = FitsSigned w64 number
 IsSized (Chars text) = length text ≤ TEXT_BYTES
-IsSized Complex = ⊤
+IsSized Complex = Unit {0}
 
 -- objects ascend by their numbers, and edges by parent, label and child
 abbrev pub AreAscendingObjects : List (Oid × Value) → Type 0
@@ -55,6 +49,27 @@ AreAscendingObjects objects = AllPairs (λ a b. a.0.0 < b.0.0) objects
 
 abbrev pub AreAscendingEdges : List Edge → Type 0
 AreAscendingEdges edges = AllPairs (λ a b. edge_cmp a b ≡ Less) edges
+
+-- names, objects and edges ascend, and each object has a number from 1 on, below the next number
+pub record IsOrdered (graph : OemGraph) : Type 0 where
+  pub names_ascend : IsNameTable graph.names
+  pub objects_ascend : AreAscendingObjects graph.objects
+  pub objects_numbered : All (λ object. (1 ≤ object.0.0) × (object.0.0 < graph.next)) graph.objects
+  pub edges_ascend : AreAscendingEdges graph.edges
+  pub next_numbered : (1 ≤ graph.next) × (graph.next ≤ NEXT_NUMBER)
+
+-- both ends of an edge are live, and its parent is complex
+pub record IsLinked (objects : List (Oid × Value)) (edge : Edge) : Type 0 where
+  pub parent : IsComplex objects edge.parent
+  pub child : IsLive objects edge.child
+
+-- the graph is in order, its names and values have their forms, and what it names and links is live
+pub record IsWellFormed (graph : OemGraph) : Type 0 where
+  pub ordered : IsOrdered graph
+  pub names_formed : All (λ entry. IsName entry.0) graph.names
+  pub names_live : All (λ entry. IsLive graph.objects entry.1) graph.names
+  pub objects_sized : All (λ object. IsSized object.1) graph.objects
+  pub edges_linked : All (IsLinked graph.objects) graph.edges
 
 -- some name walks to the object
 pub record IsReached (names : List (List ℕ × Oid)) (edges : List Edge) (oid : Oid) : Type 0 where
@@ -64,26 +79,14 @@ pub record IsReached (names : List (List ℕ × Oid)) (edges : List Edge) (oid :
   pub named : Contains names (name, start)
   pub walked : Walk edges start word oid
 
--- both ends of an edge are live, its parent is complex and its label is in the table
-pub record IsSoundEdge (labels : List (List ℕ)) (objects : List (Oid × Value)) (edge : Edge) : Type 0 where
-  pub parent : IsComplex objects edge.parent
-  pub label : edge.label.0 < length labels
-  pub child : IsLive objects edge.child
-
--- the database is valid
+-- the database is valid: distinct labels, a well-formed graph whose edges have labels of the table and whose
+-- objects are all reached from names, and each limit kept
 pub record IsValid (db : Database) : Type 0 where
   pub labels_distinct : AllPairs (λ a b. a ≢ b) db.labels
-  pub labels_sized : All (λ label. (1 ≤ length label) × (length label ≤ WORD_BYTES)) db.labels
-  pub names_ascend : IsNameTable db.names
-  pub names_formed : All (λ entry. IsName entry.0) db.names
-  pub names_live : All (λ entry. IsLive db.objects entry.1) db.names
-  pub objects_ascend : AreAscendingObjects db.objects
-  pub objects_numbered : All (λ object. (1 ≤ object.0.0) × (object.0.0 < db.next)) db.objects
-  pub objects_sized : All (λ object. IsSized object.1) db.objects
-  pub objects_reached : All (λ object. IsReached db.names db.edges object.0) db.objects
-  pub few_objects : length db.objects ≤ OBJECTS
-  pub edges_ascend : AreAscendingEdges db.edges
-  pub edges_sound : All (IsSoundEdge db.labels db.objects) db.edges
-  pub few_edges : length db.edges ≤ EDGES
-  pub next_numbered : (1 ≤ db.next) × (db.next ≤ NEXT_NUMBER)
+  pub labels_formed : All IsLabel db.labels
+  pub well_formed : IsWellFormed db.graph
+  pub labelled : All (λ edge. edge.label.0 < length db.labels) db.graph.edges
+  pub reached : All (λ object. IsReached db.graph.names db.graph.edges object.0) db.graph.objects
+  pub few_objects : length db.graph.objects ≤ OBJECTS
+  pub few_edges : length db.graph.edges ≤ EDGES
   pub nodes_limited : (1 ≤ db.nodes) × (db.nodes ≤ NODES)

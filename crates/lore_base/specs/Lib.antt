@@ -1,5 +1,8 @@
+pub mod Types
 pub mod Bytes
-pub mod Texts
+pub mod inside
+pub mod Quotes
+pub mod Chunks
 pub mod Lists
 pub mod Causes
 pub mod Refusals
@@ -7,5 +10,6 @@ pub mod Names
 pub mod Paths
 pub mod Walks
 pub mod Databases
+pub mod TargetSets
 pub mod ChangeSets
 pub mod MemoryEnds

@@ -1,3 +1,4 @@
+-- Lists that grow at their end or are sorted from a place on.
 use Rattle.std.specs.Prelude.{◌≡◌, ℕ, List, ◌++◌, take, drop}
 use Rattle.std.specs.List.Sorted.{IsPermutation, IsSorted}
 use Rattle.std.specs.declared.cmp.Ordering.{Ordering}
@@ -11,3 +12,8 @@ pub record IsSortedFrom {X : Type 0} (cmp : X → X → Ordering) (from : ℕ) (
   pub before : take from new ≡ take from old
   pub moved : IsPermutation (drop from old) (drop from new)
   pub sorted : IsSorted cmp (drop from new)
+
+-- a list, and for how many more items it has room
+pub record Roomy (X : Type 0) : Type 0 where
+  pub items : List X
+  pub room : ℕ

@@ -1,7 +1,8 @@
+-- Sources and sinks in memory: what contracts see of them.
 use Rattle.std.specs.Prelude.{ℕ, ◌+◌, ◌-◌, ◌^◌, min, List}
 
--- a source over bytes in memory: the bytes left, the most that one read gives, the numbers of the calls that fail, and
--- how many calls were made and how many faults were counted
+-- a source over bytes in memory: the bytes left, the most that one read gives, the numbers of the calls that
+-- fail, and how many calls were made and how many faults were counted
 pub record SourceState : Type 0 where
   pub left : List ℕ
   pub piece : ℕ

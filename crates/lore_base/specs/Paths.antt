@@ -1,7 +1,9 @@
+-- Paths as plain data, without pointers and room.
 use Rattle.std.specs.Prelude.{List, [], ◌∷◌}
-use Rattle.lore_base.specs.declared.paths.Pattern.{Pattern}
+use Rattle.lore_base.specs.Types.{Pattern}
 use Rattle.lore_base.specs.declared.paths.Path.{Path, fold-Path}
-use Rattle.lore_base.specs.declared.paths.Path.TheOpen.{Path-F, PathList-F, Step, Any, Seq, Alt, Opt, Star, Plus}
+use Rattle.lore_base.specs.declared.paths.Path.TheOpen.{Path-F, PathList-F, Step, Any, Seq, Alt, Opt, Star}
+use Rattle.lore_base.specs.declared.paths.Path.TheOpen.{Plus}
 use Rattle.lore_base.specs.declared.paths.Path.TheFolds.{fold-PathList}
 use Rattle.lore_base.specs.declared.paths.Path.TheViews.{out-PathList}
 use Rattle.lore_base.specs.declared.paths.PathList.{PathList}

@@ -1,6 +1,11 @@
+-- The number and the name of each refusal.
 use Rattle.std.specs.Prelude.{ℕ, List, codes}
-use Rattle.lore_base.specs.declared.refusals.Refusal.{Refusal}
-use Rattle.lore_base.specs.declared.refusals.Refusal.TheVariants.{BadToken, RealRefused, NumberRange, TextTooLong, Syntax, Unfinished, UnknownName, UnknownVariable, DuplicateVariable, TooManyRanges, DuplicateLocal, UndefinedLocal, TooManyRows, NotOne, AtomicParent, HasChildren, OidsSpent, TooManyLabels, TooManyNames, TooManyObjects, TooManyEdges, GuideNodes, LimitRange, NotFresh, BadRestore}
+use Rattle.lore_base.specs.Types.{Refusal}
+use Rattle.lore_base.specs.Types.{BadToken, RealRefused, NumberRange, TextTooLong, Syntax, Unfinished}
+use Rattle.lore_base.specs.Types.{UnknownName, UnknownVariable, DuplicateVariable, TooManyRanges}
+use Rattle.lore_base.specs.Types.{DuplicateLocal, UndefinedLocal, TooManyRows, NotOne, AtomicParent}
+use Rattle.lore_base.specs.Types.{HasChildren, OidsSpent, TooManyLabels, TooManyNames, TooManyObjects}
+use Rattle.lore_base.specs.Types.{TooManyEdges, GuideNodes, LimitRange, NotFresh, BadRestore}
 
 -- the number that a reply shows
 abbrev pub number_of : Refusal → ℕ

@@ -4,9 +4,10 @@ use crate::lists::{EdgeBuf, ObjectList, TextList};
 use crate::name_table::Names;
 use std::alloc::Global;
 
-/// The changes that one statement makes, all taken over the state before it (after the basic changes of Chawathe et
-/// al. 1998): objects that are made and given values, edges added and removed, names bound and taken away, and the
-/// texts of labels that the table lacks, in the order of their numbers.
+/// The changes that one statement makes, all taken over the state before it (after the basic
+/// changes of Chawathe et al. 1998): objects that are made and given values, edges added and
+/// removed, names bound and taken away, and the texts of labels that the table lacks, in the order
+/// of their numbers.
 #[derive(Drop)]
 pub struct Changes {
     pub made: ObjectList,

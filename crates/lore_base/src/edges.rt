@@ -6,8 +6,8 @@ pub struct Oid(pub u32);
 #[derive(Clone, Copy, Debug, PartialEq, Eq, PartialOrd, Ord, Hash)]
 pub struct Label(pub u32);
 
-/// A labelled edge of the graph (Abiteboul et al. 1997, the Object Exchange Model). Edges are ordered by parent, then
-/// label, then child.
+/// A labelled edge of the graph (Abiteboul et al. 1997, the Object Exchange Model). Edges are
+/// ordered by parent, then label, then child.
 #[derive(Clone, Copy, Debug, PartialEq, Eq, PartialOrd, Ord, Hash)]
 pub struct Edge {
     pub parent: Oid,

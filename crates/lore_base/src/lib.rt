@@ -1,20 +1,24 @@
-//! The data of an OEM database and its outside world: values, edges, lists of them, names, paths, operators, refusals,
-//! the step counter, and the sources and sinks that a script comes from and its replies go to.
+//! The data of an OEM database and its outside world: values, edges, lists of them, names, paths,
+//! operators, refusals, the step counter, and the sources and sinks that a script comes from and
+//! its replies go to.
 //!
-//! Its `specs/` hold the definitions that several crates cite: walks, names, databases and changes of them.
+//! Its `specs/` hold the definitions that several crates cite: walks, names, databases and changes
+//! of them.
 #![tactic(auto)]
 
 pub use change_set::Changes;
 pub use edges::{Edge, Label, Oid};
+pub use faults::Fault;
 pub use lists::{CallList, EdgeBuf, Listing, ObjectList, OidBuf, TextList, TryCopy};
-pub use memory::NoMemory;
 pub use memory_ends::{MemSink, MemSource, SureSink, SureSource};
 pub use modes::Mode;
 pub use name_table::Names;
+pub use no_memory::NoMemory;
 pub use operators::Op;
 pub use outside::{Failed, Sink, Source};
 pub use paths::{Path, PathList, Pattern};
 pub use refusals::Refusal;
+pub use roomy_list::RoomyList;
 pub use standard_ends::{StdSink, StdSource};
 pub use step_counter::Steps;
 pub use texts::OemText;
@@ -22,18 +26,21 @@ pub use values::Value;
 
 mod change_set;
 mod edges;
+mod faults;
 pub mod limits;
 mod lists;
-mod memory;
 mod memory_ends;
 mod modes;
 mod name_table;
+mod no_memory;
 mod operators;
 mod outside;
 mod paths;
 mod refusals;
+mod roomy_list;
 mod standard_ends;
 mod step_counter;
+mod text_order;
 mod texts;
-mod triples;
+mod tuple_copies;
 mod values;

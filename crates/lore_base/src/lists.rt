@@ -1,22 +1,31 @@
-ghost use Rattle.std.specs.Prelude.{◌≡◌, ℕ, ◌≤◌, List, [], ◌∷◌, ◌++◌, length, take, slice_get, IsTrue, IfOk, OnOk, OnErr, ◌↔◌};
+ghost use Rattle.std.specs.Prelude.{◌≡◌, ◌↔◌, ℕ, ◌≤◌, true, List, [], ◌∷◌, ◌++◌, length, map, take};
+ghost use Rattle.std.specs.Prelude.{slice_get};
+ghost use Rattle.std.specs.Prelude.{AllPairs, Contains, IsTrue, IfOk, OnOk, OnErr};
+ghost use Rattle.std.specs.declared.cmp.Ordering.TheVariants.{Less};
+ghost use Rattle.lore_base.specs.Types.{Oid as TheOid, Label as TheLabel, Edge as TheEdge};
 ghost use Rattle.std.specs.Option.{option_copied};
 ghost use Rattle.lore_base.specs.Lists.{IsSortedFrom};
 
 use crate::edges::{Edge, Label, Oid};
-use crate::memory::NoMemory;
+use crate::no_memory::NoMemory;
 use crate::texts::OemText;
 use crate::values::Value;
 use std::alloc::Global;
 use std::marker::Model;
 
-/// A copy that may be refused for want of memory. It equals its source; the room of its lists is left aside.
+/// A copy that may be refused for want of memory. It stands for the same as its source.
 pub trait TryCopy: Sized {
+    /// What a value stands for: itself, or the plain data of a value that holds pointers and room.
+    ghost Seen: { Type 0 };
+
+    ghost seen: { Self → Seen };
+
     fn try_copy(&self, alloc: Global) -> Result<Self, NoMemory>
-        ensures { IfOk result (λ copy. copy ≡ self.now) };
+        ensures { IfOk result (λ copy. seen copy ≡ seen self.now) };
 }
 
 /// A list that grows at its end, seen by contracts as the list of its items.
-#[derive(Drop)]
+#[derive(Debug, Drop)]
 pub struct Listing<T> {
     items: Vec<T>,
 }
@@ -37,6 +46,15 @@ impl<T> Listing<T> {
         Listing {
             items: Vec::new(alloc),
         }
+    }
+
+    /// The empty list, with room for this many items.
+    pub fn with_capacity(alloc: Global, room: usize) -> Result<Self, NoMemory>
+        ensures { IfOk result (λ list. list ≡ []) }
+    {
+        Ok(Listing {
+            items: Vec::with_capacity(alloc, room)?,
+        })
     }
 
     /// The number of items.
@@ -99,12 +117,24 @@ impl<T: Copy> Listing<T> {
 }
 
 impl<T: Ord + Copy> Listing<T> {
-    /// Puts the items from place `from` on into ascending order and leaves the earlier ones. Takes no memory.
+    /// Puts the items from place `from` on into ascending order and leaves the earlier ones. Takes
+    /// no memory.
     pub fn sort_from(&mut self, from: usize)
         requires { from ≤ length self.old }
         ensures { IsSortedFrom T.cmp from self.old self.new }
     {
         sort_tail(self.items.as_mut_slice(), from);
+    }
+
+    /// Puts the items into ascending order, each once. Takes no memory.
+    pub fn sort_set(&mut self)
+        ensures ascend { AllPairs (λ a b. T.cmp a b ≡ Less) self.new }
+        ensures members { ((a b : T) → T.eq a b ≡ true → a ≡ b)
+            → (item : T) → Contains self.new item ↔ Contains self.old item }
+        ensures few { length self.new ≤ length self.old }
+    {
+        self.items.sort_unstable();
+        self.items.dedup();
     }
 }
 
@@ -116,6 +146,10 @@ fn sort_tail<T: Ord>(items: &mut [T], from: usize)
 }
 
 impl<T: TryCopy + Drop> TryCopy for Listing<T> {
+    ghost Seen = { List T.Seen };
+
+    ghost seen = { λ list. map T.seen list };
+
     fn try_copy(&self, alloc: Global) -> Result<Self, NoMemory> {
         let mut items = Vec::with_capacity(alloc, self.items.len())?;
         'items: for item in &self.items {
@@ -126,33 +160,42 @@ impl<T: TryCopy + Drop> TryCopy for Listing<T> {
 }
 
 impl TryCopy for u64 {
+    ghost Seen = { ℕ };
+
+    ghost seen = { λ number. number };
+
     fn try_copy(&self, _alloc: Global) -> Result<Self, NoMemory> {
         Ok(*self)
     }
 }
 
 impl TryCopy for Oid {
+    ghost Seen = { TheOid };
+
+    ghost seen = { λ oid. oid };
+
     fn try_copy(&self, _alloc: Global) -> Result<Self, NoMemory> {
         Ok(*self)
     }
 }
 
 impl TryCopy for Label {
+    ghost Seen = { TheLabel };
+
+    ghost seen = { λ label. label };
+
     fn try_copy(&self, _alloc: Global) -> Result<Self, NoMemory> {
         Ok(*self)
     }
 }
 
 impl TryCopy for Edge {
+    ghost Seen = { TheEdge };
+
+    ghost seen = { λ edge. edge };
+
     fn try_copy(&self, _alloc: Global) -> Result<Self, NoMemory> {
         Ok(*self)
-    }
-}
-
-impl<A: TryCopy + Drop, B: TryCopy> TryCopy for (A, B) {
-    fn try_copy(&self, alloc: Global) -> Result<Self, NoMemory> {
-        let first = self.0.try_copy(alloc)?;
-        Ok((first, self.1.try_copy(alloc)?))
     }
 }
 

@@ -1,12 +1,14 @@
-ghost use Rattle.std.specs.Prelude.{◌≡◌, ℕ, ◌+◌, ◌<◌, ◌≤◌, ◌↔◌, ◌⊎◌, [], length, take, min, Some, None, IsOk, IsErr, IfOk, OnErr, Contains};
+ghost use Rattle.std.specs.Prelude.{◌≡◌, ℕ, ◌+◌, ◌<◌, ◌≤◌, ◌↔◌, ◌⊎◌, [], length, take, min, Some};
+ghost use Rattle.std.specs.Prelude.{None, IsOk, IsErr, IfOk, OnErr, Contains};
 ghost use Rattle.std.specs.Io.{ReadsAtMost};
 ghost use Rattle.std.specs.Io.KnownBytes.{ReadConsumes, WriteAppends};
 ghost use Rattle.lore_base.specs.Causes.{HasCause, Accepts};
 ghost use Rattle.lore_base.specs.MemoryEnds.{call_after};
 
 use crate::lists::CallList;
-use crate::memory::NoMemory;
+use crate::no_memory::NoMemory;
 use crate::outside::{Failed, Sink, Source};
+use crate::roomy_list::RoomyList;
 use crate::texts::OemText;
 use std::alloc::Global;
 use std::marker::Model;
@@ -28,14 +30,20 @@ impl Model for MemSource {
 
     ghost Value = { SourceState };
 
-    ghost view = { λ s. record { left = drop s.at s.bytes; piece = s.piece; fails = s.fails; calls = s.calls; faults = s.faults } };
+    ghost view = { λ s. record {
+      left = drop s.at s.bytes;
+      piece = s.piece;
+      fails = s.fails;
+      calls = s.calls;
+      faults = s.faults;
+    } };
 
     ghost invariant = { λ s. (1 ≤ s.piece) × (s.at ≤ length s.bytes) };
 }
 
 impl MemSource {
-    /// A source that gives `bytes`, at most `piece` of them at a read, and fails at the calls whose numbers stand in
-    /// `fails`, counted from 1.
+    /// A source that gives `bytes`, at most `piece` of them at a read, and fails at the calls whose
+    /// numbers stand in `fails`, counted from 1.
     pub fn new(bytes: OemText, piece: u32, fails: CallList) -> MemSource
         requires { 1 ≤ piece }
         ensures left { result.left ≡ bytes }
@@ -60,6 +68,7 @@ impl Source for MemSource {
 
     ghost faults = { λ s. s.faults };
 
+    #[tactic(auto, using(crate::proofs::CauseLaws::rose))]
     fn read(&mut self, buf: &mut [u8]) -> Result<usize, Failed>
         ensures bound { ReadsAtMost result buf.new }
         ensures bytes { ReadConsumes (Some self.old.left) (Some self.new.left) result buf.new }
@@ -138,7 +147,8 @@ impl Source for SureSource {
     }
 }
 
-// Puts bytes from the front of `left` at the front of `buf`, as many as `piece`, both of them and no more allow.
+// Puts bytes from the front of `left` at the front of `buf`, as many as `piece`, both of them and
+// no more allow.
 fn give(left: &[u8], piece: u32, buf: &mut [u8]) -> usize
     ensures count { result ≡ min piece (min (length buf.new) (length left.now)) }
     ensures front { take result buf.new ≡ take result left.now }
@@ -151,7 +161,7 @@ fn give(left: &[u8], piece: u32, buf: &mut [u8]) -> usize
 /// A sink into memory, with room for a fixed number of bytes, which fails at chosen calls.
 #[derive(Drop)]
 pub struct MemSink {
-    bytes: Vec<u8>,
+    bytes: RoomyList<u8>,
     room: usize,
     piece: u32,
     fails: CallList,
@@ -160,20 +170,27 @@ pub struct MemSink {
 }
 
 impl Model for MemSink {
-    ghost use Rattle.std.specs.Prelude.{◌+◌, ◌≤◌, vec_len, vec_capacity};
+    ghost use Rattle.std.specs.Prelude.{◌≤◌};
     ghost use Rattle.lore_base.specs.MemoryEnds.{SinkState};
 
     ghost Value = { SinkState };
 
-    ghost view = { λ s. record { written = s.bytes.items; room = s.room; piece = s.piece; fails = s.fails; calls = s.calls; faults = s.faults } };
+    ghost view = { λ s. record {
+      written = s.bytes.items;
+      room = s.room;
+      piece = s.piece;
+      fails = s.fails;
+      calls = s.calls;
+      faults = s.faults;
+    } };
 
-    ghost invariant = { λ s. (1 ≤ s.piece) × (vec_len s.bytes + s.room ≤ vec_capacity s.bytes) };
+    ghost invariant = { λ s. (1 ≤ s.piece) × (s.room ≤ s.bytes.room) };
 }
 
 impl MemSink {
-    /// A sink that keeps up to `room` bytes, for which it takes the memory at once. A write appends at most `piece`
-    /// bytes. It fails where its number, counted from 1, stands in `fails`, and where the room is used up and its piece
-    /// isn't empty.
+    /// A sink that keeps up to `room` bytes, for which it takes the memory at once. A write appends
+    /// at most `piece` bytes. It fails where its number, counted from 1, stands in `fails`, and
+    /// where the room is used up and its piece isn't empty.
     pub fn new(alloc: Global, room: usize, piece: u32, fails: CallList) -> Result<MemSink, NoMemory>
         requires { 1 ≤ piece }
         ensures written { IfOk result (λ sink. sink.written ≡ []) }
@@ -184,7 +201,7 @@ impl MemSink {
         ensures faults { IfOk result (λ sink. sink.faults ≡ 0) }
     {
         Ok(MemSink {
-            bytes: Vec::with_capacity(alloc, room)?,
+            bytes: RoomyList::with_room(alloc, room)?,
             room,
             piece,
             fails,
@@ -206,9 +223,11 @@ impl Sink for MemSink {
 
     ghost faults = { λ s. s.faults };
 
+    #[tactic(auto, using(crate::proofs::CauseLaws::rose))]
     fn write(&mut self, piece: &[u8]) -> Result<usize, Failed>
         ensures bound { Accepts result piece.now }
-        ensures bytes { WriteAppends (Some self.old.written) (Some self.new.written) result piece.now }
+        ensures bytes { WriteAppends
+            (Some self.old.written) (Some self.new.written) result piece.now }
         ensures cause { HasCause self.old.faults self.new.faults result }
 
         ensures fails { IsErr result ↔ (Contains self.old.fails (call_after self.old.calls)
@@ -227,9 +246,7 @@ impl Sink for MemSink {
             return Err(Failed);
         }
         let count = (self.piece as usize).min(piece.len().min(self.room));
-        let Ok(()) = self.bytes.extend_from_slice(&piece[..count]) else {
-            unreachable!()
-        };
+        self.bytes.append_reserved(&piece[..count]);
         self.room -= count;
         Ok(count)
     }

@@ -1,12 +1,13 @@
 ghost use Rattle.std.specs.Prelude.{◌≡◌, ℕ, List, [], length, IfOk, OnOk, OnErr};
 ghost use Rattle.std.specs.BTreeMap.{insert_entry};
+ghost use Rattle.lore_base.specs.Types.{Oid as TheOid};
 ghost use Rattle.lore_base.specs.Bytes.{bytes_cmp};
 ghost use Rattle.lore_base.specs.Names.{object_of, IsNameTable};
 ghost use Rattle.lore_base.specs.ChangeSets.{names_after};
 
 use crate::edges::Oid;
 use crate::lists::TryCopy;
-use crate::memory::NoMemory;
+use crate::no_memory::NoMemory;
 use crate::texts::OemText;
 use std::alloc::Global;
 use std::collections::BTreeMap;
@@ -75,6 +76,10 @@ impl Names {
 }
 
 impl TryCopy for Names {
+    ghost Seen = { List (List ℕ × TheOid) };
+
+    ghost seen = { λ names. names };
+
     fn try_copy(&self, _alloc: Global) -> Result<Self, NoMemory> {
         Ok(Names {
             objects: self.objects.clone()?,

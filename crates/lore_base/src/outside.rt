@@ -18,8 +18,8 @@ pub trait Source {
     /// A count of the reads that failed. It never falls, rises at a fault, and stops at 2^64 - 1.
     ghost faults: { Self → ℕ };
 
-    /// Puts bytes from the front of what is left at the front of `buf` and gives their number. 0 for a `buf` that isn't
-    /// empty means the end. A fault takes nothing and is counted.
+    /// Puts bytes from the front of what is left at the front of `buf` and gives their number. 0
+    /// for a `buf` that isn't empty means the end. A fault takes nothing and is counted.
     fn read(&mut self, buf: &mut [u8]) -> Result<usize, Failed>
         ensures bound { ReadsAtMost result buf.new }
         ensures bytes { ReadConsumes (left self.old) (left self.new) result buf.new }
@@ -34,8 +34,8 @@ pub trait Sink {
     /// A count of the writes that failed. It never falls, rises at a fault, and stops at 2^64 - 1.
     ghost faults: { Self → ℕ };
 
-    /// Appends bytes from the front of `piece` and gives their number, at least 1 for a `piece` that isn't empty. A
-    /// fault appends nothing and is counted.
+    /// Appends bytes from the front of `piece` and gives their number, at least 1 for a `piece`
+    /// that isn't empty. A fault appends nothing and is counted.
     fn write(&mut self, piece: &[u8]) -> Result<usize, Failed>
         ensures bound { Accepts result piece.now }
         ensures bytes { WriteAppends (written self.old) (written self.new) result piece.now }

@@ -1,9 +1,11 @@
-ghost use Rattle.std.specs.Prelude.{◌≡◌, [], ◌∷◌, ◌++◌, length, map, slice_get, IfOk, OnOk, OnErr};
+ghost use Rattle.std.specs.Prelude.{◌≡◌, List, [], ◌∷◌, ◌++◌, length, map, slice_get, IfOk, OnOk};
+ghost use Rattle.std.specs.Prelude.{OnErr, MatchOption};
 ghost use Rattle.std.specs.Option.{option_copied};
-ghost use Rattle.lore_base.specs.Paths.{path_tree, path_trees, parts_of};
+ghost use Rattle.lore_base.specs.Types.{Pattern as ThePattern};
+ghost use Rattle.lore_base.specs.Paths.{PathTree, path_tree, path_trees, parts_of};
 
 use crate::lists::TryCopy;
-use crate::memory::NoMemory;
+use crate::no_memory::NoMemory;
 use crate::texts::OemText;
 use std::alloc::Global;
 
@@ -17,6 +19,10 @@ pub enum Pattern {
 }
 
 impl TryCopy for Pattern {
+    ghost Seen = { ThePattern };
+
+    ghost seen = { λ pattern. pattern };
+
     fn try_copy(&self, alloc: Global) -> Result<Self, NoMemory> {
         match self {
             Pattern::Plain(text) => Ok(Pattern::Plain(text.try_copy(alloc)?)),
@@ -52,12 +58,23 @@ pub struct PathList {
     items: Vec<Path>,
 }
 
-impl Path {
-    /// A copy, which stands for the same tree.
-    pub fn try_copy(&self, alloc: Global) -> Result<Path, NoMemory>
-        ensures { IfOk result (λ copy. path_tree copy ≡ path_tree self.now) }
-    {
-        copy_path(self, alloc)
+impl TryCopy for Path {
+    ghost Seen = { PathTree };
+
+    ghost seen = { path_tree };
+
+    fn try_copy(&self, alloc: Global) -> Result<Self, NoMemory> {
+        copy_path(alloc, self)
+    }
+}
+
+impl TryCopy for PathList {
+    ghost Seen = { List PathTree };
+
+    ghost seen = { path_trees };
+
+    fn try_copy(&self, alloc: Global) -> Result<Self, NoMemory> {
+        copy_parts(alloc, self)
     }
 }
 
@@ -98,43 +115,45 @@ impl PathList {
     /// Puts a part behind those that are there. Where memory is refused the list stays as it is.
     pub fn push(&mut self, item: Path) -> Result<(), NoMemory>
         ensures ok { OnOk result (parts_of self.new ≡ parts_of self.old ++ item ∷ []) }
-        ensures trees { OnOk result (path_trees self.new ≡ path_trees self.old ++ path_tree item ∷ []) }
+        ensures trees { OnOk result
+            (path_trees self.new ≡ path_trees self.old ++ path_tree item ∷ []) }
         ensures err { OnErr result (parts_of self.new ≡ parts_of self.old) }
     {
         self.items.push(item)?;
         Ok(())
     }
 
-    /// A copy, whose parts stand for the same trees.
-    pub fn try_copy(&self, alloc: Global) -> Result<PathList, NoMemory>
-        ensures { IfOk result (λ copy. path_trees copy ≡ path_trees self.now) }
+    /// Takes the last part away; None exactly where there is none.
+    pub fn pop(&mut self) -> Option<Path>
+        ensures { let old = path_trees self.old in
+            MatchOption result (old ≡ []) (λ last. old ≡ path_trees self.new ++ path_tree last ∷ []) }
     {
-        copy_parts(self, alloc)
+        self.items.pop()
     }
 }
 
 #[cycle(copy)]
-fn copy_path(path: &Path, alloc: Global) -> Result<Path, NoMemory>
+fn copy_path(alloc: Global, path: &Path) -> Result<Path, NoMemory>
     ensures { IfOk result (λ copy. path_tree copy ≡ path_tree path.now) }
 {
     match path {
         Path::Step(pattern) => Ok(Path::Step(pattern.try_copy(alloc)?)),
         Path::Any => Ok(Path::Any),
-        Path::Seq(parts) => Ok(Path::Seq(copy_parts(parts, alloc)?)),
-        Path::Alt(parts) => Ok(Path::Alt(copy_parts(parts, alloc)?)),
-        Path::Opt(part) => Ok(Path::Opt(Box::new(alloc, copy_path(part, alloc)?)?)),
-        Path::Star(part) => Ok(Path::Star(Box::new(alloc, copy_path(part, alloc)?)?)),
-        Path::Plus(part) => Ok(Path::Plus(Box::new(alloc, copy_path(part, alloc)?)?)),
+        Path::Seq(parts) => Ok(Path::Seq(copy_parts(alloc, parts)?)),
+        Path::Alt(parts) => Ok(Path::Alt(copy_parts(alloc, parts)?)),
+        Path::Opt(part) => Ok(Path::Opt(Box::new(alloc, copy_path(alloc, part)?)?)),
+        Path::Star(part) => Ok(Path::Star(Box::new(alloc, copy_path(alloc, part)?)?)),
+        Path::Plus(part) => Ok(Path::Plus(Box::new(alloc, copy_path(alloc, part)?)?)),
     }
 }
 
 #[cycle(copy)]
-fn copy_parts(parts: &PathList, alloc: Global) -> Result<PathList, NoMemory>
+fn copy_parts(alloc: Global, parts: &PathList) -> Result<PathList, NoMemory>
     ensures { IfOk result (λ copy. path_trees copy ≡ path_trees parts.now) }
 {
     let mut items = Vec::with_capacity(alloc, parts.items.len())?;
     'parts: for part in &parts.items {
-        items.push(copy_path(part, alloc)?)?;
+        items.push(copy_path(alloc, part)?)?;
     }
     Ok(PathList { items })
 }

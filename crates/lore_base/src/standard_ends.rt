@@ -4,8 +4,8 @@ use crate::outside::{Failed, Sink, Source};
 use std::io::{Read, Write};
 use std::marker::Model;
 
-/// A source over a reader of the system, as standard input. It tells nothing of the bytes, and contracts see it as its
-/// count of faults.
+/// A source over a reader of the system, as standard input. It tells nothing of the bytes, and
+/// contracts see it as its count of faults.
 #[derive(Drop)]
 pub struct StdSource<R: Read> {
     reader: R,
@@ -34,6 +34,7 @@ impl<R: Read> Source for StdSource<R> {
 
     ghost faults = { λ s. s };
 
+    #[tactic(auto, using(crate::proofs::CauseLaws::rose))]
     fn read(&mut self, buf: &mut [u8]) -> Result<usize, Failed> {
         match self.reader.read(buf) {
             Ok(count) => Ok(count),
@@ -45,8 +46,8 @@ impl<R: Read> Source for StdSource<R> {
     }
 }
 
-/// A sink over a writer of the system, as standard output. It tells nothing of the bytes, and takes an answer of 0 for a
-/// piece that isn't empty as a fault. Contracts see it as its count of faults.
+/// A sink over a writer of the system, as standard output. It tells nothing of the bytes, and takes
+/// an answer of 0 for a piece that isn't empty as a fault. Contracts see it as its count of faults.
 #[derive(Drop)]
 pub struct StdSink<W: Write> {
     writer: W,
@@ -75,6 +76,7 @@ impl<W: Write> Sink for StdSink<W> {
 
     ghost faults = { λ s. s };
 
+    #[tactic(auto, using(crate::proofs::CauseLaws::rose))]
     fn write(&mut self, piece: &[u8]) -> Result<usize, Failed> {
         match self.writer.write(piece) {
             Ok(count) if 0 < count || piece.is_empty() => Ok(count),

@@ -1,11 +1,13 @@
 ghost use Rattle.std.specs.Prelude.{◌≡◌, IfOk};
+ghost use Rattle.lore_base.specs.Types.{Value as TheValue};
 
 use crate::lists::TryCopy;
-use crate::memory::NoMemory;
+use crate::no_memory::NoMemory;
 use crate::texts::OemText;
 use std::alloc::Global;
 
-/// The value of an object: atomic, a whole number or a text, or complex, and then its edges are its value.
+/// The value of an object: atomic, a whole number or a text, or complex, and then its edges are its
+/// value.
 #[derive(Debug, Drop)]
 pub enum Value {
     Whole(i64),
@@ -14,6 +16,10 @@ pub enum Value {
 }
 
 impl TryCopy for Value {
+    ghost Seen = { TheValue };
+
+    ghost seen = { λ value. value };
+
     fn try_copy(&self, alloc: Global) -> Result<Self, NoMemory> {
         match self {
             Value::Whole(number) => Ok(Value::Whole(*number)),

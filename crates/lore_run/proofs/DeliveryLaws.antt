@@ -5,7 +5,7 @@ use Rattle.std.specs.Io.KnownBytes.{Appends}
 use Rattle.std.proofs.lemmas.List.{append-nil, append_assoc, length-append}
 use Rattle.std.proofs.lemmas.Result.{MatchResult-from_err}
 use Rattle.std.proofs.Math.Seq.{take-append_seam}
-use Rattle.lore_run.specs.Deliveries.{Progress, Takes, BreaksOff, Puts, AppendsProperFront}
+use Rattle.lore_run.specs.inside.Deliveries.{Delivery, delivery, Takes, Breaks, Puts, AppendsProperFront}
 
 pub Appends-none : (known : Option (List ℕ)) → Appends known known []
 Appends-none None = tt
@@ -25,8 +25,9 @@ two_parts held xs middle ys sent more rest first second =
     ∙ ap (λ l. l ++ ys) first ∙ append_assoc held xs ys
 
 -- one part of the bytes, then the other
-pub Takes-then : {a b c : Progress} {xs ys : List ℕ} → Takes a xs b → Takes b ys c → Takes a (xs ++ ys) c
+pub Takes-then : {a b c : Delivery} {xs ys : List ℕ} → Takes a xs b → Takes b ys c → Takes a (xs ++ ys) c
 Takes-then {a} {b} {c} {xs} {ys} g h = record {
+  same = h.same ∙ g.same;
   sent = g.sent ++ h.sent;
   written = Appends-then a.written b.written c.written g.sent h.sent g.written h.written;
   whole = two_parts a.held xs b.held ys g.sent h.sent c.held g.whole h.whole;
@@ -34,8 +35,9 @@ Takes-then {a} {b} {c} {xs} {ys} g h = record {
 }
 
 -- a fault in the first part is one of both
-pub BreaksOff-early : {a b : Progress} {xs : List ℕ} (ys : List ℕ) → BreaksOff a xs b → BreaksOff a (xs ++ ys) b
-BreaksOff-early {a} {b} {xs} ys g = record {
+pub Breaks-early : {a b : Delivery} {xs : List ℕ} (ys : List ℕ) → Breaks a xs b → Breaks a (xs ++ ys) b
+Breaks-early {a} {b} {xs} ys g = record {
+  same = g.same;
   sent = g.sent;
   unsent = g.unsent ++ ys;
   written = g.written;
@@ -46,8 +48,9 @@ BreaksOff-early {a} {b} {xs} ys g = record {
 }
 
 -- so is one in the second part
-pub BreaksOff-late : {a b c : Progress} {xs ys : List ℕ} → Takes a xs b → BreaksOff b ys c → BreaksOff a (xs ++ ys) c
-BreaksOff-late {a} {b} {c} {xs} {ys} g h = record {
+pub Breaks-late : {a b c : Delivery} {xs ys : List ℕ} → Takes a xs b → Breaks b ys c → Breaks a (xs ++ ys) c
+Breaks-late {a} {b} {c} {xs} {ys} g h = record {
+  same = h.same ∙ g.same;
   sent = g.sent ++ h.sent;
   unsent = h.unsent;
   written = Appends-then a.written b.written c.written g.sent h.sent g.written h.written;
@@ -58,42 +61,57 @@ BreaksOff-late {a} {b} {c} {xs} {ys} g h = record {
 }
 
 -- one part was taken, and a call puts the other
-pub Puts-then : {A E : Type 0} {a b : Progress} {xs : List ℕ} (c : Progress) (ys : List ℕ) (result : Result A E) → Takes a xs b → Puts b ys c result → Puts a (xs ++ ys) c result
+pub Puts-then : {A E : Type 0} {a b : Delivery} {xs : List ℕ} (c : Delivery) (ys : List ℕ) (result : Result A E) → Takes a xs b → Puts b ys c result → Puts a (xs ++ ys) c result
 Puts-then c ys (Ok x) g h = Takes-then g h
-Puts-then c ys (Err e) g h = BreaksOff-late g h
+Puts-then c ys (Err e) g h = Breaks-late g h
 
 -- the error of a call is handed on
-pub Puts-broken : {A E : Type 0} {a b : Progress} {xs : List ℕ} (result : Result A E) → IsErr result → BreaksOff a xs b → Puts a xs b result
-Puts-broken {a = a} {b = b} {xs = xs} result failed h = MatchResult-from_err result (λ _. Takes a xs b) (λ _. BreaksOff a xs b) failed (λ _. h)
+pub Puts-broken : {A E : Type 0} {a b : Delivery} {xs : List ℕ} (result : Result A E) → IsErr result → Breaks a xs b → Puts a xs b result
+Puts-broken {a = a} {b = b} {xs = xs} result failed h = MatchResult-from_err result (λ _. Takes a xs b) (λ _. Breaks a xs b) failed (λ _. h)
 
 -- the same bytes, written otherwise
-pub Takes-same : {a b : Progress} {xs ys : List ℕ} → xs ≡ ys → Takes a xs b → Takes a ys b
+pub Takes-same : {a b : Delivery} {xs ys : List ℕ} → xs ≡ ys → Takes a xs b → Takes a ys b
 Takes-same {a} {b} e g = subst (λ (l : List ℕ). Takes a l b) e g
 
-pub BreaksOff-same : {a b : Progress} {xs ys : List ℕ} → xs ≡ ys → BreaksOff a xs b → BreaksOff a ys b
-BreaksOff-same {a} {b} e g = subst (λ (l : List ℕ). BreaksOff a l b) e g
+pub Breaks-same : {a b : Delivery} {xs ys : List ℕ} → xs ≡ ys → Breaks a xs b → Breaks a ys b
+Breaks-same {a} {b} e g = subst (λ (l : List ℕ). Breaks a l b) e g
 
-pub Puts-same : {A E : Type 0} (a b : Progress) (xs ys : List ℕ) (result : Result A E) → xs ≡ ys → Puts a xs b result → Puts a ys b result
+pub Puts-same : {A E : Type 0} (a b : Delivery) (xs ys : List ℕ) (result : Result A E) → xs ≡ ys → Puts a xs b result → Puts a ys b result
 Puts-same a b xs ys result e h = subst (λ (l : List ℕ). Puts a l b result) e h
 
 -- bytes that the buffer holds behind the others
-pub Takes-held : (held more : List ℕ) (w : Option (List ℕ)) (f : ℕ)
-    → Takes (record { written = w; held = held; faults = f }) more (record { written = w; held = held ++ more; faults = f })
-Takes-held held more w f = record { sent = []; written = Appends-none w; whole = refl; faultless = refl }
+pub Takes-held : (sink : ℕ) (held more : List ℕ) (w : Option (List ℕ)) (f : ℕ) → Takes (delivery sink w held f) more (delivery sink w (held ++ more) f)
+Takes-held sink held more w f = record { same = refl; sent = []; written = Appends-none w; whole = refl; faultless = refl }
 
 -- a write of a front of what is held
-pub Takes-written : {a : Progress} {xs held : List ℕ} {w : Option (List ℕ)} {f : ℕ} (front rest : List ℕ) (v : Option (List ℕ)) (e : ℕ)
-    → Takes a xs (record { written = w; held = held; faults = f }) → Appends w v front → front ++ rest ≡ held → e ≡ f
-    → Takes a xs (record { written = v; held = rest; faults = e })
-Takes-written {a} {xs} {held} {w} {f} front rest v e g written split same = record {
+pub Takes-written : {a : Delivery} {xs held : List ℕ} {s : ℕ} {w : Option (List ℕ)} {f : ℕ} (front rest : List ℕ) (v : Option (List ℕ)) (e : ℕ)
+    → Takes a xs (delivery s w held f) → Appends w v front → front ++ rest ≡ held → e ≡ f → Takes a xs (delivery s v rest e)
+Takes-written {a} {xs} {held} {s} {w} {f} front rest v e g written split same = record {
+  same = g.same;
   sent = g.sent ++ front;
   written = Appends-then a.written w v g.sent front g.written written;
   whole = append_assoc g.sent front rest ∙ ap (λ l. g.sent ++ l) split ∙ g.whole;
   faultless = same ∙ g.faultless;
 }
 
+-- bytes that go to a sink, whatever its name
+pub Puts-named : {A E : Type 0} (name other new_name : ℕ) (w v : Option (List ℕ)) (xs held rest : List ℕ) (f e : ℕ) (result : Result A E) → new_name ≡ name
+    → Puts (delivery other w held f) xs (delivery other v rest e) result → Puts (delivery name w held f) xs (delivery new_name v rest e) result
+Puts-named name other new_name w v xs held rest f e (Ok x) same g =
+    record { same = same; sent = g.sent; written = g.written; whole = g.whole; faultless = g.faultless }
+Puts-named name other new_name w v xs held rest f e (Err x) same g = record {
+  same = same;
+  sent = g.sent;
+  unsent = g.unsent;
+  written = g.written;
+  whole = g.whole;
+  some_unsent = g.some_unsent;
+  later = g.later;
+  counted = g.counted;
+}
+
 -- a fault behind an empty buffer leaves a proper front of the bytes
-pub AppendsProperFront-broken : {a b : Progress} {xs : List ℕ} → a.held ≡ [] → BreaksOff a xs b → AppendsProperFront a.written b.written xs
+pub AppendsProperFront-broken : {a b : Delivery} {xs : List ℕ} → a.held ≡ [] → Breaks a xs b → AppendsProperFront a.written b.written xs
 AppendsProperFront-broken {a} {b} {xs} empty g =
     let whole : g.sent ++ g.unsent ≡ xs = g.whole ∙ ap (λ l. l ++ xs) empty in
     let some = g.some_unsent in
@@ -104,7 +122,7 @@ AppendsProperFront-broken {a} {b} {xs} empty g =
       written = subst (λ (l : List ℕ). Appends a.written b.written l) front g.written;
     }
 
-pub OnErr-broken : {A E : Type 0} (a b : Progress) (xs : List ℕ) (result : Result A E) → a.held ≡ [] → Puts a xs b result
+pub OnErr-broken : {A E : Type 0} (a b : Delivery) (xs : List ℕ) (result : Result A E) → a.held ≡ [] → Puts a xs b result
     → OnErr result (AppendsProperFront a.written b.written xs)
 OnErr-broken a b xs (Ok x) empty h = tt
 OnErr-broken a b xs (Err e) empty h = AppendsProperFront-broken empty h

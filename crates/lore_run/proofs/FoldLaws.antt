@@ -1,25 +1,21 @@
--- The plain data of the program's trees, one member at a time.
+-- The members of a literal as plain data, one at a time.
 use Rattle.std.proofs.Common.{◌≡◌, ℕ, ◌+◌, ◌<◌, ◌≤◌, List, ◌∷◌, map, drop, length, get_or, sym, ap, ◌∙◌}
 use Rattle.std.proofs.lemmas.List.{drop_more, drop_all}
-use Rattle.lore_run.specs.declared.trees.Literal.TheFolds as folds
-use Rattle.lore_run.specs.declared.trees.Literal.TheViews.{out-MemberList}
-use Rattle.lore_run.specs.declared.trees.Member.{Member}
-use Rattle.lore_run.specs.declared.trees.MemberList.{MemberList}
-use Rattle.lore_run.specs.Trees.{Tree, Branches, branch, none, tree_of, branch_of, branches_of, branches_from, literal_step, member_step, list_step}
+use Rattle.lorel_ast.specs.declared.literals.Literal.TheFolds as folds
+use Rattle.lorel_ast.specs.declared.literals.Member.{Member}
+use Rattle.lorel_ast.specs.Trees.{LiteralTree, none, more, literal_tree, member_tree, members_from, literal_step, member_step, members_step}
 
-pub branch_of-member : (m : Member) → branch_of m ≡ (m.label, tree_of m.literal)
-branch_of-member m = folds.fold_out-Member Tree (List ℕ × Tree) Branches literal_step member_step list_step m
-
-pub branches_of-list : (list : MemberList) → branches_of list ≡ branches_from (map branch_of (out-MemberList list).members.items)
-branches_of-list list = folds.fold_out-MemberList Tree (List ℕ × Tree) Branches literal_step member_step list_step list
+pub member_tree-parts : (m : Member) → member_tree m ≡ (m.label, literal_tree m.literal)
+member_tree-parts m =
+    folds.fold_out-Member LiteralTree (List ℕ × LiteralTree) (List (List ℕ × LiteralTree)) literal_step member_step members_step m
 
 -- the members that are left, where the next one is known
 pub left_more : (members : List Member) (i : ℕ) (m : Member) → i < length members → m ≡ get_or members i m
-    → branches_from (map branch_of (drop i members)) ≡ branch m.label (tree_of m.literal) (branches_from (map branch_of (drop (i + 1) members)))
+    → members_from (map member_tree (drop i members)) ≡ more m.label (literal_tree m.literal) (members_from (map member_tree (drop (i + 1) members)))
 left_more members i m low is =
-    ap (λ l. branches_from (map branch_of l)) (drop_more members i m low)
-    ∙ ap (λ (x : Member). branches_from (branch_of x ∷ map branch_of (drop (i + 1) members))) (sym is)
-    ∙ ap (λ (x : List ℕ × Tree). branches_from (x ∷ map branch_of (drop (i + 1) members))) (branch_of-member m)
+    ap (λ l. members_from (map member_tree l)) (drop_more members i m low)
+    ∙ ap (λ (x : Member). members_from (member_tree x ∷ map member_tree (drop (i + 1) members))) (sym is)
+    ∙ ap (λ (x : List ℕ × LiteralTree). members_from (x ∷ map member_tree (drop (i + 1) members))) (member_tree-parts m)
 
-pub left_none : (members : List Member) (i : ℕ) → length members ≤ i → branches_from (map branch_of (drop i members)) ≡ none
-left_none members i past = ap (λ l. branches_from (map branch_of l)) (drop_all i members past)
+pub left_none : (members : List Member) (i : ℕ) → length members ≤ i → members_from (map member_tree (drop i members)) ≡ none
+left_none members i past = ap (λ l. members_from (map member_tree l)) (drop_all i members past)

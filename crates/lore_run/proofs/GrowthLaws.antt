@@ -2,13 +2,12 @@
 use Rattle.std.proofs.Common.{◌≡◌, ℕ, ◌+◌, ◌≤◌, List, [], ◌∷◌, ◌++◌, length, refl, sym, ap, subst, ◌∙◌, arith, append_assoc, append-nil, length-append}
 use Rattle.std.specs.List.{AllZip}
 use Rattle.std.proofs.lemmas.List.{map-append, length-map}
-use Rattle.lore_base.specs.declared.edges.Oid.{Oid}
-use Rattle.lore_base.specs.declared.edges.Edge.{Edge}
-use Rattle.lore_base.specs.declared.values.Value.{Value}
+use Rattle.lore_run.specs.Types.{Oid, Edge, Value}
 use Rattle.lore_run.specs.declared.made.Part.{Part}
-use Rattle.lore_run.specs.Trees.{Tree, Branches, branch}
-use Rattle.lore_run.specs.Made.{Arc, oid_of, size, bodies, branch_bodies, arcs, branch_arcs, labels_of, first_uses, IsNumbered}
-use Rattle.lore_run.specs.Parts.{Grows}
+use Rattle.lorel_ast.specs.Trees.{LiteralTree, MemberTrees, more}
+use Rattle.lore_base.specs.Walks.{oid_of}
+use Rattle.lore_run.specs.Made.{Arc, size, bodies, member_bodies, arcs, member_arcs, labels_of, first_uses, IsNumbered}
+use Rattle.lore_run.specs.inside.Parts.{Grows}
 use Rattle.lore_run.proofs.LabelLaws.{first_uses-append, length-first_uses}
 use Rattle.lore_run.proofs.NumberLaws.{slice_get-append_left}
 
@@ -24,10 +23,10 @@ AllZip-append R [] us (y ∷ ys) vs h k = absurd h
 AllZip-append R (x ∷ xs) us [] vs h k = absurd h
 AllZip-append R (x ∷ xs) us (y ∷ ys) vs h k = (h.0, AllZip-append R xs us ys vs h.1 k)
 
-pub IsNumbered-more : (labels more : List (List ℕ)) (arc : Arc) (edge : Edge) → IsNumbered labels arc edge → IsNumbered (labels ++ more) arc edge
-IsNumbered-more labels more arc edge h = record {
+pub IsNumbered-more : (labels others : List (List ℕ)) (arc : Arc) (edge : Edge) → IsNumbered labels arc edge → IsNumbered (labels ++ others) arc edge
+IsNumbered-more labels others arc edge h = record {
   parent = h.parent;
-  label = slice_get-append_left labels more edge.label.0 arc.label h.label;
+  label = slice_get-append_left labels others edge.label.0 arc.label h.label;
   child = h.child;
 }
 
@@ -48,11 +47,11 @@ Grows-then known xs ys us vs old mid new first next =
     let seen : known ++ mid.labels.texts ≡ (known ++ old.labels.texts) ++ firsts = ap (λ l. known ++ l) first.labels ∙ sym (append_assoc known old.labels.texts firsts) in
     let nexts : first_uses (known ++ mid.labels.texts) (labels_of vs) ≡ first_uses ((known ++ old.labels.texts) ++ firsts) (labels_of vs) =
     ap (λ l. first_uses l (labels_of vs)) seen in
-    let more = first_uses (known ++ mid.labels.texts) (labels_of vs) in
-    let longer : (known ++ mid.labels.texts) ++ more ≡ known ++ new.labels.texts = append_assoc known mid.labels.texts more ∙ ap (λ l. known ++ l) (sym next.labels) in
+    let latest = first_uses (known ++ mid.labels.texts) (labels_of vs) in
+    let longer : (known ++ mid.labels.texts) ++ latest ≡ known ++ new.labels.texts = append_assoc known mid.labels.texts latest ∙ ap (λ l. known ++ l) (sym next.labels) in
     record {
       made = next.made ∙ ap (λ l. l ++ ys) first.made ∙ append_assoc old.made xs ys;
-      labels = next.labels ∙ ap (λ l. l ++ more) first.labels ∙ append_assoc old.labels.texts firsts more
+      labels = next.labels ∙ ap (λ l. l ++ latest) first.labels ∙ append_assoc old.labels.texts firsts latest
           ∙ ap (λ l. old.labels.texts ++ l)
           (ap (λ l. firsts ++ l) nexts ∙ sym (first_uses-append (known ++ old.labels.texts) (labels_of us) (labels_of vs))
           ∙ ap (λ l. first_uses (known ++ old.labels.texts) l) (sym (map-append (λ (arc : Arc). arc.label) us vs)));
@@ -60,40 +59,40 @@ Grows-then known xs ys us vs old mid new first next =
       added = next.added ∙ ap (λ l. l ++ next.edges) first.added ∙ append_assoc old.added first.edges next.edges;
       numbered = AllZip-append (IsNumbered (known ++ new.labels.texts)) us vs first.edges next.edges
           (subst (λ l. AllZip (IsNumbered l) us first.edges) longer
-          (AllZip-weaker (IsNumbered (known ++ mid.labels.texts)) (IsNumbered ((known ++ mid.labels.texts) ++ more))
-          (λ arc edge h. IsNumbered-more (known ++ mid.labels.texts) more arc edge h) us first.edges first.numbered))
+          (AllZip-weaker (IsNumbered (known ++ mid.labels.texts)) (IsNumbered ((known ++ mid.labels.texts) ++ latest))
+          (λ arc edge h. IsNumbered-more (known ++ mid.labels.texts) latest arc edge h) us first.edges first.numbered))
           next.numbered;
       root = next.root ∙ first.root;
     }
 
 -- one member: its edge, what it leads to, and the members behind it
-pub Grows-member : (known : List (List ℕ)) (parent n : ℕ) (label : List ℕ) (tree : Tree) (others : Branches) (old edged mid new : Part)
+pub Grows-member : (known : List (List ℕ)) (parent n : ℕ) (label : List ℕ) (literal : LiteralTree) (others : MemberTrees) (old edged mid new : Part)
     → Grows known [] (record { parent = oid_of parent; label = label; child = oid_of n } ∷ []) old edged
-    → Grows known (bodies n tree) (arcs n tree) edged mid
-    → Grows known (branch_bodies (n + size tree) others) (branch_arcs parent (n + size tree) others) mid new
-    → Grows known (branch_bodies n (branch label tree others)) (branch_arcs parent n (branch label tree others)) old new
-Grows-member known parent n label tree others old edged mid new edge inner outer =
-    let rest = branch_bodies (n + size tree) others in
-    let more = branch_arcs parent (n + size tree) others in
-    Grows-then known [] (bodies n tree ++ rest) (record { parent = oid_of parent; label = label; child = oid_of n } ∷ []) (arcs n tree ++ more) old edged new edge
-    (Grows-then known (bodies n tree) rest (arcs n tree) more edged mid new inner outer)
+    → Grows known (bodies n literal) (arcs n literal) edged mid
+    → Grows known (member_bodies (n + size literal) others) (member_arcs parent (n + size literal) others) mid new
+    → Grows known (member_bodies n (more label literal others)) (member_arcs parent n (more label literal others)) old new
+Grows-member known parent n label literal others old edged mid new edge inner outer =
+    let rest = member_bodies (n + size literal) others in
+    let outer_arcs = member_arcs parent (n + size literal) others in
+    Grows-then known [] (bodies n literal ++ rest) (record { parent = oid_of parent; label = label; child = oid_of n } ∷ []) (arcs n literal ++ outer_arcs) old edged new edge
+    (Grows-then known (bodies n literal) rest (arcs n literal) outer_arcs edged mid new inner outer)
 
 -- no more labels come than edges
 pub labels_grow : (known : List (List ℕ)) (xs : List (Oid × Value)) (us : List Arc) (old new : Part) → Grows known xs us old new
     → length new.labels.texts ≤ length old.labels.texts + length us
 labels_grow known xs us old new h =
-    let more = first_uses (known ++ old.labels.texts) (labels_of us) in
-    omega (arith, ap length h.labels, length-append old.labels.texts more, length-first_uses (known ++ old.labels.texts) (labels_of us), length-map us (λ (arc : Arc). arc.label))
+    let latest = first_uses (known ++ old.labels.texts) (labels_of us) in
+    omega (arith, ap length h.labels, length-append old.labels.texts latest, length-first_uses (known ++ old.labels.texts) (labels_of us), length-map us (λ (arc : Arc). arc.label))
 
 -- the members that are left, once one of them and what it leads to are there
-pub Grows-left : (known : List (List ℕ)) (parent n after : ℕ) (label : List ℕ) (tree : Tree) (left others : Branches) (whole_objects : List (Oid × Value)) (whole_arcs : List Arc)
-    (start old edged mid : Part) → left ≡ branch label tree others → after ≡ n + size tree
+pub Grows-left : (known : List (List ℕ)) (parent n after : ℕ) (label : List ℕ) (literal : LiteralTree) (left others : MemberTrees) (whole_objects : List (Oid × Value)) (whole_arcs : List Arc)
+    (start old edged mid : Part) → left ≡ more label literal others → after ≡ n + size literal
     → Grows known [] (record { parent = oid_of parent; label = label; child = oid_of n } ∷ []) old edged
-    → Grows known (bodies n tree) (arcs n tree) edged mid
-    → ((new : Part) → Grows known (branch_bodies n left) (branch_arcs parent n left) old new → Grows known whole_objects whole_arcs start new)
-    → (new : Part) → Grows known (branch_bodies after others) (branch_arcs parent after others) mid new → Grows known whole_objects whole_arcs start new
-Grows-left known parent n after label tree left others whole_objects whole_arcs start old edged mid is behind edge inner finish new outer =
+    → Grows known (bodies n literal) (arcs n literal) edged mid
+    → ((new : Part) → Grows known (member_bodies n left) (member_arcs parent n left) old new → Grows known whole_objects whole_arcs start new)
+    → (new : Part) → Grows known (member_bodies after others) (member_arcs parent after others) mid new → Grows known whole_objects whole_arcs start new
+Grows-left known parent n after label literal left others whole_objects whole_arcs start old edged mid is behind edge inner finish new outer =
     finish new
-    (subst (λ (b : Branches). Grows known (branch_bodies n b) (branch_arcs parent n b) old new) (sym is)
-    (Grows-member known parent n label tree others old edged mid new edge inner
-    (subst (λ k. Grows known (branch_bodies k others) (branch_arcs parent k others) mid new) behind outer)))
+    (subst (λ (b : MemberTrees). Grows known (member_bodies n b) (member_arcs parent n b) old new) (sym is)
+    (Grows-member known parent n label literal others old edged mid new edge inner
+    (subst (λ k. Grows known (member_bodies k others) (member_arcs parent k others) mid new) behind outer)))

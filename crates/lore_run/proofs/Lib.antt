@@ -1,9 +1,4 @@
 pub mod TurnLaws
-pub mod ReadingLaws
-pub mod ParsingCompleteLaws
-pub mod ParsingSoundLaws
-pub mod FormedLaws
-pub mod ParserLaws
 pub mod TextSetLaws
 pub mod LabelLaws
 pub mod MadeLaws
@@ -14,8 +9,13 @@ pub mod NameTableLaws
 pub mod LoadLaws
 pub mod KeptLaws
 pub mod SessionLaws
+pub mod PathLaws
 pub mod SelectLaws
 pub mod GainLaws
+pub mod AscentLaws
+pub mod OneReplyLaws
+pub mod SomeTargetLaws
+pub mod SomeReplyLaws
 pub mod WalkLaws
 pub mod ValueLaws
 pub mod DeliveryLaws
@@ -23,3 +23,7 @@ pub mod RenderingLaws
 pub mod LimitLaws
 pub mod RunLaws
 pub mod EndLaws
+pub mod PieceLaws
+pub mod MeaningLaws
+pub mod SomeRunLaws
+pub mod ParsedLaws

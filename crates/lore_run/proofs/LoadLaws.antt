@@ -1,19 +1,18 @@
 -- The changes of a load: they fit the graph, and what stands after them is what the load says.
-use Rattle.std.proofs.Common.{◌≡◌, ◌≢◌, ℕ, zero, suc, ◌+◌, ◌≤◌, List, [], ◌∷◌, ◌++◌, length, Some, slice_get, All, AllPairs, Contains, refl, sym, ap, subst, inl, inr, ◌∙◌, arith}
+use Rattle.std.proofs.Common.{◌≡◌, false, ◌≢◌, ℕ, zero, suc, ◌+◌, ◌≤◌, List, [], ◌∷◌, ◌++◌, length, Some, slice_get, All, AllPairs, Contains, refl, sym, ap, subst, inl, inr, ◌∙◌, arith}
 use Rattle.std.specs.List.{AllZip}
 use Rattle.std.proofs.lemmas.Bool.{cases_lt}
 use Rattle.std.proofs.lemmas.Option.{slice_get_within, get_or_from_slice_get}
 use Rattle.std.proofs.lemmas.List.Elements.{All-nil, All-cons, All-head, All-tail, Contains-append_right, Contains-append_cases}
-use Rattle.lore_base.specs.declared.edges.Oid.{Oid}
-use Rattle.lore_base.specs.declared.edges.Edge.{Edge}
-use Rattle.lore_base.specs.declared.values.Value.{Value}
-use Rattle.lore_base.specs.declared.change_set.Changes.{Changes}
-use Rattle.lore_base.specs.declared.limits.TheConstants.{NEXT_NUMBER}
+use Rattle.lore_run.specs.Types.{Oid, Edge, Value, Changes, NEXT_NUMBER}
 use Rattle.lore_base.specs.Names.{IsName}
 use Rattle.lore_base.specs.Databases.{OemGraph, IsLive, IsComplex, IsSized}
-use Rattle.lore_base.specs.ChangeSets.{AreNumberedFrom, objects_after, Fits, IsAfter, names_after}
-use Rattle.lore_run.specs.Trees.{Tree, IsSoundTree}
-use Rattle.lore_run.specs.Made.{Arc, oid_of, size, bodies, arcs, labels_of, first_uses, IsNumbered}
+use Rattle.lore_base.specs.ChangeSets.{AreNumberedFrom, objects_after, Fits, IsGraphThen, names_after}
+use Rattle.lorel_ast.specs.Trees.{LiteralTree}
+use Rattle.lore_run.specs.Built.{has_local}
+use Rattle.lorel_ast.specs.Formed.{IsFormedLiteral}
+use Rattle.lore_base.specs.Walks.{oid_of}
+use Rattle.lore_run.specs.Made.{Arc, size, bodies, arcs, labels_of, first_uses, IsNumbered}
 use Rattle.lore_run.specs.Statements.{Loads}
 use Rattle.lore_run.specs.Sessions.{database_of}
 use Rattle.lore_run.proofs.MadeLaws.{Within, Contains-first, Contains-later, JoinsObjects, bodies_numbered, length-bodies, bodies_sized, arcs_join, first_live}
@@ -81,32 +80,32 @@ one_edge texts arc a b apart h k =
     λ i. record { parent = parents i; label = record { 0 = places i }; child = children i }
 
 -- ---- the changes
-module _ (graph : OemGraph) (name : List ℕ) (tree : Tree) (labels : List (List ℕ)) (changes : Changes) (made : changes.made ≡ bodies graph.next tree)
-    (named : changes.named ≡ (name, oid_of graph.next) ∷ []) (added : AllZip (IsNumbered labels) (arcs graph.next tree) changes.added) where
-  bodies_within : Within (bodies graph.next tree) (objects_after graph changes)
+module _ (graph : OemGraph) (name : List ℕ) (literal : LiteralTree) (plain : has_local literal ≡ false) (labels : List (List ℕ)) (changes : Changes) (made : changes.made ≡ bodies graph.next literal)
+    (named : changes.named ≡ (name, oid_of graph.next) ∷ []) (added : AllZip (IsNumbered labels) (arcs graph.next literal) changes.added) where
+  bodies_within : Within (bodies graph.next literal) (objects_after graph changes)
   bodies_within = λ o h. Contains-append_right graph.objects changes.made o (subst (λ l. Contains l o) (sym made) h)
 
-  joined_after : All (JoinsObjects (objects_after graph changes)) (arcs graph.next tree)
-  joined_after = arcs_join (objects_after graph changes) graph.next tree bodies_within
+  joined_after : All (JoinsObjects (objects_after graph changes)) (arcs graph.next literal)
+  joined_after = arcs_join (objects_after graph changes) graph.next literal plain bodies_within
 
-  pub load_fits : graph.next + size tree ≤ NEXT_NUMBER → IsName name → IsSoundTree tree → Fits graph changes
+  pub load_fits : graph.next + size literal ≤ NEXT_NUMBER → IsName name → IsFormedLiteral literal → Fits graph changes
   load_fits room word sound =
-      let root = first_live graph.next tree in
+      let root = first_live graph.next literal plain in
       record {
-        numbered = subst (AreNumberedFrom graph.next) (sym made) (bodies_numbered graph.next tree);
-        room = omega (arith, room, ap length made, length-bodies graph.next tree);
-        sized = subst (All (λ object. IsSized object.1)) (sym made) (bodies_sized graph.next tree sound);
+        numbered = subst (AreNumberedFrom graph.next) (sym made) (bodies_numbered graph.next literal);
+        room = omega (arith, room, ap length made, length-bodies graph.next literal);
+        sized = subst (All (λ object. IsSized object.1)) (sym made) (bodies_sized graph.next literal sound);
         named = subst (All (λ entry. IsName entry.0 × IsLive (objects_after graph changes) entry.1)) (sym named)
             (All-cons (λ entry. IsName entry.0 × IsLive (objects_after graph changes) entry.1) (name, oid_of graph.next) []
             (word, (root.0, bodies_within (oid_of graph.next, root.0) root.1)) (All-nil (λ entry. IsName entry.0 × IsLive (objects_after graph changes) entry.1)));
         parents = All-along (IsNumbered labels) (JoinsObjects (objects_after graph changes)) (λ edge. IsComplex (objects_after graph changes) edge.parent)
-            (numbered_parent (objects_after graph changes) labels) (arcs graph.next tree) changes.added added joined_after;
+            (numbered_parent (objects_after graph changes) labels) (arcs graph.next literal) changes.added added joined_after;
         children = All-along (IsNumbered labels) (JoinsObjects (objects_after graph changes)) (λ edge. IsLive (objects_after graph changes) edge.child)
-            (numbered_child (objects_after graph changes) labels) (arcs graph.next tree) changes.added added joined_after;
+            (numbered_child (objects_after graph changes) labels) (arcs graph.next literal) changes.added added joined_after;
       }
 
-  pub after_loads : (known : List (List ℕ)) (after : OemGraph) → labels ≡ known ++ first_uses known (labels_of (arcs graph.next tree)) → AllPairs (λ a b. a ≢ b) labels
-      → IsAfter graph changes after → Loads (database_of known graph) name tree (database_of labels after)
+  pub after_loads : (known : List (List ℕ)) (after : OemGraph) → labels ≡ known ++ first_uses known (labels_of (arcs graph.next literal)) → AllPairs (λ a b. a ≢ b) labels
+      → IsGraphThen graph changes after → Loads (database_of known graph) name literal (database_of labels after)
   after_loads known after texts apart h = record {
     labels = texts;
     names = h.names ∙ ap (λ l. names_after graph.names l) named;
@@ -115,16 +114,16 @@ module _ (graph : OemGraph) (name : List ℕ) (tree : Tree) (labels : List (List
     edges = λ edge. (
       λ there. elim ((h.edges edge).0 there) [
         | inl old ↦ inl old
-        | inr new ↦ inr (beside_right (IsNumbered labels) (arcs graph.next tree) changes.added edge added new)
+        | inr new ↦ inr (beside_right (IsNumbered labels) (arcs graph.next literal) changes.added edge added new)
       ],
       λ there. elim there [
         | inl old ↦ (h.edges edge).1 (inl old)
         | inr new ↦ (
-            let found = beside_left (IsNumbered labels) (arcs graph.next tree) changes.added new.0 added new.1 in
+            let found = beside_left (IsNumbered labels) (arcs graph.next literal) changes.added new.0 added new.1 in
             (h.edges edge).1 (inr (subst (Contains changes.added) (one_edge labels new.0 found.0 edge apart found.2 new.2) found.1)))
       ],
     );
-    next = h.next ∙ ap (λ n. graph.next + n) (ap length made ∙ length-bodies graph.next tree);
+    next = h.next ∙ ap (λ n. graph.next + n) (ap length made ∙ length-bodies graph.next literal);
     nodes = refl;
     mode = refl;
   }

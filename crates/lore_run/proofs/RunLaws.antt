@@ -1,287 +1,180 @@
--- Runs of statements, one more at their end, and what a script's run comes to at each of its ends.
-use Rattle.std.proofs.Common.{◌≡◌, ℕ, ◌+◌, ◌≤◌, List, [], ◌∷◌, ◌++◌, length, map, take, Option, Result, Ok, Err, IfErr, OnOk, OnErr, ◌-◌, drop, refl, sym, ap, ◌∙◌, subst, append_assoc, append-nil, arith, inl, inr, length-append, take-add}
+-- Runs of parts, one behind another, and how a run goes on from piece to piece.
+use Rattle.std.proofs.Common.{◌≡◌, ℕ, ◌+◌, ◌≤◌, ◌<◌, List, [], ◌∷◌, ◌++◌, length, map, take, drop, Option, None, Some, refl, sym, ap, ◌∙◌, subst, append_assoc, append-nil, arith, lit≤, length-append}
 use Rattle.std.specs.Prelude.{All}
-use Rattle.lore_base.specs.Databases.{Database, new_database}
-use Rattle.lorel_lex.specs.Scan.{IsChunk, IsOpen}
-use Rattle.lorel_lex.specs.Chunks.{IsTooLong}
-use Rattle.lorel_lex.specs.Gaps.{IsBlank}
-use Rattle.std.proofs.lemmas.List.{take_rest, take-append-drop}
-use Rattle.lore_run.specs.declared.run.Tally.{Tally}
-use Rattle.lore_run.specs.declared.run.Stop.{Stop}
-use Rattle.lore_run.specs.declared.run.Stop.TheVariants.{WriteFault, StatementTooLong, NoMemory}
-use Rattle.lore_run.specs.Statements.{Reply, Changed, Rows, Refused}
-use Rattle.lore_run.specs.Replies.{rendered}
+use Rattle.std.specs.Io.KnownBytes.{Appends, Consumes, Keeps}
 use Rattle.std.proofs.lemmas.Grind.{flat_map-append}
-use Rattle.std.proofs.lemmas.List.{map-append, length-map}
+use Rattle.std.proofs.lemmas.List.{map-append}
 use Rattle.std.proofs.lemmas.List.Elements.{All-append, All-cons, All-nil}
-use Rattle.lore_run.specs.Runs.{Statement, chunk, rest, Answers, Runs, refusals, HasStatements, BeginsWith}
-use Rattle.lore_run.specs.Endings.{RepliesWhole, RepliesToAll, BreaksOff, HasLongChunk, HasNoLongChunk, EndsAt}
+use Rattle.lore_base.specs.Chunks.{joined_chunks}
+use Rattle.lore_run.specs.Types.{SCRIPT_BYTES}
+use Rattle.lore_base.specs.Databases.{Database, new_database}
+use Rattle.lorel_lex.specs.Scan.{IsChunk}
+use Rattle.lore_run.specs.Types.{Reply, Changed, Rows, Refused}
+use Rattle.lore_run.specs.Replies.{rendered}
+use Rattle.lore_run.specs.Runs.{ScriptPart, chunk, Yields, Runs, refusals}
+use Rattle.lore_run.specs.Endings.{Outside, outside}
+use Rattle.lore_run.specs.inside.Turns.{Standing, standing, beginning, IsRest, Replied, RepliedInPart, Unmoved, Advances, RunsSoFar}
 use Rattle.lore_run.proofs.DeliveryLaws.{Appends-none, Appends-then}
-use Rattle.lore_run.proofs.LimitLaws.{ended, IsWithin, chunks_within, all_within}
-use Rattle.lore_run.specs.Turns.{IsRest, RunsSoFar, Replied, RepliedInPart, StopsAt}
+use Rattle.lore_run.proofs.LimitLaws.{IsWithin}
 
--- one more statement behind those that ran
-pub runs_more : (before : Database) (statements : List Statement) (bytes : List ℕ) (count : ℕ) (middle : Database) (statement : Statement) (reply : Reply) (after : Database)
-    → Runs before statements bytes count middle → Answers middle statement reply after
-    → Runs before (statements ++ statement ∷ []) (bytes ++ rendered after.objects reply) (count + refusals reply) after
-runs_more before [] bytes count middle statement reply after ran answered = (
-  reply,
-  after,
-  [],
-  0,
-  subst (λ (db : Database). Answers db statement reply after) ran.2 answered,
-  (refl, refl, refl),
-  ap (λ l. l ++ rendered after.objects reply) ran.0 ∙ sym (append-nil (rendered after.objects reply)),
-  omega (arith, ran.1),
-)
-runs_more before (first ∷ others) bytes count middle statement reply after ran answered = (
+-- some parts, and then others
+pub runs_then : (before : Database) (parts : List ScriptPart) (bytes : List ℕ) (count : ℕ) (middle : Database) (others : List ScriptPart) (more : List ℕ) (others_count : ℕ) (after : Database)
+    → Runs before parts bytes count middle → Runs middle others more others_count after
+    → Runs before (parts ++ others) (bytes ++ more) (count + others_count) after
+runs_then before [] bytes count middle others more others_count after ran then =
+    subst (λ (n : ℕ). Runs before others (bytes ++ more) n after) (let same : others_count ≡ count + others_count = omega (arith, ran.1) in same)
+    (subst (λ (l : List ℕ). Runs before others l others_count after) (ap (λ l. l ++ more) (sym ran.0))
+    (subst (λ (db : Database). Runs db others more others_count after) ran.2 then))
+runs_then before (first ∷ parts) bytes count middle others more others_count after ran then = (
   ran.0,
   ran.1,
-  ran.2 ++ rendered after.objects reply,
-  ran.3 + refusals reply,
+  ran.2 ++ more,
+  ran.3 + others_count,
   ran.4,
-  runs_more ran.1 others ran.2 ran.3 middle statement reply after ran.5 answered,
-  ap (λ l. l ++ rendered after.objects reply) ran.6 ∙ append_assoc (rendered ran.1.objects ran.0) ran.2 (rendered after.objects reply),
+  runs_then ran.1 parts ran.2 ran.3 middle others more others_count after ran.5 then,
+  ap (λ l. l ++ more) ran.6 ∙ append_assoc (rendered ran.1.graph.objects ran.0) ran.2 more,
   omega (arith, ran.7),
 )
 
-ended_more : (chunks : List (List ℕ)) (text : List ℕ) → ended (chunks ++ text ∷ []) ≡ ended chunks ++ (text ++ 59 ∷ [])
-ended_more chunks text = flat_map-append (λ l. l ++ 59 ∷ []) chunks (text ∷ []) ∙ ap (λ l. ended chunks ++ l) (append-nil (text ++ 59 ∷ []))
+pub joined-append : (chunks others : List (List ℕ)) → joined_chunks (chunks ++ others) ≡ joined_chunks chunks ++ joined_chunks others
+joined-append chunks others = flat_map-append (λ l. l ++ 59 ∷ []) chunks others
 
-All-one : (P : List ℕ → Type 0) (text : List ℕ) → P text → All P (text ∷ [])
+pub joined-one : (text : List ℕ) → joined_chunks (text ∷ []) ≡ text ++ 59 ∷ []
+joined-one text = append-nil (text ++ 59 ∷ [])
+
+pub All-one : (P : List ℕ → Type 0) (text : List ℕ) → P text → All P (text ∷ [])
 All-one P text holds = All-cons P text [] holds (All-nil P)
 
--- before the first chunk
-pub so_far_start : (tally : Tally) (written : Option (List ℕ)) → tally ≡ record { done = 0; refused = 0 } → RunsSoFar [] tally written written new_database
-so_far_start tally written zero = record {
+-- what a source has left, taken piece by piece
+pub Consumes-none : (known : Option (List ℕ)) → Consumes known known []
+Consumes-none None = tt
+Consumes-none (Some xs) = refl
+
+pub Consumes-then : (a b c : Option (List ℕ)) (xs ys : List ℕ) → Consumes a b xs → Consumes b c ys → Consumes a c (xs ++ ys)
+Consumes-then None b c xs ys g h = tt
+Consumes-then (Some p) None c xs ys g h = absurd g
+Consumes-then (Some p) (Some q) None xs ys g h = absurd h
+Consumes-then (Some p) (Some q) (Some r) xs ys g h = g ∙ ap (λ l. xs ++ l) h ∙ sym (append_assoc xs ys r)
+
+pub Consumes-kept : (a b c : Option (List ℕ)) (xs : List ℕ) → Consumes a b xs → Keeps b c → Consumes a c xs
+Consumes-kept None b c xs g h = tt
+Consumes-kept (Some p) None c xs g h = absurd g
+Consumes-kept (Some p) (Some q) None xs g h = absurd h
+Consumes-kept (Some p) (Some q) (Some r) xs g h = g ∙ ap (λ l. xs ++ l) (sym h)
+
+-- no byte
+pub advances_none : (now : Standing) → Advances now [] now
+advances_none now = record {
   chunks = [];
-  bytes = [];
-  whole = refl;
+  printed = [];
+  count = 0;
+  whole = append-nil now.held;
   each = All-nil IsChunk;
   sized = All-nil IsWithin;
-  done = ap (λ (t : Tally). t.done) zero;
-  ran = (refl, ap (λ (t : Tally). t.refused) zero, refl);
-  printed = Appends-none written;
+  ran = (refl, refl, refl);
+  done = omega arith;
+  refused = omega arith;
+  written = Appends-none now.written;
 }
 
--- behind one more chunk
-pub so_far_more : (front next text : List ℕ) (tally new_tally : Tally) (old middle new : Option (List ℕ)) (before after : Database)
-    → RunsSoFar front tally old middle before → next ≡ front ++ (text ++ 59 ∷ []) → IsChunk text → IsWithin text → Replied before (chunk text) tally middle new_tally new after
-    → RunsSoFar next new_tally old new after
-so_far_more front next text tally new_tally old middle new before after so_far is chunk_of within replied = record {
-  chunks = so_far.chunks ++ text ∷ [];
-  bytes = so_far.bytes ++ rendered after.objects replied.reply;
-  whole = is ∙ ap (λ l. l ++ (text ++ 59 ∷ [])) so_far.whole ∙ sym (ended_more so_far.chunks text);
-  each = All-append IsChunk so_far.chunks (text ∷ []) so_far.each (All-one IsChunk text chunk_of);
-  sized = All-append IsWithin so_far.chunks (text ∷ []) so_far.sized (All-one IsWithin text within);
-  done = omega (arith, replied.done, so_far.done, length-append so_far.chunks (text ∷ []));
-  ran = subst (λ (statements : List Statement). Runs new_database statements (so_far.bytes ++ rendered after.objects replied.reply) new_tally.refused after)
-      (sym (map-append chunk so_far.chunks (text ∷ [])))
-      (subst (λ (count : ℕ). Runs new_database (map chunk so_far.chunks ++ chunk text ∷ []) (so_far.bytes ++ rendered after.objects replied.reply) count after)
-      (sym replied.refused)
-      (runs_more new_database (map chunk so_far.chunks) so_far.bytes tally.refused before (chunk text) replied.reply after so_far.ran replied.answered));
-  printed = Appends-then old middle new so_far.bytes (rendered after.objects replied.reply) so_far.printed replied.printed;
+-- bytes that end no chunk
+pub advances_held : (held bytes : List ℕ) (now : Standing) → now.held ≡ held ++ bytes → Advances (record now { held = held }) bytes now
+advances_held held bytes now is = record {
+  chunks = [];
+  printed = [];
+  count = 0;
+  whole = sym is;
+  each = All-nil IsChunk;
+  sized = All-nil IsWithin;
+  ran = (refl, refl, refl);
+  done = omega arith;
+  refused = omega arith;
+  written = Appends-none now.written;
 }
 
--- a run that ends behind whole chunks
-pub replies_whole : (script front behind : List ℕ) (tally : Tally) (old new : Option (List ℕ)) (db : Database)
-    → script ≡ front ++ behind → RunsSoFar front tally old new db → RepliesWhole script tally.done tally.refused old new db
-replies_whole script front behind tally old new db parts so_far = record {
-  bytes = so_far.bytes;
-  ran = record {
-    statements = map chunk so_far.chunks;
-    begun = inr (so_far.chunks, behind, parts ∙ ap (λ l. l ++ behind) so_far.whole, so_far.each, refl);
-    counted = so_far.done ∙ sym (length-map so_far.chunks chunk);
-    ran = so_far.ran;
-  };
-  printed = so_far.printed;
+-- bytes that end a chunk
+pub advances_chunk : (held front : List ℕ) (before after : Standing) → after.held ≡ [] → IsChunk (held ++ front) → IsWithin (held ++ front) → Replied before (chunk (held ++ front)) after
+    → Advances (record before { held = held }) (front ++ 59 ∷ []) after
+advances_chunk held front before after empty is sized replied =
+    let bytes = rendered after.database.graph.objects replied.reply in
+    record {
+      chunks = (held ++ front) ∷ [];
+      printed = bytes ++ [];
+      count = refusals replied.reply + 0;
+      whole = sym (append_assoc held front (59 ∷ [])) ∙ sym (joined-one (held ++ front)) ∙ sym (append-nil (joined_chunks ((held ++ front) ∷ [])))
+          ∙ ap (λ l. joined_chunks ((held ++ front) ∷ []) ++ l) (sym empty);
+      each = All-one IsChunk (held ++ front) is;
+      sized = All-one IsWithin (held ++ front) sized;
+      ran = (replied.reply, after.database, [], 0, replied.yielded, (refl, refl, refl), refl, refl);
+      done = replied.done;
+      refused = omega (arith, replied.refused);
+      written = subst (λ (l : List ℕ). Appends before.written after.written l) (sym (append-nil bytes)) replied.printed;
+    }
+
+-- some bytes, and then others
+pub advances_then : {a b c : Standing} {xs ys : List ℕ} → Advances a xs b → Advances b ys c → Advances a (xs ++ ys) c
+advances_then {a} {b} {c} {xs} {ys} g h = record {
+  chunks = g.chunks ++ h.chunks;
+  printed = g.printed ++ h.printed;
+  count = g.count + h.count;
+  whole = sym (append_assoc a.held xs ys) ∙ ap (λ l. l ++ ys) g.whole ∙ append_assoc (joined_chunks g.chunks) b.held ys ∙ ap (λ l. joined_chunks g.chunks ++ l) h.whole
+      ∙ sym (append_assoc (joined_chunks g.chunks) (joined_chunks h.chunks) c.held) ∙ ap (λ l. l ++ c.held) (sym (joined-append g.chunks h.chunks));
+  each = All-append IsChunk g.chunks h.chunks g.each h.each;
+  sized = All-append IsWithin g.chunks h.chunks g.sized h.sized;
+  ran = subst (λ (parts : List ScriptPart). Runs a.database parts (g.printed ++ h.printed) (g.count + h.count) c.database) (sym (map-append chunk g.chunks h.chunks))
+      (runs_then a.database (map chunk g.chunks) g.printed g.count b.database (map chunk h.chunks) h.printed h.count c.database g.ran h.ran);
+  done = omega (arith, g.done, h.done, length-append g.chunks h.chunks);
+  refused = omega (arith, g.refused, h.refused);
+  written = Appends-then a.written b.written c.written g.printed h.printed g.written h.written;
 }
 
--- the chunks that ran keep their limit
-pub ran_within : (script front behind : List ℕ) (tally : Tally) (old new : Option (List ℕ)) (db : Database)
-    → script ≡ front ++ behind → RunsSoFar front tally old new db → HasNoLongChunk script tally.done
-ran_within script front behind tally old new db parts so_far =
-    chunks_within script behind so_far.chunks tally.done (parts ∙ ap (λ l. l ++ behind) so_far.whole) so_far.each so_far.sized so_far.done
+-- each chunk has a byte at least, its `;`
+few_ended : (chunks : List (List ℕ)) → length chunks ≤ length (joined_chunks chunks)
+few_ended [] = omega arith
+few_ended (text ∷ chunks) = omega (arith, few_ended chunks, length-append (text ++ 59 ∷ []) (joined_chunks chunks), length-append text (59 ∷ []))
 
--- and so does the whole script, where a rest within the limit stands behind them
-pub script_within : (script front behind : List ℕ) (tally : Tally) (old new : Option (List ℕ)) (db : Database)
-    → script ≡ front ++ behind → RunsSoFar front tally old new db → IsRest behind → (place : ℕ) → HasLongChunk script place → ⊥
-script_within script front behind tally old new db parts so_far kept =
-    all_within script behind so_far.chunks (parts ∙ ap (λ l. l ++ behind) so_far.whole) so_far.each so_far.sized kept
+pub few_done : {a b : Standing} {xs : List ℕ} → Advances a xs b → b.tally.done ≤ a.tally.done + (length a.held + length xs)
+few_done {a} {b} {xs} g =
+    omega (arith, g.done, few_ended g.chunks, ap length g.whole, length-append a.held xs, length-append (joined_chunks g.chunks) b.held)
 
--- a run that ends at a chunk over its limit
-pub long_chunk : (script front behind : List ℕ) (tally : Tally) (old new : Option (List ℕ)) (db : Database)
-    → script ≡ front ++ behind → RunsSoFar front tally old new db → IsTooLong [] behind → HasLongChunk script tally.done
-long_chunk script front behind tally old new db parts so_far long = record {
-  chunks = so_far.chunks;
-  front = long.front;
-  behind = long.back;
-  whole = parts ∙ ap (λ l. l ++ behind) so_far.whole ∙ ap (λ l. ended so_far.chunks ++ l) long.parts;
-  each = so_far.each;
-  counted = so_far.done;
-  unended = long.unended;
-  oversized = long.oversized;
-}
-
--- a run that ends at a blank rest
-pub replies_blank : (script front behind : List ℕ) (tally : Tally) (old new : Option (List ℕ)) (db : Database)
-    → script ≡ front ++ behind → RunsSoFar front tally old new db → IsOpen behind → IsBlank behind → RepliesToAll script tally.done tally.refused old new db
-replies_blank script front behind tally old new db parts so_far unended is_blank = record {
-  bytes = so_far.bytes;
-  ran = record {
-    statements = map chunk so_far.chunks;
-    listed = record {
-      chunks = so_far.chunks;
-      behind = behind;
-      cut = record { whole = parts ∙ ap (λ l. l ++ behind) so_far.whole; each = so_far.each; unended = unended };
-      listed = inl (is_blank, refl);
-    };
-    counted = so_far.done ∙ sym (length-map so_far.chunks chunk);
-    ran = so_far.ran;
-  };
-  printed = so_far.printed;
-}
-
--- the statements of a script with a rest that isn't blank
-with_rest : (script front behind : List ℕ) (tally : Tally) (old new : Option (List ℕ)) (db : Database)
-    → script ≡ front ++ behind → (so_far : RunsSoFar front tally old new db) → IsOpen behind → (IsBlank behind → ⊥)
-    → HasStatements script (map chunk so_far.chunks ++ rest ∷ [])
-with_rest script front behind tally old new db parts so_far unended not_blank = record {
-  chunks = so_far.chunks;
-  behind = behind;
-  cut = record { whole = parts ∙ ap (λ l. l ++ behind) so_far.whole; each = so_far.each; unended = unended };
-  listed = inr (not_blank, refl);
-}
-
--- a run that ends at a rest that isn't blank
-pub replies_rest : (script front behind : List ℕ) (tally new_tally : Tally) (old middle new : Option (List ℕ)) (db : Database)
-    → script ≡ front ++ behind → RunsSoFar front tally old middle db → IsOpen behind → (IsBlank behind → ⊥) → Replied db rest tally middle new_tally new db
-    → RepliesToAll script new_tally.done new_tally.refused old new db
-replies_rest script front behind tally new_tally old middle new db parts so_far unended not_blank replied = record {
-  bytes = so_far.bytes ++ rendered db.objects replied.reply;
-  ran = record {
-    statements = map chunk so_far.chunks ++ rest ∷ [];
-    listed = with_rest script front behind tally old middle db parts so_far unended not_blank;
-    counted = omega (arith, replied.done, so_far.done, length-map so_far.chunks chunk, length-append (map chunk so_far.chunks) (rest ∷ []));
-    ran = subst (λ (count : ℕ). Runs new_database (map chunk so_far.chunks ++ rest ∷ []) (so_far.bytes ++ rendered db.objects replied.reply) count db)
-        (sym replied.refused)
-        (runs_more new_database (map chunk so_far.chunks) so_far.bytes tally.refused db rest replied.reply db so_far.ran replied.answered);
-  };
-  printed = Appends-then old middle new so_far.bytes (rendered db.objects replied.reply) so_far.printed replied.printed;
-}
-
--- a sink that fails in the reply of the statement behind those that ran
-breaks_off : (script : List ℕ) (front : List ℕ) (last : Statement) (tally new_tally : Tally) (old middle new : Option (List ℕ)) (before after : Database)
-    → (so_far : RunsSoFar front tally old middle before) → BeginsWith script (map chunk so_far.chunks ++ last ∷ []) → RepliedInPart before last tally middle new_tally new after
-    → BreaksOff script new_tally.done new_tally.refused old new after
-breaks_off script front last tally new_tally old middle new before after so_far begun replied = record {
-  earlier = map chunk so_far.chunks;
-  last = last;
-  begun = begun;
-  counted = omega (arith, replied.done, so_far.done, length-map so_far.chunks chunk);
-  bytes = so_far.bytes;
-  count = tally.refused;
-  before = before;
-  ran = so_far.ran;
-  reply = replied.reply;
-  answered = replied.answered;
-  refused_of = replied.refused;
-  kept = replied.printed.count;
-  part = replied.printed.part;
-  printed = Appends-then old middle new so_far.bytes (take replied.printed.count (rendered after.objects replied.reply)) so_far.printed replied.printed.written;
-}
-
-pub breaks_off_rest : (script front behind : List ℕ) (tally new_tally : Tally) (old middle new : Option (List ℕ)) (db : Database)
-    → script ≡ front ++ behind → RunsSoFar front tally old middle db → IsOpen behind → (IsBlank behind → ⊥) → RepliedInPart db rest tally middle new_tally new db
-    → BreaksOff script new_tally.done new_tally.refused old new db
-breaks_off_rest script front behind tally new_tally old middle new db parts so_far unended not_blank replied =
-    breaks_off script front rest tally new_tally old middle new db db so_far (inl (with_rest script front behind tally old middle db parts so_far unended not_blank)) replied
-
--- a script whose chunks so far have one more behind them
-chunk_parts : (script front text behind : List ℕ) (tally : Tally) (old new : Option (List ℕ)) (db : Database)
-    → script ≡ front ++ ((text ++ 59 ∷ []) ++ behind) → (so_far : RunsSoFar front tally old new db) → script ≡ ended (so_far.chunks ++ text ∷ []) ++ behind
-chunk_parts script front text behind tally old new db parts so_far =
-    parts ∙ ap (λ l. l ++ ((text ++ 59 ∷ []) ++ behind)) so_far.whole ∙ sym (append_assoc (ended so_far.chunks) (text ++ 59 ∷ []) behind)
-    ∙ ap (λ l. l ++ behind) (sym (ended_more so_far.chunks text))
-
-pub breaks_off_chunk : (script front text behind : List ℕ) (tally new_tally : Tally) (old middle new : Option (List ℕ)) (before after : Database)
-    → script ≡ front ++ ((text ++ 59 ∷ []) ++ behind) → RunsSoFar front tally old middle before → IsChunk text → RepliedInPart before (chunk text) tally middle new_tally new after
-    → BreaksOff script new_tally.done new_tally.refused old new after
-breaks_off_chunk script front text behind tally new_tally old middle new before after parts so_far chunk_of replied =
-    let whole = chunk_parts script front text behind tally old middle before parts so_far in
-    breaks_off script front (chunk text) tally new_tally old middle new before after so_far
-    (inr (so_far.chunks ++ text ∷ [], behind, whole, All-append IsChunk so_far.chunks (text ∷ []) so_far.each (All-one IsChunk text chunk_of), sym (map-append chunk so_far.chunks (text ∷ []))))
-    replied
-
--- the ends of a run, by what stops it: at a cut, at a chunk's reply, and at the reply to a rest
-pub ends_at_cut : (stop : Stop) (script front behind : List ℕ) (tally : Tally) (old new : Option (List ℕ)) (db : Database)
-    → script ≡ front ++ behind → RunsSoFar front tally old new db → (stop ≡ StatementTooLong → IsTooLong [] behind) → (stop ≡ WriteFault → ⊥)
-    → EndsAt stop script tally.done tally.refused old new db
-ends_at_cut WriteFault script front behind tally old new db parts so_far long fault = absurd (fault refl)
-ends_at_cut StatementTooLong script front behind tally old new db parts so_far long fault = (
-  replies_whole script front behind tally old new db parts so_far,
-  ran_within script front behind tally old new db parts so_far,
-  long_chunk script front behind tally old new db parts so_far (long refl),
-)
-ends_at_cut NoMemory script front behind tally old new db parts so_far long fault =
-    (replies_whole script front behind tally old new db parts so_far, ran_within script front behind tally old new db parts so_far)
-
-pub ends_at_chunk : (stop : Stop) (script front text behind : List ℕ) (tally new_tally : Tally) (old middle new : Option (List ℕ)) (before after : Database)
-    → script ≡ front ++ ((text ++ 59 ∷ []) ++ behind) → RunsSoFar front tally old middle before → IsChunk text → IsWithin text
-    → StopsAt stop before (chunk text) tally middle new_tally new after → EndsAt stop script new_tally.done new_tally.refused old new after
-ends_at_chunk WriteFault script front text behind tally new_tally old middle new before after parts so_far chunk_of within stops = (
-  breaks_off_chunk script front text behind tally new_tally old middle new before after parts so_far chunk_of stops,
-  chunks_within script behind (so_far.chunks ++ text ∷ []) new_tally.done (chunk_parts script front text behind tally old middle before parts so_far)
-      (All-append IsChunk so_far.chunks (text ∷ []) so_far.each (All-one IsChunk text chunk_of))
-      (All-append IsWithin so_far.chunks (text ∷ []) so_far.sized (All-one IsWithin text within))
-      (omega (arith, stops.done, so_far.done, length-append so_far.chunks (text ∷ []))),
-)
-ends_at_chunk StatementTooLong script front text behind tally new_tally old middle new before after parts so_far chunk_of within stops = absurd stops
-ends_at_chunk NoMemory script front text behind tally new_tally old middle new before after parts so_far chunk_of within stops =
-    let whole = replies_whole script front ((text ++ 59 ∷ []) ++ behind) tally old middle before parts so_far in
-    let within_limit = ran_within script front ((text ++ 59 ∷ []) ++ behind) tally old middle before parts so_far in
-    rw (stops.tally, stops.written, stops.database) (whole, within_limit)
-
-pub ends_at_rest : (result : Result (Unit {0}) Stop) (script front behind : List ℕ) (tally new_tally : Tally) (old middle new : Option (List ℕ)) (db : Database)
-    → script ≡ front ++ behind → RunsSoFar front tally old middle db → IsRest behind × (IsBlank behind → ⊥)
-    → OnErr result (RepliedInPart db rest tally middle new_tally new db) → IfErr result (λ stop. stop ≡ WriteFault)
-    → IfErr result (λ stop. EndsAt stop script new_tally.done new_tally.refused old new db)
-ends_at_rest (Ok done) script front behind tally new_tally old middle new db parts so_far unended replied only = tt
-ends_at_rest (Err stop) script front behind tally new_tally old middle new db parts so_far unended replied only =
-    subst (λ (s : Stop). EndsAt s script new_tally.done new_tally.refused old new db) (sym only) (
-      breaks_off_rest script front behind tally new_tally old middle new db parts so_far unended.0.unended unended.1 replied,
-      λ place less long. script_within script front behind tally old middle db parts so_far unended.0 place long,
-    )
-
-pub replies_at_rest : (result : Result (Unit {0}) Stop) (script front behind : List ℕ) (tally new_tally : Tally) (old middle new : Option (List ℕ)) (db : Database)
-    → script ≡ front ++ behind → RunsSoFar front tally old middle db → IsRest behind × (IsBlank behind → ⊥)
-    → OnOk result (Replied db rest tally middle new_tally new db) → OnOk result (RepliesToAll script new_tally.done new_tally.refused old new db)
-replies_at_rest (Ok done) script front behind tally new_tally old middle new db parts so_far unended replied =
-    replies_rest script front behind tally new_tally old middle new db parts so_far unended.0.unended unended.1 replied
-replies_at_rest (Err stop) script front behind tally new_tally old middle new db parts so_far unended replied = tt
-
--- a text is its front and what stands behind it
-pub front_and_behind : (at : ℕ) (text : List ℕ) → text ≡ take at text ++ take (length text - at) (drop at text)
-front_and_behind at text = sym (ap (λ l. take at text ++ l) (take_rest text at) ∙ take-append-drop at text)
-
--- the front of a text, with what a piece takes of the rest
-pub next_front : (at used : ℕ) (text piece : List ℕ) → take used (take (length text - at) (drop at text)) ≡ piece → take (at + used) text ≡ take at text ++ piece
-next_front at used text piece is = take-add at used text ∙ ap (λ l. take at text ++ l) (sym (ap (λ l. take used l) (take_rest text at)) ∙ is)
-
--- the same, with what stands behind the piece
-pub front_piece_behind : (at used : ℕ) (text piece : List ℕ) → take used (take (length text - at) (drop at text)) ≡ piece
-    → text ≡ take at text ++ (piece ++ drop used (take (length text - at) (drop at text)))
-front_piece_behind at used text piece is =
-    let others = take (length text - at) (drop at text) in
-    front_and_behind at text ∙ ap (λ l. take at text ++ l) (sym (take-append-drop used others) ∙ ap (λ l. l ++ drop used others) is)
-
--- a statement is refused once at most
+-- a part is refused once at most
 pub refusals_le : (reply : Reply) → refusals reply ≤ 1
 refusals_le (Changed objects edges) = omega arith
 refusals_le (Rows oids) = omega arith
 refusals_le (Refused refusal) = omega arith
 
--- a fact holds under Ok
-pub on_ok : {P : Type 0} (result : Result (Unit {0}) Stop) → P → OnOk result P
-on_ok (Ok done) holds = holds
-on_ok (Err stop) holds = tt
+-- a run at its beginning, and behind one more piece
+pub so_far_start : (left written : Option (List ℕ)) → RunsSoFar (outside left written) 0 left (beginning written)
+so_far_start left written = record {
+  taken = [];
+  took = Consumes-none left;
+  counted = refl;
+  within = lit≤ tt;
+  rest = record { unended = tt; sized = lit≤ tt };
+  advanced = advances_none (beginning written);
+}
+
+pub so_far_more : (before : Outside) (count : ℕ) (left new_left : Option (List ℕ)) (now next : Standing) (piece : List ℕ)
+    → (so_far : RunsSoFar before count left now) → Consumes left new_left piece → count + length piece ≤ SCRIPT_BYTES → IsRest next.held → Advances now piece next
+    → RunsSoFar before (count + length piece) new_left next
+so_far_more before count left new_left now next piece so_far took few rest advanced = record {
+  taken = so_far.taken ++ piece;
+  took = Consumes-then before.left left new_left so_far.taken piece so_far.took took;
+  counted = omega (arith, so_far.counted, length-append so_far.taken piece);
+  within = few;
+  rest = rest;
+  advanced = advances_then so_far.advanced advanced;
+}
+
+-- what a part did is the same whatever is held
+pub Replied-held : {before after : Standing} {part : ScriptPart} (held kept : List ℕ) → Replied before part after → Replied (record before { held = held }) part (record after { held = kept })
+Replied-held {before} {after} {part} held kept g =
+    record { reply = g.reply; yielded = g.yielded; done = g.done; refused = g.refused; printed = g.printed }
+
+pub RepliedInPart-held : {before after : Standing} {part : ScriptPart} (held kept : List ℕ) → RepliedInPart before part after
+    → RepliedInPart (record before { held = held }) part (record after { held = kept })
+RepliedInPart-held {before} {after} {part} held kept g =
+    record { reply = g.reply; yielded = g.yielded; done = g.done; refused = g.refused; printed = g.printed }
+
+pub Unmoved-held : {before after : Standing} (held kept : List ℕ) → Unmoved before after → Unmoved (record before { held = held }) (record after { held = kept })
+Unmoved-held {before} {after} held kept g = record { tally = g.tally; written = g.written; database = g.database }

@@ -7,9 +7,7 @@ use Rattle.std.specs.Cmp.{IsEquivalence}
 use Rattle.std.proofs.lemmas.Cmp.{nat_eq_equiv}
 use Rattle.std.proofs.lemmas.List.{length-map, get_or-map}
 use Rattle.std.proofs.lemmas.Map.Views.{Contains-from_lookup, IsSome-lookup_from_Contains, exact_unsigned_eq}
-use Rattle.lore_base.specs.declared.edges.Oid.{Oid}
-use Rattle.lore_base.specs.declared.values.Value.{Value}
-use Rattle.lore_base.specs.declared.values.Value.TheVariants.{Complex}
+use Rattle.lore_run.specs.Types.{Oid, Value, Complex}
 use Rattle.lore_run.specs.Replies.{value_of}
 
 abbrev same_oid : Oid → Oid → Bool

@@ -1,18 +1,17 @@
 -- Walks by sets: what one edge, one object, one label and one text bring to a target set.
 use Rattle.std.proofs.Common.{◌≡◌, ◌≢◌, ℕ, ◌+◌, ◌<◌, ◌≤◌, ◌⊎◌, inl, inr, ◌↔◌, Bool, true, false, ◌==◌, List, [], ◌∷◌, ◌++◌, length, get_or, take, subst, Some, refl, sym, ap, ◌∙◌, arith, rules, tests}
 use Rattle.std.specs.List.{AllPairs, Contains, slice_get}
-use Rattle.std.specs.List.Sorted.{IsPermutation}
 use Rattle.std.proofs.lemmas.List.Elements.{Contains-append_left, Contains-push, Contains-push_cases}
 use Rattle.std.proofs.lemmas.List.{take_more, take_all}
 use Rattle.std.proofs.lemmas.Option.{slice_get_within, get_or_from_slice_get}
-use Rattle.lore_base.specs.declared.edges.Oid.{Oid}
-use Rattle.lore_base.specs.declared.edges.Label.{Label}
-use Rattle.lore_base.specs.declared.edges.Edge.{Edge}
+use Rattle.lore_run.specs.Types.{Oid, Label, Edge}
 use Rattle.lore_base.specs.Databases.{Database}
 use Rattle.lore_base.specs.Walks.{Walk, edge_of, out_of}
-use Rattle.lore_run.specs.Statements.{Spells, IsTargetSet}
-use Rattle.lore_run.specs.Targets.{ListsInOrder, Gains, IsChild, IsTextChild, IsTarget}
-use Rattle.lore_run.proofs.GainLaws.{Contains-none, Contains-head, Contains-cases, Contains-same, Contains-filter, unfiltered, Gains-same, Gains-then, Gains-one, ListsInOrder-same, ListsInOrder-sorted}
+use Rattle.lore_base.specs.TargetSets.{ListsInOrder, IsTarget}
+use Rattle.lore_run.specs.inside.Targets.{Gains, IsChild, IsTextChild}
+use Rattle.lore_base.proofs.MemberLaws.{Contains-none, Contains-head, Contains-cases, Contains-same, Contains-filter, unfiltered}
+use Rattle.lore_base.proofs.TargetLaws.{ListsInOrder-same, target-push, target-split}
+use Rattle.lore_run.proofs.GainLaws.{Gains-same, Gains-then, Gains-one, ListsInOrder-set}
 
 -- the objects that the edges of a list lead to by one label
 abbrev pub IsLedTo : List Edge → Label → Oid → Type 0
@@ -115,45 +114,7 @@ text_child-label labels edges text label parents found apart named lists =
       λ h. let same = same_label labels text h.0 label apart h.1 named in subst (λ (z : Label). IsChild edges z parents oid) same h.2,
     )) lists
 
--- with no text the walk stays at its start
-pub target-start : (labels : List (List ℕ)) (edges : List Edge) (start : Oid) → ListsInOrder (IsTarget labels edges start []) (start ∷ [])
-target-start labels edges start = record {
-  ascending = λ i j d below within. absurd (omega (arith, within));
-  exact = λ oid. (
-    λ h. elim (Contains-cases start [] oid h) [ inl same ↦ ([], tt, same) | inr none ↦ absurd (Contains-none oid none) ],
-    λ h. elim h.0 as (λ word. Spells labels [] word → Walk edges start word oid → Contains (start ∷ []) oid) [
-      | [] ↦ λ spelled same. Contains-same (start ∷ []) start oid same (Contains-head start [])
-      | label ∷ word ↦ λ spelled walked. absurd spelled
-    ] h.1 h.2,
-  );
-}
-
 -- one text more at the end of the path: one edge more at the end of the walk
-walk-push : (labels : List (List ℕ)) (edges : List Edge) (text : List ℕ) (oid parent : Oid) (label : Label)
-    → slice_get labels label.0 ≡ Some text → Contains edges (edge_of parent label oid)
-    → (texts : List (List ℕ)) (word : List Label) (start : Oid) → Spells labels texts word → Walk edges start word parent
-    → IsTarget labels edges start (texts ++ text ∷ []) oid
-walk-push labels edges text oid parent label named edge [] [] start spelled same =
-    (label ∷ [], (named, tt), (oid, subst (λ (z : Oid). Contains edges (edge_of z label oid)) (sym same) edge, refl))
-walk-push labels edges text oid parent label named edge [] (first ∷ word) start spelled walked = absurd spelled
-walk-push labels edges text oid parent label named edge (first ∷ texts) [] start spelled walked = absurd spelled
-walk-push labels edges text oid parent label named edge (first ∷ texts) (step ∷ word) start spelled walked =
-    let later = walk-push labels edges text oid parent label named edge texts word walked.0 spelled.1 walked.2 in
-    (step ∷ later.0, (spelled.0, later.1), (walked.0, walked.1, later.2))
-
--- the last edge of a walk, and the walk before it
-walk-split : (labels : List (List ℕ)) (edges : List Edge) (text : List ℕ) (oid : Oid)
-    (texts : List (List ℕ)) (word : List Label) (start : Oid) → Spells labels (texts ++ text ∷ []) word → Walk edges start word oid
-    → (parent : Oid) × (label : Label) × IsTarget labels edges start texts parent × (slice_get labels label.0 ≡ Some text) × Contains edges (edge_of parent label oid)
-walk-split labels edges text oid [] [] start spelled walked = absurd spelled
-walk-split labels edges text oid [] (label ∷ []) start spelled walked =
-    (start, label, ([], tt, refl), spelled.0, Contains-same edges (edge_of start label walked.0) (edge_of start label oid) (ap (λ (z : Oid). edge_of start label z) walked.2) walked.1)
-walk-split labels edges text oid [] (label ∷ second ∷ word) start spelled walked = absurd spelled.1
-walk-split labels edges text oid (first ∷ texts) [] start spelled walked = absurd spelled
-walk-split labels edges text oid (first ∷ texts) (step ∷ word) start spelled walked =
-    let later = walk-split labels edges text oid texts word walked.0 spelled.1 walked.2 in
-    (later.0, later.1, (step ∷ later.2.0, (spelled.0, later.2.1), (walked.0, walked.1, later.2.2)), later.3, later.4)
-
 pub target-more : (labels : List (List ℕ)) (edges : List Edge) (start : Oid) (texts : List (List ℕ)) (text : List ℕ) (parents found : List Oid)
     → ListsInOrder (IsTarget labels edges start texts) parents → ListsInOrder (IsTextChild labels edges text parents) found
     → ListsInOrder (IsTarget labels edges start (texts ++ text ∷ [])) found
@@ -161,9 +122,9 @@ target-more labels edges start texts text parents found before lists =
     ListsInOrder-same (IsTextChild labels edges text parents) (IsTarget labels edges start (texts ++ text ∷ [])) found (λ oid. (
       λ h.
           let walk = (before.exact h.2.0).0 h.2.1 in
-          walk-push labels edges text oid h.2.0 h.0 h.1 h.2.2 texts walk.0 start walk.1 walk.2,
+          target-push labels edges text oid h.2.0 h.0 h.1 h.2.2 texts walk.0 start walk.1 walk.2,
       λ h.
-          let last = walk-split labels edges text oid texts h.0 start h.1 h.2 in
+          let last = target-split labels edges text oid texts h.0 start h.1 h.2 in
           (last.1, last.3, (last.0, (before.exact last.0).1 last.2, last.4)),
     )) lists
 
@@ -204,13 +165,13 @@ parents-more edges label parents i d old middle new within first second =
     subst (λ (front : List Oid). Gains (IsChild edges label front) old new) (sym (take_more parents i d within))
     (Gains-parent edges label (take i parents) (get_or parents i d) old middle new first second)
 
--- all parents were read; what they lead to was sorted, and its doubles dropped
-pub children-all : (edges : List Edge) (label : Label) (parents read found sorted kept : List Oid) (i : ℕ) → read ≡ parents → length read ≤ i
-    → Gains (IsChild edges label (take i read)) [] found → IsPermutation found sorted → ListsInOrder (λ oid. Contains sorted oid) kept
-    → ListsInOrder (IsChild edges label parents) kept
-children-all edges label parents read found sorted kept i is past gains moved lists =
-    subst (λ (front : List Oid). ListsInOrder (IsChild edges label front) kept) (take_all i read past ∙ is)
-    (ListsInOrder-sorted (IsChild edges label (take i read)) found sorted kept gains moved lists)
+-- all parents were read, and what they lead to was put in order, each once
+pub children-all : (edges : List Edge) (label : Label) (parents read found set : List Oid) (i : ℕ) → read ≡ parents → length read ≤ i
+    → Gains (IsChild edges label (take i read)) [] found → AllPairs (λ a b. a.0 < b.0) set → ((oid : Oid) → Contains set oid ↔ Contains found oid)
+    → ListsInOrder (IsChild edges label parents) set
+children-all edges label parents read found set i is past gains ascending same =
+    subst (λ (front : List Oid). ListsInOrder (IsChild edges label front) set) (take_all i read past ∙ is)
+    (ListsInOrder-set (IsChild edges label (take i read)) found set gains ascending same)
 
 -- one more text of the path
 pub texts-more : (labels : List (List ℕ)) (edges : List Edge) (start : Oid) (texts : List (List ℕ)) (text : List ℕ) (i : ℕ) (d : List ℕ) (parents found : List Oid)
@@ -225,8 +186,3 @@ pub texts-all : (labels : List (List ℕ)) (edges : List Edge) (start : Oid) (te
     → ListsInOrder (IsTarget labels edges start (take i read)) found → ListsInOrder (IsTarget labels edges start texts) found
 texts-all labels edges start texts read found i is past lists =
     subst (λ (front : List (List ℕ)). ListsInOrder (IsTarget labels edges start front) found) (take_all i read past ∙ is) lists
-
--- the target set of a path in a database
-pub target_set : (db : Database) (start : Oid) (texts : List (List ℕ)) (found : List Oid)
-    → ListsInOrder (IsTarget db.labels db.edges start texts) found → IsTargetSet db start texts found
-target_set db start texts found lists = record { ascending = lists.ascending; exact = lists.exact }

@@ -1,152 +1,180 @@
-use Rattle.std.specs.Prelude.{◌≡◌, ℕ, ◌+◌, ◌≤◌, ◌<◌, List, [], ◌∷◌, ◌++◌, length, take, Option, All}
-use Rattle.std.specs.List.{flat_map}
-use Rattle.std.specs.Io.KnownBytes.{Appends}
-use Rattle.lore_base.specs.declared.limits.TheConstants.{CHUNK_BYTES, SCRIPT_BYTES}
+-- How a run ends: what each status says of the bytes that were taken and written, of the counts and of the
+-- database.
+use Rattle.std.specs.Prelude.{◌≡◌, ℕ, ◌+◌, ◌≤◌, ◌<◌, ◌⊎◌, List, [], ◌∷◌, ◌++◌, length, map, take, Option}
+use Rattle.std.specs.Io.KnownBytes.{Appends, Consumes, IsAtEnd}
+use Rattle.lore_run.specs.Types.{CHUNK_BYTES, SCRIPT_BYTES}
 use Rattle.lore_base.specs.Causes.{Rose}
 use Rattle.lore_base.specs.Databases.{Database, new_database}
-use Rattle.lorel_lex.specs.Scan.{IsChunk, IsOpen}
-use Rattle.lore_run.specs.Statements.{Reply}
+use Rattle.lorel_lex.specs.Scan.{IsOpen, IsScript}
+use Rattle.lore_run.specs.Types.{Reply}
 use Rattle.lore_run.specs.Replies.{rendered}
-use Rattle.lore_run.specs.Runs.{Statement, Answers, Runs, refusals, BeginsWith, RunsFirst, RunsAll}
+use Rattle.lore_run.specs.Runs.{BeginsWith, ScriptPart, chunk, EndsInRest, Yields, Runs, refusals, RunState}
+use Rattle.lore_run.specs.Runs.{RepliesTo, RepliesToAll}
+use Rattle.lore_run.specs.declared.status.Outcome.{Outcome}
 use Rattle.lore_run.specs.declared.status.Status.{Status}
-use Rattle.lore_run.specs.declared.status.Status.TheVariants as status
-use Rattle.lore_run.specs.declared.run.Stop.{Stop}
-use Rattle.lore_run.specs.declared.run.Stop.TheVariants.{WriteFault, StatementTooLong, NoMemory}
+use Rattle.lore_run.specs.declared.status.Status.TheVariants.{Done, DoneRefused, Usage, ReadFault, WriteFault}
+use Rattle.lore_run.specs.declared.status.Status.TheVariants.{StatementTooLong, NoMemory, ScriptTooLong}
 
--- the sink grew by the whole replies of the first `done` statements, and this is the database behind them
-pub record RepliesWhole (script : List ℕ) (done refused : ℕ) (old new : Option (List ℕ)) (after : Database) : Type 0 where
-  pub bytes : List ℕ
-  pub ran : RunsFirst script done refused bytes after
-  pub printed : Appends old new bytes
+-- the program's exit status
+abbrev pub exit_status : Status → ℕ
+exit_status Done = 0
+exit_status DoneRefused = 1
+exit_status Usage = 2
+exit_status ReadFault = 3
+exit_status WriteFault = 4
+exit_status StatementTooLong = 5
+exit_status NoMemory = 6
+exit_status ScriptTooLong = 7
 
--- the sink grew by the replies of all statements
-pub record RepliesToAll (script : List ℕ) (done refused : ℕ) (old new : Option (List ℕ)) (after : Database) : Type 0 where
-  pub bytes : List ℕ
-  pub ran : RunsAll script done refused bytes after
-  pub printed : Appends old new bytes
+-- behind these whole chunks, more bytes of one chunk or of the rest than the limit allows
+pub record HasLongChunk (script : List ℕ) (chunks : List (List ℕ)) : Type 0 where
+  pub front : List ℕ
+  pub behind : List ℕ
+  pub begun : BeginsWith script chunks (front ++ behind)
+  pub unended : IsOpen front
+  pub oversized : CHUNK_BYTES < length front
 
--- the sink failed in a reply: it grew by the whole replies of the statements before, and by a front of this one, not all of it
-pub record BreaksOff (script : List ℕ) (done refused : ℕ) (old new : Option (List ℕ)) (after : Database) : Type 0 where
-  pub earlier : List Statement
-  pub last : Statement
-  pub begun : BeginsWith script (earlier ++ last ∷ [])
-  pub counted : done ≡ length earlier + 1
+-- no chunk and no rest is too long, and neither is the script
+pub record KeepsLimits (script : List ℕ) : Type 0 where
+  pub chunks : (chunks : List (List ℕ)) → HasLongChunk script chunks → ⊥
+  pub bytes : length script ≤ SCRIPT_BYTES
+
+-- the script isn't too long, and neither are its first chunks, so many of them
+pub record KeepsLimitsUpTo (script : List ℕ) (done : ℕ) : Type 0 where
+  pub chunks : (chunks : List (List ℕ)) → length chunks < done → HasLongChunk script chunks → ⊥
+  pub bytes : length script ≤ SCRIPT_BYTES
+
+-- all whole chunks of these bytes were replied to, and nothing else
+pub record RepliesToChunks (bytes : List ℕ) (run : RunState) : Type 0 where
+  pub chunks : List (List ℕ)
+  pub behind : List ℕ
+  pub cut : IsScript bytes chunks behind
+  pub replied : RepliesTo (map chunk chunks) run
+
+-- the first chunks of what was taken were replied to, and nothing else
+pub record RepliesToFirst (run : RunState) : Type 0 where
+  pub chunks : List (List ℕ)
+  pub behind : List ℕ
+  pub begun : BeginsWith run.taken chunks behind
+  pub replied : RepliesTo (map chunk chunks) run
+
+-- these are the first parts of what was taken, and so many bytes were taken behind them. The rest is a part
+-- only where the source is at its end
+abbrev pub AreFirstParts : RunState → Option (List ℕ) → List ScriptPart → List ℕ → Type 0
+AreFirstParts run left parts behind =
+    ((chunks : List (List ℕ)) × BeginsWith run.taken chunks behind × (parts ≡ map chunk chunks))
+    ⊎ (EndsInRest run.taken parts × IsAtEnd left × (behind ≡ []))
+
+-- the sink failed in a reply: the replies before it stand whole, and then a front of this one, not all of it.
+-- Behind the part that it replies to fewer than 65,536 bytes were taken
+pub record FailsInReply (run : RunState) (left : Option (List ℕ)) : Type 0 where
+  pub earlier : List ScriptPart
+  pub last : ScriptPart
+  pub behind : List ℕ
+  pub first : AreFirstParts run left (earlier ++ last ∷ []) behind
+  pub at_hand : length behind < 65_536
   pub bytes : List ℕ
   pub count : ℕ
   pub before : Database
   pub ran : Runs new_database earlier bytes count before
   pub reply : Reply
-  pub answered : Answers before last reply after
-  pub refused_of : refused ≡ count + refusals reply
+  pub yielded : Yields before last reply run.database
+  pub done : run.done ≡ length earlier + 1
+  pub refused : run.refused ≡ count + refusals reply
   pub kept : ℕ
-  pub part : kept < length (rendered after.objects reply)
-  pub printed : Appends old new (bytes ++ take kept (rendered after.objects reply))
+  pub part : kept < length (rendered run.database.graph.objects reply)
+  pub written : run.written ≡ bytes ++ take kept (rendered run.database.graph.objects reply)
 
--- behind so many chunks, one has more bytes than a chunk may have
-pub record HasLongChunk (script : List ℕ) (done : ℕ) : Type 0 where
+-- all chunks before one that is too long were replied to, and none of them is too long
+pub record StopsAtLongChunk (run : RunState) : Type 0 where
   pub chunks : List (List ℕ)
-  pub front : List ℕ
-  pub behind : List ℕ
-  pub whole : script ≡ flat_map (λ text. text ++ 59 ∷ []) chunks ++ (front ++ behind)
-  pub each : All IsChunk chunks
-  pub counted : done ≡ length chunks
-  pub unended : IsOpen front
-  pub oversized : CHUNK_BYTES < length front
+  pub replied : RepliesTo (map chunk chunks) run
+  pub long : HasLongChunk run.taken chunks
+  pub within : KeepsLimitsUpTo run.taken run.done
 
--- no chunk and no rest of the script is too long, and neither is the script
-pub record KeepsLimits (script : List ℕ) : Type 0 where
-  pub chunks : (done : ℕ) → HasLongChunk script done → ⊥
-  pub bytes : length script ≤ SCRIPT_BYTES
+-- one byte more was taken than a script may have, and all whole chunks before it were replied to
+pub record StopsAtLongScript (run : RunState) : Type 0 where
+  pub before : List ℕ
+  pub byte : ℕ
+  pub taken : run.taken ≡ before ++ byte ∷ []
+  pub full : length before ≡ SCRIPT_BYTES
+  pub within : KeepsLimits before
+  pub replied : RepliesToChunks before run
 
--- the first `done` chunks of a script keep their limit
-abbrev pub HasNoLongChunk : List ℕ → ℕ → Type 0
-HasNoLongChunk script done = (place : ℕ) → place < done → HasLongChunk script place → ⊥
+-- how a run ends, by its status. No run over a script ends with Usage
+abbrev pub Ends : Status → RunState → Option (List ℕ) → Type 0
+Ends Done run left = RepliesToAll run × KeepsLimits run.taken × IsAtEnd left × (run.refused ≡ 0)
+Ends DoneRefused run left = RepliesToAll run × KeepsLimits run.taken × IsAtEnd left × (0 < run.refused)
+Ends ReadFault run left = RepliesToChunks run.taken run × KeepsLimits run.taken
+Ends WriteFault run left = FailsInReply run left × KeepsLimits run.taken
+Ends StatementTooLong run left = StopsAtLongChunk run
+Ends NoMemory run left = RepliesToFirst run × KeepsLimitsUpTo run.taken run.done
+Ends ScriptTooLong run left = StopsAtLongScript run
+Ends Usage run left = ⊥
 
--- nothing was executed and nothing written
-pub record DidNothing (done refused : ℕ) (old new : Option (List ℕ)) (after : Database) : Type 0 where
-  pub no_statement : done ≡ 0
-  pub no_refusal : refused ≡ 0
-  pub no_byte : Appends old new []
-  pub same : after ≡ new_database
+-- what a source and a sink tell: the bytes left and the bytes written
+pub record Outside : Type 0 where
+  pub left : Option (List ℕ)
+  pub written : Option (List ℕ)
 
--- how a run over a script ends, by its status
-abbrev pub Ends : Status → List ℕ → ℕ → ℕ → Option (List ℕ) → Option (List ℕ) → Database → Type 0
-Ends status.Done script done refused old new after = RepliesToAll script done refused old new after × KeepsLimits script × (refused ≡ 0)
-Ends status.DoneRefused script done refused old new after = RepliesToAll script done refused old new after × KeepsLimits script × (0 < refused)
-Ends status.Usage script done refused old new after = DidNothing done refused old new after
-Ends status.ReadFault script done refused old new after = DidNothing done refused old new after
-Ends status.WriteFault script done refused old new after = BreaksOff script done refused old new after × HasNoLongChunk script done
-Ends status.StatementTooLong script done refused old new after =
-    RepliesWhole script done refused old new after × HasNoLongChunk script done × HasLongChunk script done
-Ends status.NoMemory script done refused old new after = RepliesWhole script done refused old new after × HasNoLongChunk script done
-Ends status.ScriptTooLong script done refused old new after = DidNothing done refused old new after × (SCRIPT_BYTES < length script)
+abbrev pub outside : Option (List ℕ) → Option (List ℕ) → Outside
+outside left written = record { left = left; written = written }
 
--- how a run ends that stops before the end of its script
-abbrev pub EndsAt : Stop → List ℕ → ℕ → ℕ → Option (List ℕ) → Option (List ℕ) → Database → Type 0
-EndsAt WriteFault script done refused old new after = BreaksOff script done refused old new after × HasNoLongChunk script done
-EndsAt StatementTooLong script done refused old new after =
-    RepliesWhole script done refused old new after × HasNoLongChunk script done × HasLongChunk script done
-EndsAt NoMemory script done refused old new after = RepliesWhole script done refused old new after × HasNoLongChunk script done
+-- the state of a run with this outcome
+abbrev pub state_of : Outcome → List ℕ → List ℕ → Database → RunState
+state_of outcome taken written database = record {
+  taken = taken;
+  done = outcome.done;
+  refused = outcome.refused;
+  written = written;
+  database = database;
+}
+
+-- a run with this outcome and this database: what it took from the source, what it wrote to the sink, and how
+-- it ended
+pub record RunEnds (outcome : Outcome) (database : Database) (before after : Outside) : Type 0 where
+  pub taken : List ℕ
+  pub written : List ℕ
+  pub took : Consumes before.left after.left taken
+  pub wrote : Appends before.written after.written written
+  pub ends : Ends outcome.status (state_of outcome taken written database) after.left
+
+-- a run with this outcome and this database replied to all parts of the script
+pub record PrintsAll (script : List ℕ) (outcome : Outcome) (database : Database) (before after : Option (List ℕ))
+    : Type 0 where
+  pub written : List ℕ
+  pub wrote : Appends before after written
+  pub replied : RepliesToAll (state_of outcome script written database)
 
 -- the script was read to its end
 abbrev pub IsDone : Status → Type 0
-IsDone status.Done = Unit {0}
-IsDone status.DoneRefused = Unit {0}
-IsDone status.Usage = ⊥
-IsDone status.ReadFault = ⊥
-IsDone status.WriteFault = ⊥
-IsDone status.StatementTooLong = ⊥
-IsDone status.NoMemory = ⊥
-IsDone status.ScriptTooLong = ⊥
-
--- the statuses of a run whose script was read
-abbrev pub RunsScript : Status → Type 0
-RunsScript status.Done = Unit {0}
-RunsScript status.DoneRefused = Unit {0}
-RunsScript status.Usage = ⊥
-RunsScript status.ReadFault = ⊥
-RunsScript status.WriteFault = Unit {0}
-RunsScript status.StatementTooLong = Unit {0}
-RunsScript status.NoMemory = Unit {0}
-RunsScript status.ScriptTooLong = ⊥
+IsDone Done = Unit {0}
+IsDone DoneRefused = Unit {0}
+IsDone _ = ⊥
 
 -- a read fault comes only where the source's count rose, and any other end leaves the count
 abbrev pub IsCausedBySource : Status → ℕ → ℕ → Type 0
-IsCausedBySource status.Done before now = now ≡ before
-IsCausedBySource status.DoneRefused before now = now ≡ before
-IsCausedBySource status.Usage before now = now ≡ before
-IsCausedBySource status.ReadFault before now = Rose before now
-IsCausedBySource status.WriteFault before now = now ≡ before
-IsCausedBySource status.StatementTooLong before now = now ≡ before
-IsCausedBySource status.NoMemory before now = now ≡ before
-IsCausedBySource status.ScriptTooLong before now = now ≡ before
+IsCausedBySource ReadFault before now = Rose before now
+IsCausedBySource _ before now = now ≡ before
 
 -- a write fault comes only where the sink's count rose, and any other end leaves the count
 abbrev pub IsCausedBySink : Status → ℕ → ℕ → Type 0
-IsCausedBySink status.Done before now = now ≡ before
-IsCausedBySink status.DoneRefused before now = now ≡ before
-IsCausedBySink status.Usage before now = now ≡ before
-IsCausedBySink status.ReadFault before now = now ≡ before
-IsCausedBySink status.WriteFault before now = Rose before now
-IsCausedBySink status.StatementTooLong before now = now ≡ before
-IsCausedBySink status.NoMemory before now = now ≡ before
-IsCausedBySink status.ScriptTooLong before now = now ≡ before
+IsCausedBySink WriteFault before now = Rose before now
+IsCausedBySink _ before now = now ≡ before
 
--- a run ends well: it is done, or memory or a fault of source or sink ended it
-abbrev pub EndsWell : Status → ℕ → ℕ → ℕ → ℕ → Type 0
-EndsWell status.Done read_before read_now written_before written_now = Unit {0}
-EndsWell status.DoneRefused read_before read_now written_before written_now = Unit {0}
-EndsWell status.Usage read_before read_now written_before written_now = ⊥
-EndsWell status.ReadFault read_before read_now written_before written_now = Rose read_before read_now
-EndsWell status.WriteFault read_before read_now written_before written_now = Rose written_before written_now
-EndsWell status.StatementTooLong read_before read_now written_before written_now = ⊥
-EndsWell status.NoMemory read_before read_now written_before written_now = Unit {0}
-EndsWell status.ScriptTooLong read_before read_now written_before written_now = ⊥
+-- a run ends well where it is done, where memory was refused, and where a fault ended it that the source, or
+-- the sink, counted
+abbrev pub EndsWell : Status → Type 0 → Type 0 → Type 0
+EndsWell Done read_fault write_fault = Unit {0}
+EndsWell DoneRefused read_fault write_fault = Unit {0}
+EndsWell NoMemory read_fault write_fault = Unit {0}
+EndsWell ReadFault read_fault write_fault = read_fault
+EndsWell WriteFault read_fault write_fault = write_fault
+EndsWell _ read_fault write_fault = ⊥
 
 -- nothing was read, written, executed or counted
-pub record IsUntouched (done refused : ℕ) (left left_now written written_now : Option (List ℕ)) (db : Database) : Type 0 where
-  pub no_statement : done ≡ 0
-  pub no_refusal : refused ≡ 0
-  pub unread : left_now ≡ left
-  pub unwritten : written_now ≡ written
-  pub database : db ≡ new_database
+pub record IsUntouched (outcome : Outcome) (database : Database) (before after : Outside) : Type 0 where
+  pub no_statement : outcome.done ≡ 0
+  pub no_refusal : outcome.refused ≡ 0
+  pub unmoved : after ≡ before
+  pub same : database ≡ new_database

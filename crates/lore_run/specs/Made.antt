@@ -1,11 +1,10 @@
+-- What a literal without locals makes: its objects, its edges, and the labels that it brings.
 use Rattle.std.specs.Prelude.{◌≡◌, ℕ, ◌+◌, List, [], ◌∷◌, ◌++◌, map, Some, slice_get, if◌then◌else◌}
 use Rattle.std.specs.List.{list_any}
 use Rattle.std.specs.Str.{bytes_eq}
-use Rattle.lore_base.specs.declared.edges.Oid.{Oid}
-use Rattle.lore_base.specs.declared.edges.Edge.{Edge}
-use Rattle.lore_base.specs.declared.values.Value.{Value}
-use Rattle.lore_base.specs.declared.values.Value.TheVariants.{Complex}
-use Rattle.lore_run.specs.Trees.{Tree, atom, node, Branches, none, branch}
+use Rattle.lore_run.specs.Types.{Oid, Edge, Value, Complex}
+use Rattle.lore_base.specs.Walks.{oid_of}
+use Rattle.lorel_ast.specs.Trees.{LiteralTree, local, atom, node, MemberTrees, none, more}
 
 -- an edge whose label is still a text
 pub record Arc : Type 0 where
@@ -13,41 +12,41 @@ pub record Arc : Type 0 where
   pub label : List ℕ
   pub child : Oid
 
--- the object with a number
-abbrev pub oid_of : ℕ → Oid
-oid_of number = record { 0 = number }
-
 -- how many objects a literal makes
 abbrev mutual
-  pub size : Tree → ℕ
-  size (atom value) = 1
-  size (node branches) = 1 + branches_size branches
+  pub size : LiteralTree → ℕ
+  size (local number) = 0
+  size (atom mark value) = 1
+  size (node mark members) = 1 + members_size members
 
-  pub branches_size : Branches → ℕ
-  branches_size none = 0
-  branches_size (branch label tree others) = size tree + branches_size others
+  pub members_size : MemberTrees → ℕ
+  members_size none = 0
+  members_size (more label literal others) = size literal + members_size others
 
 -- its objects, numbered from `next` on in the order in which they begin in the text
 abbrev mutual
-  pub bodies : ℕ → Tree → List (Oid × Value)
-  bodies next (atom value) = (oid_of next, value) ∷ []
-  bodies next (node branches) = (oid_of next, Complex) ∷ branch_bodies (next + 1) branches
+  pub bodies : ℕ → LiteralTree → List (Oid × Value)
+  bodies next (local number) = []
+  bodies next (atom mark value) = (oid_of next, value) ∷ []
+  bodies next (node mark members) = (oid_of next, Complex) ∷ member_bodies (next + 1) members
 
-  pub branch_bodies : ℕ → Branches → List (Oid × Value)
-  branch_bodies next none = []
-  branch_bodies next (branch label tree others) = bodies next tree ++ branch_bodies (next + size tree) others
+  pub member_bodies : ℕ → MemberTrees → List (Oid × Value)
+  member_bodies next none = []
+  member_bodies next (more label literal others) =
+      bodies next literal ++ member_bodies (next + size literal) others
 
 -- its edges in text order, where its first object has the number `next`
 abbrev mutual
-  pub arcs : ℕ → Tree → List Arc
-  arcs next (atom value) = []
-  arcs next (node branches) = branch_arcs next (next + 1) branches
+  pub arcs : ℕ → LiteralTree → List Arc
+  arcs next (local number) = []
+  arcs next (atom mark value) = []
+  arcs next (node mark members) = member_arcs next (next + 1) members
 
-  pub branch_arcs : ℕ → ℕ → Branches → List Arc
-  branch_arcs parent next none = []
-  branch_arcs parent next (branch label tree others) =
+  pub member_arcs : ℕ → ℕ → MemberTrees → List Arc
+  member_arcs parent next none = []
+  member_arcs parent next (more label literal others) =
       record { parent = oid_of parent; label = label; child = oid_of next }
-      ∷ (arcs next tree ++ branch_arcs parent (next + size tree) others)
+      ∷ (arcs next literal ++ member_arcs parent (next + size literal) others)
 
 abbrev pub labels_of : List Arc → List (List ℕ)
 labels_of arcs = map (λ arc. arc.label) arcs
@@ -56,7 +55,8 @@ labels_of arcs = map (λ arc. arc.label) arcs
 abbrev pub first_uses : List (List ℕ) → List (List ℕ) → List (List ℕ)
 first_uses known [] = []
 first_uses known (text ∷ texts) =
-    if list_any (bytes_eq text) known then first_uses known texts else (text ∷ first_uses (known ++ text ∷ []) texts)
+    if list_any (bytes_eq text) known then first_uses known texts
+    else (text ∷ first_uses (known ++ text ∷ []) texts)
 
 -- the edge is the arc, its label's number being the place of the text in the table
 pub record IsNumbered (labels : List (List ℕ)) (arc : Arc) (edge : Edge) : Type 0 where

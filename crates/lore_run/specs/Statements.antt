@@ -1,70 +1,64 @@
+-- What one statement answers, and the database that it leaves.
 use Rattle.std.specs.Prelude.{◌≡◌, ℕ, ◌+◌, ◌<◌, ◌⊎◌, ◌↔◌, List, ◌++◌, length, Option, Some, None, MatchOption, is_some, is_none, if◌then◌else◌, nat_lt, AllPairs, Contains, slice_get}
-use Rattle.std.specs.List.{AllZip}
 use Rattle.std.specs.BTreeMap.{insert_entry}
-use Rattle.lore_base.specs.declared.edges.Oid.{Oid}
-use Rattle.lore_base.specs.declared.edges.Label.{Label}
-use Rattle.lore_base.specs.declared.edges.Edge.{Edge}
-use Rattle.lore_base.specs.declared.refusals.Refusal.{Refusal}
-use Rattle.lore_base.specs.declared.refusals.Refusal.TheVariants.{Syntax, UnknownName, TooManyObjects}
-use Rattle.lore_base.specs.declared.limits.TheConstants.{OBJECTS, LEAVES}
+use Rattle.lore_run.specs.Types.{Oid, Label, Edge, Refusal, Syntax, UnknownName, TooManyObjects, OBJECTS, Reply, Changed, Rows, Refused}
 use Rattle.lore_base.specs.Bytes.{bytes_cmp}
 use Rattle.lore_base.specs.Names.{object_of}
-use Rattle.lore_base.specs.Walks.{Walk}
+use Rattle.lore_base.specs.Walks.{oid_of}
 use Rattle.lore_base.specs.Databases.{Database, AreAscendingEdges}
-use Rattle.lore_run.specs.Trees.{Tree, Sentence, load, select}
-use Rattle.lore_run.specs.Made.{Arc, oid_of, size, bodies, arcs, labels_of, first_uses, IsNumbered}
+use Rattle.lore_base.specs.TargetSets.{IsTargetSet}
+use Rattle.lorel_ast.specs.Trees.{LiteralTree, StatementTree}
+use Rattle.lore_run.specs.Built.{Built, load, select, built}
+use Rattle.lore_run.specs.Made.{Arc, size, bodies, arcs, labels_of, first_uses, IsNumbered}
 
--- what a statement answers
-pub data Reply : Type 0 where
-  Changed : (objects edges : ℕ) → Reply
-  Rows : List Oid → Reply
-  Refused : Refusal → Reply
-
--- why a statement is refused: the first cause that applies. A load of a name that is bound, and a path of more than 64
--- labels, count as no statement
-abbrev pub refusal_of : Database → Sentence → Option Refusal
-refusal_of db (load name tree) =
-    if is_some (object_of db.names name) then Some Syntax
-    else (if nat_lt OBJECTS (length db.objects + size tree) then Some TooManyObjects else None)
+-- why a statement of a form that is built is refused: the first cause that applies. A load of a name that is bound isn't
+-- built
+abbrev pub refusal_of : Database → Built → Option Refusal
+refusal_of db (load name literal) =
+    if is_some (object_of db.graph.names name) then Some Syntax
+    else (if nat_lt OBJECTS (length db.graph.objects + size literal) then Some TooManyObjects else None)
 refusal_of db (select start labels) =
-    if nat_lt LEAVES (length labels) then Some Syntax
-    else (if is_none (object_of db.names start) then Some UnknownName else None)
+    if is_none (object_of db.graph.names start) then Some UnknownName else None
 
 -- a load makes the literal's objects and edges and binds the name to the first of them
-pub record Loads (before : Database) (name : List ℕ) (tree : Tree) (after : Database) : Type 0 where
-  pub labels : after.labels ≡ before.labels ++ first_uses before.labels (labels_of (arcs before.next tree))
-  pub names : after.names ≡ insert_entry bytes_cmp before.names name (oid_of before.next)
-  pub objects : after.objects ≡ before.objects ++ bodies before.next tree
-  pub edges_ascend : AreAscendingEdges after.edges
-  pub edges : (edge : Edge) → Contains after.edges edge
-      ↔ (Contains before.edges edge ⊎ ((arc : Arc) × Contains (arcs before.next tree) arc × IsNumbered after.labels arc edge))
-  pub next : after.next ≡ before.next + size tree
+pub record Loads (before : Database) (name : List ℕ) (literal : LiteralTree) (after : Database) : Type 0 where
+  pub labels : after.labels
+      ≡ before.labels ++ first_uses before.labels (labels_of (arcs before.graph.next literal))
+  pub names : after.graph.names ≡ insert_entry bytes_cmp before.graph.names name (oid_of before.graph.next)
+  pub objects : after.graph.objects ≡ before.graph.objects ++ bodies before.graph.next literal
+  pub edges_ascend : AreAscendingEdges after.graph.edges
+  pub edges : (edge : Edge) → Contains after.graph.edges edge
+      ↔ (Contains before.graph.edges edge
+      ⊎ ((arc : Arc) × Contains (arcs before.graph.next literal) arc × IsNumbered after.labels arc edge))
+  pub next : after.graph.next ≡ before.graph.next + size literal
   pub nodes : after.nodes ≡ before.nodes
   pub mode : after.mode ≡ before.mode
-
--- the word is made of labels with these texts
-abbrev pub Spells : List (List ℕ) → List (List ℕ) → List Label → Type 0
-Spells labels texts word = AllZip (λ text label. slice_get labels label.0 ≡ Some text) texts word
-
--- the target set of a label path: the objects that its word walks to (Goldman and Widom 1997), in ascending order
-pub record IsTargetSet (db : Database) (start : Oid) (texts : List (List ℕ)) (targets : List Oid) : Type 0 where
-  pub ascending : AllPairs (λ a b. a.0 < b.0) targets
-  pub exact : (oid : Oid) → Contains targets oid ↔ ((word : List Label) × Spells db.labels texts word × Walk db.edges start word oid)
 
 -- a select answers the target set of its path
 pub record Selects (db : Database) (name : List ℕ) (texts : List (List ℕ)) (targets : List Oid) : Type 0 where
   pub start : Oid
-  pub named : object_of db.names name ≡ Some start
+  pub named : object_of db.graph.names name ≡ Some start
   pub found : IsTargetSet db start texts targets
 
 -- what a statement does where nothing refuses it
-abbrev pub Performs : Database → Sentence → Reply → Database → Type 0
-Performs before (load name tree) reply after =
-    Loads before name tree after × (reply ≡ Changed (length after.objects) (length after.edges))
+abbrev pub Performs : Database → Built → Reply → Database → Type 0
+Performs before (load name literal) reply after =
+    Loads before name literal after × (reply ≡ Changed (length after.graph.objects) (length after.graph.edges))
 Performs before (select start labels) reply after =
     (after ≡ before) × ((targets : List Oid) × (reply ≡ Rows targets) × Selects before start labels targets)
 
+-- a refusal changes nothing
+abbrev pub Refuses : Refusal → Database → Reply → Database → Type 0
+Refuses refusal before reply after = (reply ≡ Refused refusal) × (after ≡ before)
+
+-- a statement of a form that is built: its reply and the database after it
+abbrev pub ExecutesBuilt : Database → Built → Reply → Database → Type 0
+ExecutesBuilt before form reply after =
+    MatchOption (refusal_of before form) (Performs before form reply after)
+    (λ refusal. Refuses refusal before reply after)
+
 -- one statement: its reply and the database after it
-abbrev pub Executes : Database → Sentence → Reply → Database → Type 0
-Executes before sentence reply after =
-    MatchOption (refusal_of before sentence) (Performs before sentence reply after) (λ refusal. (reply ≡ Refused refusal) × (after ≡ before))
+abbrev pub Executes : Database → StatementTree → Reply → Database → Type 0
+Executes before statement reply after =
+    MatchOption (built statement) (Refuses Syntax before reply after)
+    (λ form. ExecutesBuilt before form reply after)

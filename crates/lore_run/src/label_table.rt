@@ -1,27 +1,27 @@
 ghost use Rattle.std.specs.Prelude.{◌≡◌, ◌≢◌, ◌^◌, ◌≤◌, [], ◌∷◌, ◌++◌, length, slice_get, Some, AllPairs, IfSome, IfNone, OnOk, OnErr};
-ghost use Rattle.lore_base.specs.declared.edges.Label.{Label as TheLabel};
+ghost use Rattle.lore_run.specs.Types.{Label as TheLabel};
 
 use indexmap::IndexSet;
-use lore_base::{Label, NoMemory};
+use lore_base::{Label, NoMemory, OemText, TryCopy};
 use std::alloc::Global;
 use std::marker::Model;
 
 /// The texts of labels, each once. A label's number is the place of its text, from 0 on.
 #[derive(Drop)]
 pub(crate) struct LabelTable {
-    texts: IndexSet<Vec<u8>>,
+    texts: IndexSet<OemText>,
 }
 
 impl Model for LabelTable {
-    ghost use Rattle.std.specs.Prelude.{◌≢◌, map, AllPairs};
+    ghost use Rattle.std.specs.Prelude.{◌≢◌, AllPairs};
     ghost use Rattle.indexmap.specs.IndexSet.{spare};
-    ghost use Rattle.lore_run.specs.LabelTables.{Table};
+    ghost use Rattle.lore_run.specs.inside.LabelTables.{Table};
 
     ghost Value = { Table };
 
-    ghost view = { λ t. record { texts = map (λ text. text.items) t.texts.keys; room = spare t.texts } };
+    ghost view = { λ t. record { texts = t.texts.keys; room = spare t.texts } };
 
-    ghost invariant = { λ t. AllPairs (λ a b. a ≢ b) (map (λ text. text.items) t.texts.keys) };
+    ghost invariant = { λ t. AllPairs (λ a b. a ≢ b) t.texts.keys };
 }
 
 impl LabelTable {
@@ -43,10 +43,11 @@ impl LabelTable {
     }
 
     /// The label that has this text; None exactly where none has it. Takes no memory.
-    pub(crate) fn find(&self, text: &[u8]) -> Option<Label>
+    pub(crate) fn find(&self, text: &OemText) -> Option<Label>
         requires few { length self.now.texts ≤ 2 ^ 32 }
         ensures found { IfSome result (λ label. slice_get self.now.texts label.0 ≡ Some text.now) }
-        ensures none { IfNone result ((label : TheLabel) → slice_get self.now.texts label.0 ≢ Some text.now) }
+        ensures none { IfNone result ((label : TheLabel)
+            → slice_get self.now.texts label.0 ≢ Some text.now) }
         ensures distinct { AllPairs (λ a b. a ≢ b) self.now.texts }
     {
         match self.texts.get_index_of(text) {
@@ -56,12 +57,12 @@ impl LabelTable {
     }
 
     /// Gives a text that no label has the next number.
-    pub(crate) fn push(&mut self, alloc: Global, text: &[u8]) -> Result<(), NoMemory>
+    pub(crate) fn push(&mut self, alloc: Global, text: &OemText) -> Result<(), NoMemory>
         requires new { (label : TheLabel) → slice_get self.old.texts label.0 ≢ Some text.now }
         ensures ok { OnOk result (self.new.texts ≡ self.old.texts ++ text.now ∷ []) }
         ensures err { OnErr result (self.new.texts ≡ self.old.texts) }
     {
-        let copy = Vec::from_slice(alloc, text)?;
+        let copy = text.try_copy(alloc)?;
         self.texts.insert(copy)?;
         Ok(())
     }

@@ -1,24 +1,27 @@
 //! Scripts: from the bytes of a script to the bytes of its replies.
 //!
-//! `run_lore` reads a script (`script`), cuts it into chunks and lexes each (`lorel_lex`), parses it (`parser`), executes
-//! it in a session (`sessions`, with `made` for a load and `walk` for a select) and writes its reply (`rendering`).
+//! `run_lore` reads a script piece by piece (`run`) and cuts each piece into chunks (`pieces`). It
+//! lexes a chunk (`lorel_lex`), parses it (`lorel_parse`), executes it in a session (`sessions`, with
+//! `made` for a load, `paths` and `walk` for a select) and writes its reply (`parts`, `rendering`) by
+//! way of a buffer (`reply_writer`) before it reads on.
 #![tactic(auto)]
 
-pub use parser::one_statement;
 pub use run::run_lore;
 pub use sessions::Session;
 pub use status::{Outcome, Status};
 
-mod cursor;
 mod label_table;
+pub mod laws;
 mod made;
-mod parser;
+mod out;
+mod parts;
+mod paths;
+mod pieces;
 mod rendering;
 mod replies;
-mod reply_buffer;
+mod reply_writer;
 mod run;
-mod script;
 mod sessions;
 mod status;
-mod trees;
+mod tally;
 mod walk;

@@ -1,22 +1,25 @@
-ghost use Rattle.std.specs.Prelude.{◌≡◌, ◌+◌, ◌≤◌, [], ◌∷◌, length, None, nat_lt, IfOk, OnOk, OnErr};
-ghost use Rattle.lore_base.specs.declared.limits.TheConstants.{OBJECTS as THE_OBJECTS};
+ghost use Rattle.std.specs.Prelude.{◌≡◌, ◌+◌, ◌≤◌, false, [], ◌∷◌, length, None, nat_lt, IfOk, OnOk, OnErr};
+ghost use Rattle.lore_run.specs.Types.{OBJECTS as THE_OBJECTS};
 ghost use Rattle.lore_base.specs.Names.{IsName, object_of};
-ghost use Rattle.lore_base.specs.Databases.{new_database, graph_of};
+ghost use Rattle.lore_base.specs.Databases.{new_database};
 ghost use Rattle.lore_base.specs.ChangeSets.{OnlyAdds};
-ghost use Rattle.lore_run.specs.Trees.{tree_of, sentence_of, IsSoundTree, IsSound, load, select};
+ghost use Rattle.lorel_ast.specs.Trees.{literal_tree, select_tree, statement_tree, load, select};
+ghost use Rattle.lorel_ast.specs.Sound.{IsSound};
+ghost use Rattle.lore_run.specs.Built.{has_local};
 ghost use Rattle.lore_run.specs.Made.{size};
 ghost use Rattle.lore_run.specs.Statements.{Loads, Executes};
-ghost use Rattle.lore_run.specs.Answers.{reply_of};
+ghost use Rattle.lorel_ast.specs.Formed.{IsFormedLiteral};
 
 use crate::label_table::LabelTable;
-use crate::made::{Part, count_bodies, instantiate};
+use crate::made::{Part, count_bodies, has_local, instantiate};
+use crate::paths::{only_path, plain_labels};
 use crate::replies::Reply;
-use crate::trees::{LabelPath, Literal, Statement};
 use crate::walk::targets;
 use lore_base::limits::{LEAVES, OBJECTS};
 use lore_base::{
     Changes, EdgeBuf, NoMemory, ObjectList, OemText, Oid, OidBuf, Refusal, Steps, TryCopy,
 };
+use lorel_ast::{Literal, Select, Statement};
 use oem_graph::Graph;
 use std::alloc::Global;
 use std::marker::Model;
@@ -52,58 +55,70 @@ impl Session {
     }
 
     /// Executes a statement. A refusal, and want of memory, leave the database as it was.
+    ///
+    /// This match says which forms are built; each other one is refused `Syntax`.
     pub(crate) fn execute<L: Ledger>(
         &mut self,
         alloc: Global,
         statement: &Statement,
         steps: &mut Steps<L>,
     ) -> Result<Reply, NoMemory>
-        requires { IsSound (sentence_of statement.now) }
-        ensures ok { IfOk result (λ reply. Executes self.old (sentence_of statement.now) (reply_of reply) self.new) }
+        requires { IsSound (statement_tree statement.now) }
+        ensures ok { IfOk result (λ reply.
+            Executes self.old (statement_tree statement.now) reply self.new) }
         ensures err { OnErr result (self.new ≡ self.old) }
     {
         match statement {
             Statement::Load { name, literal } => self.load(alloc, name, literal),
-            Statement::Select(path) => self.select(alloc, path, steps),
+            Statement::Select(query) => self.select(alloc, query, steps),
+            _ => Ok(Reply::Refused(Refusal::Syntax)),
         }
     }
 
     /// The graph of the database.
     pub(crate) fn graph(&self) -> &Graph
-        ensures { result.now.graph ≡ graph_of self.now }
+        ensures { result.now.graph ≡ self.now.graph }
     {
         &self.graph
     }
 
-    // Selects the target set of a label path. Refused are a path of too many labels (`Syntax`) and one that starts at no
+    // Selects the target set of one plain path. Refused are each other select (`Syntax`) and a path that starts at no
     // name (`UnknownName`).
     fn select<L: Ledger>(
         &self,
         alloc: Global,
-        path: &LabelPath,
+        query: &Select,
         steps: &mut Steps<L>,
     ) -> Result<Reply, NoMemory>
-        ensures { IfOk result (λ reply. Executes self.now (select path.now.start path.now.labels) (reply_of reply) self.now) }
+        ensures { IfOk result (λ reply.
+            Executes self.now (select (select_tree query.now)) reply self.now) }
     {
-        if LEAVES < path.labels.len() {
+        let Some(path) = only_path(query) else {
+            return Ok(Reply::Refused(Refusal::Syntax));
+        };
+        if LEAVES < path.parts.len() {
             return Ok(Reply::Refused(Refusal::Syntax));
         }
+        let Some(labels) = plain_labels(alloc, &path.parts)? else {
+            return Ok(Reply::Refused(Refusal::Syntax));
+        };
         let Some(start) = self.graph.name(&path.start) else {
             return Ok(Reply::Refused(Refusal::UnknownName));
         };
-        Ok(Reply::Rows(targets(alloc, &self.graph, &self.labels, start, &path.labels, steps)?))
+        Ok(Reply::Rows(targets(alloc, &self.graph, &self.labels, start, &labels, steps)?))
     }
 
     // Loads a literal under a name: makes its objects and edges and binds the name to the first of them. Answers how
-    // many objects and edges there are then. Refused are a name that is bound (`Syntax`) and more objects than a
-    // database holds (`TooManyObjects`).
+    // many objects and edges there are then. Refused are a literal with a local and a name that is bound (`Syntax`), and
+    // more objects than a database holds (`TooManyObjects`).
     fn load(&mut self, alloc: Global, name: &OemText, literal: &Literal) -> Result<Reply, NoMemory>
         requires name { IsName name.now }
-        requires literal { IsSoundTree (tree_of literal.now) }
-        ensures ok { IfOk result (λ reply. Executes self.old (load name.now (tree_of literal.now)) (reply_of reply) self.new) }
+        requires literal { IsFormedLiteral (literal_tree literal.now) }
+        ensures ok { IfOk result (λ reply.
+            Executes self.old (load name.now (literal_tree literal.now)) reply self.new) }
         ensures err { OnErr result (self.new ≡ self.old) }
     {
-        if self.graph.name(name).is_some() {
+        if has_local(literal) || self.graph.name(name).is_some() {
             return Ok(Reply::Refused(Refusal::Syntax));
         }
         if self.is_too_large(literal) {
@@ -118,7 +133,8 @@ impl Session {
 
     // Whether there would be more objects than a database holds.
     fn is_too_large(&self, literal: &Literal) -> bool
-        ensures { result ≡ nat_lt THE_OBJECTS (length self.now.objects + size (tree_of literal.now)) }
+        ensures { let count = length self.now.graph.objects + size (literal_tree literal.now) in
+            result ≡ nat_lt THE_OBJECTS count }
     {
         let objects = u64::from(self.graph.objects());
         (OBJECTS as u64) < objects.saturating_add(count_bodies(literal))
@@ -132,10 +148,12 @@ impl Session {
         literal: &Literal,
     ) -> Result<(), NoMemory>
         requires name { IsName name.now }
-        requires literal { IsSoundTree (tree_of literal.now) }
-        requires unbound { object_of self.old.names name.now ≡ None }
-        requires few { length self.old.objects + size (tree_of literal.now) ≤ THE_OBJECTS }
-        ensures ok { OnOk result (Loads self.old name.now (tree_of literal.now) self.new) }
+        requires plain { has_local (literal_tree literal.now) ≡ false }
+        requires literal { IsFormedLiteral (literal_tree literal.now) }
+        requires unbound { object_of self.old.graph.names name.now ≡ None }
+        requires few { let count = size (literal_tree literal.now) in
+            length self.old.graph.objects + count ≤ THE_OBJECTS }
+        ensures ok { OnOk result (Loads self.old name.now (literal_tree literal.now) self.new) }
         ensures err { OnErr result (self.new ≡ self.old) }
     {
         let Part {
@@ -145,7 +163,7 @@ impl Session {
             root,
         } = instantiate(alloc, literal, self.graph.next(), &self.labels)?;
         let changes = load_changes(alloc, made, added, name, root)?;
-        let plan = self.graph.prepare(alloc, &changes, &OidBuf::new(alloc))?;
+        let plan = self.graph.prepare(&changes, &OidBuf::new(alloc))?;
         let Ok(()) = self.graph.reserve(&plan) else {
             return Err(NoMemory);
         };

@@ -1,8 +1,8 @@
-ghost use Rattle.std.specs.Prelude.{◌≡◌, ℕ, ◌+◌, ◌<◌, ◌≤◌, ◌^◌, ◌⊎◌, All, AllPairs, length, Contains, IfOk, OnOk, OnErr};
-ghost use Rattle.std.specs.List.Sorted.{IsNonDecreasingBy};
+ghost use Rattle.std.specs.Prelude.{◌≤◌, ◌^◌, length, Contains, IfOk, OnOk, OnErr};
 ghost use Rattle.lore_base.specs.Lists.{Extends};
 ghost use Rattle.lore_base.specs.Walks.{edge_of};
-ghost use Rattle.lore_run.specs.Targets.{ListsInOrder, Gains, IsChild, IsTextChild, IsTarget};
+ghost use Rattle.lore_base.specs.TargetSets.{ListsInOrder, IsTarget};
+ghost use Rattle.lore_run.specs.inside.Targets.{Gains, IsChild, IsTextChild};
 
 use crate::label_table::LabelTable;
 use lore_base::{EdgeBuf, Label, NoMemory, OemText, Oid, OidBuf, Steps, TextList};
@@ -23,7 +23,8 @@ pub(crate) fn targets<L: Ledger>(
     steps: &mut Steps<L>,
 ) -> Result<OidBuf, NoMemory>
     requires few_labels { length labels.now.texts ≤ 2 ^ 32 }
-    ensures { IfOk result (λ found. ListsInOrder (IsTarget labels.now.texts graph.now.graph.edges start path.now) found) }
+    ensures { let edges = graph.now.graph.edges in
+        IfOk result (λ found. ListsInOrder (IsTarget labels.now.texts edges start path.now) found) }
 {
     let mut found = OidBuf::new(alloc);
     found.push(start)?;
@@ -45,9 +46,10 @@ fn text_children<L: Ledger>(
     steps: &mut Steps<L>,
 ) -> Result<OidBuf, NoMemory>
     requires few_labels { length labels.now.texts ≤ 2 ^ 32 }
-    ensures { IfOk result (λ found. ListsInOrder (IsTextChild labels.now.texts graph.now.graph.edges text.now parents.now) found) }
+    ensures { let passes = IsTextChild labels.now.texts graph.now.graph.edges text.now parents.now in
+        IfOk result (λ found. ListsInOrder passes found) }
 {
-    match labels.find(text.as_bytes()) {
+    match labels.find(text) {
         Some(label) => children(alloc, graph, label, parents, edges, steps),
         None => Ok(OidBuf::new(alloc)),
     }
@@ -62,14 +64,15 @@ fn children<L: Ledger>(
     edges: &mut EdgeBuf,
     steps: &mut Steps<L>,
 ) -> Result<OidBuf, NoMemory>
-    ensures { IfOk result (λ found. ListsInOrder (IsChild graph.now.graph.edges label parents.now) found) }
+    ensures { let passes = IsChild graph.now.graph.edges label parents.now in
+        IfOk result (λ found. ListsInOrder passes found) }
 {
     let mut found = OidBuf::new(alloc);
     'parents: for parent in parents.as_slice() {
         push_children(graph, *parent, label, edges, &mut found, steps)?;
     }
-    found.sort_from(0);
-    without_doubles(alloc, &found)
+    found.sort_set();
+    Ok(found)
 }
 
 // Appends the objects to which an edge with the label leads from `parent`, on `Err` only some of them. `edges` is room
@@ -82,7 +85,8 @@ fn push_children<L: Ledger>(
     found: &mut OidBuf,
     steps: &mut Steps<L>,
 ) -> Result<(), NoMemory>
-    ensures ok { OnOk result (Gains (λ oid. Contains graph.now.graph.edges (edge_of parent label oid)) found.old found.new) }
+    ensures ok { OnOk result (Gains
+        (λ oid. Contains graph.now.graph.edges (edge_of parent label oid)) found.old found.new) }
     ensures err { OnErr result (Extends found.old found.new) }
 {
     edges.cut(0);
@@ -93,30 +97,4 @@ fn push_children<L: Ledger>(
         }
     }
     Ok(())
-}
-
-// The objects of an ascending list, each once.
-fn without_doubles(alloc: Global, sorted: &OidBuf) -> Result<OidBuf, NoMemory>
-    requires { IsNonDecreasingBy (λ oid. oid.0) sorted.now }
-    ensures { IfOk result (λ kept. ListsInOrder (λ oid. Contains sorted.now oid) kept) }
-{
-    let mut kept = OidBuf::new(alloc);
-    'oids: for oid in sorted.as_slice() {
-        push_new(&mut kept, *oid)?;
-    }
-    Ok(kept)
-}
-
-// Appends the object to an ascending list that holds none after it, unless it is there already, as the last one.
-fn push_new(kept: &mut OidBuf, oid: Oid) -> Result<(), NoMemory>
-    requires ascending { AllPairs (λ a b. a.0 < b.0) kept.old }
-    requires last { All (λ other. other.0 ≤ oid.0) kept.old }
-    ensures ok { OnOk result (ListsInOrder (λ other. Contains kept.old other ⊎ (oid ≡ other)) kept.new) }
-    ensures err { OnErr result (kept.new ≡ kept.old) }
-{
-    let len = kept.len();
-    if len > 0 && kept.as_slice()[len - 1] == oid {
-        return Ok(());
-    }
-    kept.push(oid)
 }

@@ -1,15 +1,14 @@
 -- Canonical derivations of conditions, for each place where a condition may stand.
 use Rattle.std.proofs.Common.{◌≡◌, ℕ, ◌+◌, ◌≤◌, List, ◌∷◌, codes, refl, ap, ◌∙◌, arith}
-use Rattle.lorel_lex.specs.declared.token_types.Kind.{Kind}
+use Rattle.lorel_ast.specs.Types.{Kind}
 use Rattle.lorel_lex.specs.declared.token_types.Kind.TheVariants as k
 use Rattle.lorel_lex.specs.declared.token_types.Sign.TheVariants as s
 use Rattle.lorel_ast.specs.Trees as t
 use Rattle.lorel_ast.specs.Grammar as g
-use Rattle.lorel_ast.specs.Spelling.{spell_path, spell_op, spell_operand, spell_cond, spell_more_conjs, spell_conj, spell_more_unaries, spell_unary}
-use Rattle.lorel_ast.specs.Meaning.{text_of_name, tree_path, op_of, tree_operand, tree_cond, trees_more_conjs, tree_conj, trees_more_unaries, tree_unary}
-use Rattle.lorel_ast.specs.Nesting.{nest_cond, nest_more_conjs, nest_conj, nest_more_unaries, nest_unary}
-use Rattle.lorel_ast.specs.Printing.{alone, in_or, inside, print_cond, print_more_conds, print_rooted, print_op, print_operand}
-use Rattle.lorel_ast.proofs.CanonPathLaws.{Canon, canon_path, op_spelled, canon_operand}
+use Rattle.lorel_ast.specs.Paths.{text_of_name, spell_path, tree_path}
+use Rattle.lorel_ast.specs.Conditions.{spell_op, spell_operand, tree_operand, spell_cond, tree_cond, nest_cond, spell_more_conjs, trees_more_conjs, nest_more_conjs, spell_conj, tree_conj, nest_conj, spell_more_unaries, trees_more_unaries, nest_more_unaries, spell_unary, tree_unary, nest_unary}
+use Rattle.lorel_ast.specs.Printing.{alone, in_or, inside, print_cond, print_more_conds, print_rooted, print_operand}
+use Rattle.lorel_ast.proofs.CanonPathLaws.{Canon, canon_path, canon_operand}
 
 abbrev pub CanonCond : t.CondTree → ℕ → Type 0
 CanonCond wanted limit = Canon spell_cond tree_cond nest_cond (λ tree. print_cond tree alone) wanted limit
@@ -199,10 +198,10 @@ mutual
   good_unary (g.compare left by right) =
       let one = canon_operand left in
       let two = canon_operand right in
-      simple (t.compare (tree_operand left) (op_of by) (tree_operand right)) _ record {
+      simple (t.compare (tree_operand left) by (tree_operand right)) _ record {
         by = g.compare one.by by two.by;
         spelled = λ rest. one.spelled (spell_op by (spell_operand two.by rest))
-            ∙ ap (print_operand (tree_operand left)) (op_spelled by (spell_operand two.by rest) ∙ ap (print_op (op_of by)) (two.spelled rest));
+            ∙ ap (λ kinds. print_operand (tree_operand left) (spell_op by kinds)) (two.spelled rest);
         same = cc (one.same, two.same);
         deep = let x = one.deep in let y = two.deep in omega arith;
       } (λ rest. refl) (λ rest. refl)

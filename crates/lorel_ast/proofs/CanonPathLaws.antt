@@ -1,16 +1,17 @@
 -- Canonical derivations of labels, paths and literals.
-use Rattle.std.proofs.Common.{◌≡◌, ℕ, ◌≤◌, Bool, true, false, List, ◌∷◌, refl, ap, ◌∙◌, arith}
-use Rattle.lore_base.specs.declared.paths.Pattern.TheVariants.{Plain}
+use Rattle.std.proofs.Common.{◌≡◌, ℕ, ◌≤◌, Bool, true, false, List, [], ◌∷◌, map, refl, ap, ◌∙◌, arith}
+use Rattle.lorel_ast.specs.Types.{Plain, Kind}
+use Rattle.lore_base.specs.Names.{is_identifier}
 use Rattle.lore_base.specs.Paths as p
-use Rattle.lorel_lex.specs.declared.token_types.Kind.{Kind}
 use Rattle.lorel_lex.specs.declared.token_types.Kind.TheVariants as k
 use Rattle.lorel_lex.specs.declared.token_types.Sign.TheVariants as s
 use Rattle.lorel_ast.specs.Trees as t
 use Rattle.lorel_ast.specs.Grammar as g
-use Rattle.lorel_ast.specs.Spelling.{spell_name, spell_label, spell_labels, spell_alt, spell_choices, spell_seq, spell_parts, spell_part, spell_base, spell_path, spell_atom, spell_mark, spell_literal, spell_members, spell_more_members, spell_op, spell_operand}
-use Rattle.lorel_ast.specs.Meaning.{text_of_name, text_of_label, texts_of_labels, trees_alt, trees_choices, tree_seq, trees_parts, tree_part, tree_base, tree_path, value_of_atom, local_of_mark, tree_literal, trees_members, trees_more_members, op_of, tree_operand}
-use Rattle.lorel_ast.specs.Nesting.{nest_alt, nest_choices, nest_seq, nest_parts, nest_part, nest_base, nest_path, nest_literal, nest_members, nest_more_members, nest_operand}
-use Rattle.lorel_ast.specs.Printing.{is_identifier, label_token, print_label, print_labels, print_part, print_alt, print_bars, print_steps, print_rooted, print_value, print_local, print_literal, print_members, print_more_members, print_op, print_operand}
+use Rattle.lorel_ast.specs.Repetitions.{spell_each, nest_each}
+use Rattle.lorel_ast.specs.Paths.{spell_name, text_of_name, spell_label, text_of_label, spell_alt, trees_alt, nest_alt, spell_choices, trees_choices, nest_choices, spell_seq, tree_seq, nest_seq, spell_parts, trees_parts, nest_parts, spell_part, tree_part, nest_part, spell_base, tree_base, nest_base, spell_path, tree_path, nest_path}
+use Rattle.lorel_ast.specs.Literals.{spell_value, spell_atom, value_of_atom, spell_mark, spell_literal, tree_literal, nest_literal, spell_members, trees_members, nest_members, spell_more_members, trees_more_members, nest_more_members}
+use Rattle.lorel_ast.specs.Conditions.{spell_operand, tree_operand, nest_operand}
+use Rattle.lorel_ast.specs.Printing.{label_token, print_label, print_part, print_alt, print_bars, print_steps, print_rooted, print_literal, print_members, print_more_members, print_operand}
 
 -- a derivation that spells the canonical tokens of a tree, stands for it, and nests no deeper than this
 pub record Canon {D T : Type 0} (spell : D → List Kind → List Kind) (tree : D → T) (nest : D → ℕ) (print : T → List Kind → List Kind) (wanted : T) (limit : ℕ) : Type 0 where
@@ -30,17 +31,23 @@ label_by false text = (g.quoted text, (λ rest. refl), refl)
 pub canon_label : (text : List ℕ) → Canon spell_label text_of_label flat print_label text 0
 canon_label text = let found = label_by (is_identifier text) text in record { by = found.0; spelled = found.1; same = found.2; deep = omega arith }
 
-pub canon_labels : (labels : g.Labels) → Canon spell_labels texts_of_labels flat print_labels (texts_of_labels labels) 0
-canon_labels g.no_labels = record { by = g.no_labels; spelled = λ rest. refl; same = refl; deep = omega arith }
-canon_labels (g.dot first others) =
-    let one = canon_label (text_of_label first) in
-    let more = canon_labels others in
+-- a list of what has canonical derivations
+pub canon_each : {D T : Type 0} (spell : D → List Kind → List Kind) (tree : D → T) (nest : D → ℕ) (print : T → List Kind → List Kind) (kind : Kind)
+    → ((one : D) → Canon spell tree nest print (tree one) (nest one)) → (all : List D)
+    → Canon (spell_each kind spell) (map tree) (nest_each nest) (spell_each kind print) (map tree all) (nest_each nest all)
+canon_each spell tree nest print kind canon [] = record { by = []; spelled = λ rest. refl; same = refl; deep = omega arith }
+canon_each spell tree nest print kind canon (first ∷ others) =
+    let one = canon first in
+    let more = canon_each spell tree nest print kind canon others in
     record {
-      by = g.dot one.by more.by;
-      spelled = λ rest. ap (λ kinds. k.Symbol s.Dot ∷ kinds) (one.spelled (spell_labels more.by rest) ∙ ap (print_label (text_of_label first)) (more.spelled rest));
+      by = one.by ∷ more.by;
+      spelled = λ rest. ap (λ kinds. kind ∷ kinds) (one.spelled (spell_each kind spell more.by rest) ∙ ap (print (tree first)) (more.spelled rest));
       same = cc (one.same, more.same);
-      deep = omega arith;
+      deep = let low = one.deep in let also = more.deep in omega arith;
     }
+
+pub canon_labels : (kind : Kind) (labels : List g.Label) → Canon (spell_each kind spell_label) (map text_of_label) (nest_each flat) (spell_each kind print_label) (map text_of_label labels) (nest_each flat labels)
+canon_labels kind labels = canon_each spell_label text_of_label flat print_label kind (λ one. canon_label (text_of_label one)) labels
 
 pub name_spelled : (name : g.Name) (rest : List Kind) → spell_name name rest ≡ k.Word (text_of_name name) ∷ rest
 name_spelled (g.free text unreserved) rest = refl
@@ -139,13 +146,9 @@ canon_path (g.rooted name parts) =
     }
 
 -- literals
-pub atom_spelled : (value : g.Atom) (rest : List Kind) → spell_atom value rest ≡ print_value (value_of_atom value) rest
+pub atom_spelled : (value : g.Atom) (rest : List Kind) → spell_atom value rest ≡ spell_value (value_of_atom value) rest
 atom_spelled (g.number value) rest = refl
 atom_spelled (g.chars text) rest = refl
-
-mark_spelled : (mark : g.Mark) (rest : List Kind) → spell_mark mark rest ≡ print_local (local_of_mark mark) rest
-mark_spelled g.unmarked rest = refl
-mark_spelled (g.marked id) rest = refl
 
 mutual
   pub canon_literal : (literal : g.Literal) → Canon spell_literal tree_literal nest_literal print_literal (tree_literal literal) (nest_literal literal)
@@ -153,7 +156,7 @@ mutual
   canon_literal (g.atom mark value) =
       record {
         by = g.atom mark value;
-        spelled = λ rest. mark_spelled mark (spell_atom value rest) ∙ ap (print_local (local_of_mark mark)) (atom_spelled value rest);
+        spelled = λ rest. ap (spell_mark mark) (atom_spelled value rest);
         same = refl;
         deep = omega arith;
       }
@@ -161,9 +164,8 @@ mutual
       let one = canon_members inner in
       record {
         by = g.braces mark one.by;
-        spelled = λ rest. mark_spelled mark (k.Symbol s.LeftBrace ∷ spell_members one.by (k.Symbol s.RightBrace ∷ rest))
-            ∙ ap (λ kinds. print_local (local_of_mark mark) (k.Symbol s.LeftBrace ∷ kinds)) (one.spelled (k.Symbol s.RightBrace ∷ rest));
-        same = ap (t.node (local_of_mark mark)) one.same;
+        spelled = λ rest. ap (λ kinds. spell_mark mark (k.Symbol s.LeftBrace ∷ kinds)) (one.spelled (k.Symbol s.RightBrace ∷ rest));
+        same = ap (t.node mark) one.same;
         deep = let low = one.deep in omega arith;
       }
 
@@ -196,15 +198,6 @@ mutual
       }
 
 -- comparisons
-pub op_spelled : (by : g.Op) (rest : List Kind) → spell_op by rest ≡ print_op (op_of by) rest
-op_spelled g.equal rest = refl
-op_spelled g.not_equal rest = refl
-op_spelled g.less rest = refl
-op_spelled g.less_equal rest = refl
-op_spelled g.greater rest = refl
-op_spelled g.greater_equal rest = refl
-op_spelled g.like rest = refl
-
 pub canon_operand : (side : g.Operand) → Canon spell_operand tree_operand nest_operand print_operand (tree_operand side) (nest_operand side)
 canon_operand (g.constant value) = record { by = g.constant value; spelled = atom_spelled value; same = refl; deep = omega arith }
 canon_operand (g.reached path) = let one = canon_path path in record { by = g.reached one.by; spelled = one.spelled; same = ap t.at one.same; deep = one.deep }

@@ -1,8 +1,16 @@
+pub mod CopyLaws
+pub mod Derivations
 pub mod TargetLaws
 pub mod LongestLaws
 pub mod ReservedLaws
+pub mod FormLaws
 pub mod PartLaws
 pub mod ChoiceLaws
 pub mod CanonPathLaws
 pub mod CanonCondLaws
 pub mod CanonStatementLaws
+pub mod NestingLaws
+pub mod PrintFormLaws
+pub mod UniquePathLaws
+pub mod UniqueCondLaws
+pub mod UniqueStatementLaws

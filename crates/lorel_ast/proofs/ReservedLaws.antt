@@ -1,12 +1,12 @@
 -- A reserved word is a label and no name.
-use Rattle.std.proofs.Common.{◌≡◌, ℕ, true, false, List, [], ◌∷◌, codes, Bool, refl, ap, sym, ◌∙◌, lit≤}
+use Rattle.std.proofs.Common.{◌≡◌, ℕ, true, false, List, [], ◌∷◌, codes, Bool, refl, ap, sym, ◌∙◌, lit≤, None}
 use Rattle.std.specs.Str.{bytes_eq}
 use Rattle.lore_base.specs.Names.{is_reserved}
-use Rattle.lorel_lex.specs.declared.token_types.Kind.{Kind}
+use Rattle.lorel_ast.specs.Types.{Kind}
 use Rattle.lorel_lex.specs.declared.token_types.Kind.TheVariants as k
 use Rattle.lorel_ast.specs.Grammar as g
-use Rattle.lorel_ast.specs.Spelling.{spell_statement}
-use Rattle.lorel_ast.specs.Meaning.{text_of_name}
+use Rattle.lorel_ast.specs.Paths.{text_of_name}
+use Rattle.lorel_ast.specs.Statements.{spell_statement}
 use Rattle.lorel_ast.specs.Tokens.{HasTokens}
 use Rattle.lorel_ast.specs.Laws.{labelled, KeepsReservedWords}
 
@@ -15,7 +15,7 @@ unreserved (g.free text is) = is
 
 -- `select G.WORD`
 walks : List ℕ → g.Statement
-walks word = g.select (g.query (g.object (g.rooted (g.free (codes "G") refl) (g.part (g.once (g.label (g.word word))) g.no_parts))) g.no_items (g.tail g.no_from g.no_where))
+walks word = g.select (g.query (g.object (g.rooted (g.free (codes "G") refl) (g.part (g.once (g.label (g.word word))) g.no_parts))) [] (g.tail [] None))
 
 has_label : (word : List ℕ) → HasTokens (labelled word) (spell_statement (walks word) [])
 unfolding walks

@@ -1,14 +1,11 @@
 -- A target with its label is a path, and a path that ends in a plain label is a target with its label.
 use Rattle.std.proofs.Common.{◌≡◌, ℕ, List, [], ◌∷◌, ◌++◌, refl, ap, subst, arith}
-use Rattle.lore_base.specs.declared.paths.Pattern.TheVariants.{Plain}
+use Rattle.lorel_ast.specs.Types.{Plain, Kind}
 use Rattle.lore_base.specs.Paths as p
-use Rattle.lorel_lex.specs.declared.token_types.Kind.{Kind}
 use Rattle.lorel_lex.specs.declared.token_types.Kind.TheVariants as k
 use Rattle.lorel_lex.specs.declared.token_types.Sign.TheVariants as s
 use Rattle.lorel_ast.specs.Grammar as g
-use Rattle.lorel_ast.specs.Spelling.{spell_label, spell_name, spell_part, spell_parts}
-use Rattle.lorel_ast.specs.Meaning.{text_of_label, tree_part, trees_parts, tree_path}
-use Rattle.lorel_ast.specs.Nesting.{nest_parts}
+use Rattle.lorel_ast.specs.Paths.{spell_name, spell_label, text_of_label, spell_parts, trees_parts, nest_parts, spell_part, tree_part, tree_path}
 use Rattle.lorel_ast.specs.Laws.{IsJoined}
 
 -- parts with a label behind them

@@ -1,7 +1,10 @@
--- The grammar of statements. A value of `Statement` is a derivation of a statement by the rules that stand above the data
--- types: one type for each rule, and one constructor for each of its alternatives, in their order. What a derivation spells
--- stands in Spelling, the tree that it stands for in Meaning, and how deep it nests in Nesting.
-use Rattle.std.specs.Prelude.{◌≡◌, ℕ, ℤ, false, List}
+-- The grammar of statements. A value of `Statement` is a derivation of a statement by the rules that stand
+-- above the data types: one type for each rule, and one constructor for each of its alternatives, in their
+-- order. Where a rule repeats, what is repeated is a list; where it leaves a choice that a declared type has,
+-- as an operator, it is that type. What a derivation spells, the tree that it stands for and how deep it
+-- nests stand in Paths, Literals, Conditions, Selects and Statements.
+use Rattle.std.specs.Prelude.{◌≡◌, ℕ, ℤ, false, List, Option}
+use Rattle.lorel_ast.specs.Types.{Oid, Value, Op, Mode}
 use Rattle.lore_base.specs.Names.{is_reserved}
 
 -- name = identifier that isn't reserved
@@ -13,14 +16,9 @@ pub data Label : Type 0 where
   word : (text : List ℕ) → Label
   quoted : (text : List ℕ) → Label
 
--- { "." label }
-pub data Labels : Type 0 where
-  no_labels : Labels
-  dot : Label → Labels → Labels
-
 -- lpath = name { "." label }
 pub data LabelPath : Type 0 where
-  walked : Name → Labels → LabelPath
+  walked : Name → (labels : List Label) → LabelPath
 
 mutual
   -- alt = seq { "|" seq }
@@ -64,17 +62,12 @@ pub data Atom : Type 0 where
   number : (value : ℤ) → Atom
   chars : (text : List ℕ) → Atom
 
--- [ local ]
-pub data Mark : Type 0 where
-  unmarked : Mark
-  marked : (id : ℕ) → Mark
-
 mutual
   -- literal = local | [ local ] atom | [ local ] "{" [ member { "," member } ] "}"
   pub data Literal : Type 0 where
     local : (id : ℕ) → Literal
-    atom : Mark → Atom → Literal
-    braces : Mark → Members → Literal
+    atom : (mark : Option ℕ) → Atom → Literal
+    braces : (mark : Option ℕ) → Members → Literal
 
   -- [ member { "," member } ]
   pub data Members : Type 0 where
@@ -89,16 +82,6 @@ mutual
   -- member = label literal
   pub data Member : Type 0 where
     member : Label → Literal → Member
-
--- op = "=" | "!=" | "<" | "<=" | ">" | ">=" | "like"
-pub data Op : Type 0 where
-  equal : Op
-  not_equal : Op
-  less : Op
-  less_equal : Op
-  greater : Op
-  greater_equal : Op
-  like : Op
 
 -- operand = atom | path
 pub data Operand : Type 0 where
@@ -124,8 +107,9 @@ mutual
     no_unaries : MoreUnaries
     and : Unary → MoreUnaries → MoreUnaries
 
-  -- unary = "not" unary | "(" cond ")" | "exists" name "in" path ":" unary | "for" "all" name "in" path ":" unary
-  --       | operand op operand | path "==" path
+  -- unary = "not" unary | "(" cond ")" | "exists" name "in" path ":" unary
+  --       | "for" "all" name "in" path ":" unary | operand op operand | path "==" path
+  -- op = "=" | "!=" | "<" | "<=" | ">" | ">=" | "like"
   pub data Unary : Type 0 where
     not : Unary → Unary
     parens : Cond → Unary
@@ -140,80 +124,30 @@ pub data Range : Type 0 where
   variable : Path → Name → Range
   word_variable : Path → (bound : Name) → Name → Range
 
--- { "," range }
-pub data MoreRanges : Type 0 where
-  no_ranges : MoreRanges
-  range : Range → MoreRanges → MoreRanges
-
--- [ "from" range { "," range } ]
-pub data From : Type 0 where
-  no_from : From
-  from : Range → MoreRanges → From
-
--- [ "where" cond ]
-pub data Where : Type 0 where
-  no_where : Where
-  such_that : Cond → Where
-
--- tail = [ "from" range { "," range } ] [ "where" cond ]
+-- tail = [ "from" range { "," range } ] [ "where" cond ]. No range stands for no `from`
 pub data Tail : Type 0 where
-  tail : From → Where → Tail
+  tail : (ranges : List Range) → (cond : Option Cond) → Tail
 
 -- item = path | "path-of" "(" name ")"
 pub data Item : Type 0 where
   object : Path → Item
   path_of : Name → Item
 
--- { "," item }
-pub data MoreItems : Type 0 where
-  no_items : MoreItems
-  item : Item → MoreItems → MoreItems
-
 -- select = "select" item { "," item } tail
 pub data Select : Type 0 where
-  query : Item → MoreItems → Tail → Select
-
--- mode = "auto" | "top" | "bottom" | "guide"
-pub data Mode : Type 0 where
-  auto : Mode
-  top : Mode
-  bottom : Mode
-  guided : Mode
-
--- ( atom | "{" "}" )
-pub data NewValue : Type 0 where
-  atomic : Atom → NewValue
-  complex : NewValue
+  query : Item → (others : List Item) → Tail → Select
 
 -- ( literal | path )
 pub data Addition : Type 0 where
   fresh : Literal → Addition
   link : Path → Addition
 
--- { "label" label }
-pub data DumpLabels : Type 0 where
-  no_dump_labels : DumpLabels
-  dump_label : Label → DumpLabels → DumpLabels
-
--- { "name" name local }
-pub data DumpNames : Type 0 where
-  no_dump_names : DumpNames
-  dump_name : Name → (id : ℕ) → DumpNames → DumpNames
-
--- { "object" local ( atom | "{" "}" ) }
-pub data DumpObjects : Type 0 where
-  no_dump_objects : DumpObjects
-  dump_object : (id : ℕ) → NewValue → DumpObjects → DumpObjects
-
--- { "edge" local label local }
-pub data DumpEdges : Type 0 where
-  no_dump_edges : DumpEdges
-  dump_edge : (parent : ℕ) → Label → (child : ℕ) → DumpEdges → DumpEdges
-
 -- dumptext = "oem" number "next" number "nodes" number "plan" mode { "label" label } { "name" name local }
 --            { "object" local ( atom | "{" "}" ) } { "edge" local label local } "end"
+-- mode = "auto" | "top" | "bottom" | "guide"
 pub data DumpText : Type 0 where
-  dump_text : (version next nodes : ℤ) → Mode → DumpLabels → DumpNames → DumpObjects → DumpEdges → DumpText
+  dump_text : (version next nodes : ℤ) → Mode → (labels : List Label) → (names : List (Name × Oid))
+      → (objects : List (Oid × Value)) → (edges : List (Oid × Label × Oid)) → DumpText
 
 -- statement = "load" name ":=" literal
 --           | "name" name ":=" path
@@ -235,7 +169,7 @@ pub data Statement : Type 0 where
   load : Name → Literal → Statement
   bind : Name → Path → Statement
   unname : Name → Statement
-  assign : Path → NewValue → Tail → Statement
+  assign : Path → Value → Tail → Statement
   add : Path → Label → Addition → Tail → Statement
   remove : Path → Label → Path → Tail → Statement
   select : Select → Statement

@@ -1,133 +1,125 @@
--- How deep a derivation nests: how many braces of literals, groups, parentheses of conditions, `not`s and quantifiers enclose
--- its innermost place.
-use Rattle.std.specs.Prelude.{ℕ, ◌+◌, max}
-use Rattle.lorel_ast.specs.Grammar.{Alt, Choices, Seq, Parts, Part, Base, Path, Literal, Members, MoreMembers, Member, Operand, Cond, MoreConjs, Conj, MoreUnaries, Unary, Range, MoreRanges, From, Where, Tail, Item, MoreItems, Select, Addition, Statement, choice, no_choices, bar, sequence, no_parts, part, once, question, star, plus, label, pattern, hash, group, rooted, local, atom, braces, no_members, members, no_more, comma, member, constant, reached, conjs, no_conjs, or, unaries, no_unaries, and, not, parens, exists, for_all, compare, same, bare, variable, word_variable, no_ranges, range, no_from, from, no_where, such_that, tail, object, path_of, no_items, item, query, fresh, link, load, bind, unname, assign, add, remove, select, explain, guide, browse, sample, set_nodes, set_plan, dump, restore, generate}
+-- What stands directly within each derivation, and which derivations enclose it: a table to hold the nesting
+-- of derivations against.
+use Rattle.std.specs.Prelude.{◌≡◌, ℕ, ◌+◌, List, [], ◌∷◌, ◌++◌, map, Option, Some, None}
+use Rattle.lorel_ast.specs.Grammar as g
+use Rattle.lorel_ast.specs.Repetitions.{nest_each}
+use Rattle.lorel_ast.specs.Paths.{nest_alt, nest_choices, nest_seq, nest_parts, nest_part, nest_base, nest_path}
+use Rattle.lorel_ast.specs.Literals.{nest_literal, nest_members, nest_more_members, nest_member}
+use Rattle.lorel_ast.specs.Conditions.{nest_operand, nest_cond, nest_more_conjs, nest_conj, nest_more_unaries, nest_unary}
+use Rattle.lorel_ast.specs.Selects.{nest_range, nest_tail, nest_item, nest_select}
+use Rattle.lorel_ast.specs.Statements.{nest_addition, nest_statement}
 
-abbrev mutual
-  pub nest_alt : Alt → ℕ
-  nest_alt (choice first others) = max (nest_seq first) (nest_choices others)
+-- a derivation by a rule within which something may be enclosed
+pub data Derivation : Type 0 where
+  alt : g.Alt → Derivation
+  choices : g.Choices → Derivation
+  seq : g.Seq → Derivation
+  parts : g.Parts → Derivation
+  part : g.Part → Derivation
+  base : g.Base → Derivation
+  path : g.Path → Derivation
+  literal : g.Literal → Derivation
+  members : g.Members → Derivation
+  more_members : g.MoreMembers → Derivation
+  member : g.Member → Derivation
+  operand : g.Operand → Derivation
+  cond : g.Cond → Derivation
+  more_conjs : g.MoreConjs → Derivation
+  conj : g.Conj → Derivation
+  more_unaries : g.MoreUnaries → Derivation
+  unary : g.Unary → Derivation
+  range : g.Range → Derivation
+  tail : g.Tail → Derivation
+  item : g.Item → Derivation
+  select : g.Select → Derivation
+  addition : g.Addition → Derivation
+  statement : g.Statement → Derivation
 
-  pub nest_choices : Choices → ℕ
-  nest_choices no_choices = 0
-  nest_choices (bar first others) = max (nest_seq first) (nest_choices others)
+-- by how many levels a derivation encloses what is within: braces, groups, parentheses, `not` and quantifiers
+-- do by one, and nothing else does
+abbrev pub levels : Derivation → ℕ
+levels (literal (g.braces mark inner)) = 1
+levels (base (g.group inner)) = 1
+levels (unary (g.parens inner)) = 1
+levels (unary (g.not body)) = 1
+levels (unary (g.exists name walked body)) = 1
+levels (unary (g.for_all name walked body)) = 1
+levels _ = 0
 
-  pub nest_seq : Seq → ℕ
-  nest_seq (sequence first others) = max (nest_part first) (nest_parts others)
+-- the condition behind a `where`
+abbrev pub where_within : Option g.Cond → List Derivation
+where_within None = []
+where_within (Some one) = cond one ∷ []
 
-  pub nest_parts : Parts → ℕ
-  nest_parts no_parts = 0
-  nest_parts (part first others) = max (nest_part first) (nest_parts others)
+-- the derivations that stand directly within a derivation
+abbrev pub within : Derivation → List Derivation
+within (alt (g.choice first others)) = seq first ∷ choices others ∷ []
+within (choices (g.bar first others)) = seq first ∷ choices others ∷ []
+within (seq (g.sequence first others)) = part first ∷ parts others ∷ []
+within (parts (g.part first others)) = part first ∷ parts others ∷ []
+within (part (g.once one)) = base one ∷ []
+within (part (g.question one)) = base one ∷ []
+within (part (g.star one)) = base one ∷ []
+within (part (g.plus one)) = base one ∷ []
+within (base (g.group inner)) = alt inner ∷ []
+within (path (g.rooted name walked)) = parts walked ∷ []
+within (literal (g.braces mark inner)) = members inner ∷ []
+within (members (g.members first others)) = member first ∷ more_members others ∷ []
+within (more_members (g.comma first others)) = member first ∷ more_members others ∷ []
+within (member (g.member name held)) = literal held ∷ []
+within (operand (g.reached walked)) = path walked ∷ []
+within (cond (g.conjs first others)) = conj first ∷ more_conjs others ∷ []
+within (more_conjs (g.or first others)) = conj first ∷ more_conjs others ∷ []
+within (conj (g.unaries first others)) = unary first ∷ more_unaries others ∷ []
+within (more_unaries (g.and first others)) = unary first ∷ more_unaries others ∷ []
+within (unary (g.not body)) = unary body ∷ []
+within (unary (g.parens inner)) = cond inner ∷ []
+within (unary (g.exists name walked body)) = path walked ∷ unary body ∷ []
+within (unary (g.for_all name walked body)) = path walked ∷ unary body ∷ []
+within (unary (g.compare left by right)) = operand left ∷ operand right ∷ []
+within (unary (g.same left right)) = path left ∷ path right ∷ []
+within (range (g.bare walked)) = path walked ∷ []
+within (range (g.variable walked name)) = path walked ∷ []
+within (range (g.word_variable walked bound name)) = path walked ∷ []
+within (tail (g.tail ranges such)) = map range ranges ++ where_within such
+within (item (g.object walked)) = path walked ∷ []
+within (select (g.query first others end)) = item first ∷ map item others ++ tail end ∷ []
+within (addition (g.fresh held)) = literal held ∷ []
+within (addition (g.link walked)) = path walked ∷ []
+within (statement (g.load name held)) = literal held ∷ []
+within (statement (g.bind name walked)) = path walked ∷ []
+within (statement (g.assign target value end)) = path target ∷ tail end ∷ []
+within (statement (g.add target name added end)) = path target ∷ addition added ∷ tail end ∷ []
+within (statement (g.remove target name right end)) = path target ∷ path right ∷ tail end ∷ []
+within (statement (g.select inner)) = select inner ∷ []
+within (statement (g.explain inner)) = select inner ∷ []
+within _ = []
 
-  pub nest_part : Part → ℕ
-  nest_part (once base) = nest_base base
-  nest_part (question base) = nest_base base
-  nest_part (star base) = nest_base base
-  nest_part (plus base) = nest_base base
+abbrev pub nest_of : Derivation → ℕ
+nest_of (alt one) = nest_alt one
+nest_of (choices some) = nest_choices some
+nest_of (seq one) = nest_seq one
+nest_of (parts some) = nest_parts some
+nest_of (part one) = nest_part one
+nest_of (base one) = nest_base one
+nest_of (path one) = nest_path one
+nest_of (literal one) = nest_literal one
+nest_of (members some) = nest_members some
+nest_of (more_members some) = nest_more_members some
+nest_of (member one) = nest_member one
+nest_of (operand one) = nest_operand one
+nest_of (cond one) = nest_cond one
+nest_of (more_conjs some) = nest_more_conjs some
+nest_of (conj one) = nest_conj one
+nest_of (more_unaries some) = nest_more_unaries some
+nest_of (unary one) = nest_unary one
+nest_of (range one) = nest_range one
+nest_of (tail one) = nest_tail one
+nest_of (item one) = nest_item one
+nest_of (select one) = nest_select one
+nest_of (addition one) = nest_addition one
+nest_of (statement one) = nest_statement one
 
-  pub nest_base : Base → ℕ
-  nest_base (label one) = 0
-  nest_base (pattern text) = 0
-  nest_base hash = 0
-  nest_base (group inner) = nest_alt inner + 1
-
-abbrev pub nest_path : Path → ℕ
-nest_path (rooted name parts) = nest_parts parts
-
--- `{}` is a level too
-abbrev mutual
-  pub nest_literal : Literal → ℕ
-  nest_literal (local id) = 0
-  nest_literal (atom mark value) = 0
-  nest_literal (braces mark inner) = nest_members inner + 1
-
-  pub nest_members : Members → ℕ
-  nest_members no_members = 0
-  nest_members (members first others) = max (nest_member first) (nest_more_members others)
-
-  pub nest_more_members : MoreMembers → ℕ
-  nest_more_members no_more = 0
-  nest_more_members (comma first others) = max (nest_member first) (nest_more_members others)
-
-  pub nest_member : Member → ℕ
-  nest_member (member name literal) = nest_literal literal
-
-abbrev pub nest_operand : Operand → ℕ
-nest_operand (constant value) = 0
-nest_operand (reached path) = nest_path path
-
--- a quantifier encloses its path and its body
-abbrev mutual
-  pub nest_cond : Cond → ℕ
-  nest_cond (conjs first others) = max (nest_conj first) (nest_more_conjs others)
-
-  pub nest_more_conjs : MoreConjs → ℕ
-  nest_more_conjs no_conjs = 0
-  nest_more_conjs (or first others) = max (nest_conj first) (nest_more_conjs others)
-
-  pub nest_conj : Conj → ℕ
-  nest_conj (unaries first others) = max (nest_unary first) (nest_more_unaries others)
-
-  pub nest_more_unaries : MoreUnaries → ℕ
-  nest_more_unaries no_unaries = 0
-  nest_more_unaries (and first others) = max (nest_unary first) (nest_more_unaries others)
-
-  pub nest_unary : Unary → ℕ
-  nest_unary (not body) = nest_unary body + 1
-  nest_unary (parens inner) = nest_cond inner + 1
-  nest_unary (exists name path body) = max (nest_path path) (nest_unary body) + 1
-  nest_unary (for_all name path body) = max (nest_path path) (nest_unary body) + 1
-  nest_unary (compare left by right) = max (nest_operand left) (nest_operand right)
-  nest_unary (same left right) = max (nest_path left) (nest_path right)
-
-abbrev pub nest_range : Range → ℕ
-nest_range (bare path) = nest_path path
-nest_range (variable path name) = nest_path path
-nest_range (word_variable path bound name) = nest_path path
-
-abbrev pub nest_more_ranges : MoreRanges → ℕ
-nest_more_ranges no_ranges = 0
-nest_more_ranges (range first others) = max (nest_range first) (nest_more_ranges others)
-
-abbrev pub nest_from : From → ℕ
-nest_from no_from = 0
-nest_from (from first others) = max (nest_range first) (nest_more_ranges others)
-
-abbrev pub nest_where : Where → ℕ
-nest_where no_where = 0
-nest_where (such_that cond) = nest_cond cond
-
-abbrev pub nest_tail : Tail → ℕ
-nest_tail (tail ranges cond) = max (nest_from ranges) (nest_where cond)
-
-abbrev pub nest_item : Item → ℕ
-nest_item (object path) = nest_path path
-nest_item (path_of name) = 0
-
-abbrev pub nest_more_items : MoreItems → ℕ
-nest_more_items no_items = 0
-nest_more_items (item first others) = max (nest_item first) (nest_more_items others)
-
-abbrev pub nest_select : Select → ℕ
-nest_select (query first others end) = max (max (nest_item first) (nest_more_items others)) (nest_tail end)
-
-abbrev pub nest_addition : Addition → ℕ
-nest_addition (fresh literal) = nest_literal literal
-nest_addition (link path) = nest_path path
-
-abbrev pub nest_statement : Statement → ℕ
-nest_statement (load name literal) = nest_literal literal
-nest_statement (bind name path) = nest_path path
-nest_statement (unname name) = 0
-nest_statement (assign target value end) = max (nest_path target) (nest_tail end)
-nest_statement (add target name addition end) = max (max (nest_path target) (nest_addition addition)) (nest_tail end)
-nest_statement (remove target name right end) = max (max (nest_path target) (nest_path right)) (nest_tail end)
-nest_statement (select inner) = nest_select inner
-nest_statement (explain inner) = nest_select inner
-nest_statement guide = 0
-nest_statement (browse path) = 0
-nest_statement (sample path count) = 0
-nest_statement (set_nodes nodes) = 0
-nest_statement (set_plan chosen) = 0
-nest_statement dump = 0
-nest_statement (restore text) = 0
-nest_statement (generate seed count) = 0
+-- a derivation nests as deep as the deepest one within, and one level more where it encloses it
+abbrev pub CountsWhatIsWithin : Type 0
+CountsWhatIsWithin = (one : Derivation) → nest_of one ≡ nest_each nest_of (within one) + levels one

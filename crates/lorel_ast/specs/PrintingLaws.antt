@@ -1,10 +1,10 @@
-use Rattle.std.specs.Prelude.{◌≡◌, ◌≤◌, List, []}
-use Rattle.lorel_lex.specs.declared.token_types.Kind.{Kind}
+-- The canonical tokens of a statement are tokens of it.
+use Rattle.std.specs.Prelude.{◌≡◌, ◌≤◌, List, [], All}
+use Rattle.lorel_ast.specs.Types.{Kind}
+use Rattle.lorel_lex.specs.Tokens.{HasForm}
 use Rattle.lorel_ast.specs.Trees.{StatementTree}
 use Rattle.lorel_ast.specs.Grammar.{Statement}
-use Rattle.lorel_ast.specs.Spelling.{spell_statement}
-use Rattle.lorel_ast.specs.Meaning.{tree_statement}
-use Rattle.lorel_ast.specs.Nesting.{nest_statement}
+use Rattle.lorel_ast.specs.Statements.{spell_statement, tree_statement, nest_statement}
 use Rattle.lorel_ast.specs.Tokens.{HasTokens}
 use Rattle.lorel_ast.specs.Sound.{IsSound}
 use Rattle.lorel_ast.specs.Printing.{print_statement}
@@ -16,8 +16,12 @@ pub record HasCanonical (by : Statement) : Type 0 where
   pub tree : tree_statement canonical ≡ tree_statement by
   pub nest : nest_statement canonical ≤ nest_statement by
 
--- the canonical tokens of a statement that has tokens are tokens of it, and no text with its tree nests less deep
+-- the canonical tokens of a statement that has tokens are tokens of it, and no text with its tree nests less
+-- deep
 pub record PrintsBack : Type 0 where
   pub shallow : (by : Statement) → HasCanonical by
-  pub has : (statement : StatementTree) (kinds : List Kind) → HasTokens statement kinds → HasTokens statement (print_statement statement [])
-  pub sound : (statement : StatementTree) → IsSound statement → HasTokens statement (print_statement statement [])
+  pub has : (statement : StatementTree) (kinds : List Kind) → HasTokens statement kinds
+      → HasTokens statement (print_statement statement [])
+  pub sound : (statement : StatementTree) → IsSound statement
+      → HasTokens statement (print_statement statement [])
+  pub formed : (statement : StatementTree) → IsSound statement → All HasForm (print_statement statement [])

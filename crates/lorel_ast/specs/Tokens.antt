@@ -1,13 +1,12 @@
+-- Which statement has which tokens.
 use Rattle.std.specs.Prelude.{◌≡◌, ◌≤◌, List, []}
-use Rattle.lore_base.specs.declared.limits.TheConstants.{NESTING}
-use Rattle.lorel_lex.specs.declared.token_types.Kind.{Kind}
+use Rattle.lorel_ast.specs.Types.{NESTING, Kind}
 use Rattle.lorel_ast.specs.Trees.{StatementTree}
 use Rattle.lorel_ast.specs.Grammar.{Statement}
-use Rattle.lorel_ast.specs.Spelling.{spell_statement}
-use Rattle.lorel_ast.specs.Meaning.{tree_statement}
-use Rattle.lorel_ast.specs.Nesting.{nest_statement}
+use Rattle.lorel_ast.specs.Statements.{spell_statement, tree_statement, nest_statement}
 
--- the statement has these tokens: a derivation that keeps the limit of nesting spells them and stands for the statement
+-- the statement has these tokens: a derivation that keeps the limit of nesting spells them and stands for the
+-- statement
 pub record HasTokens (statement : StatementTree) (kinds : List Kind) : Type 0 where
   pub by : Statement
   pub deep : nest_statement by ≤ NESTING
@@ -16,4 +15,6 @@ pub record HasTokens (statement : StatementTree) (kinds : List Kind) : Type 0 wh
 
 -- no two statements have the same tokens
 abbrev pub IsUnambiguous : Type 0
-IsUnambiguous = (statement other : StatementTree) (kinds : List Kind) → HasTokens statement kinds → HasTokens other kinds → statement ≡ other
+IsUnambiguous =
+    (statement other : StatementTree) (kinds : List Kind) → HasTokens statement kinds → HasTokens other kinds
+    → statement ≡ other

@@ -1,10 +1,9 @@
--- The trees of the language as plain data: what they are without pointers and room. Two trees are equal where these are.
+-- The trees of the language as plain data: what they are without pointers and room. Two trees are equal where
+-- these are.
 use Rattle.std.specs.Prelude.{ℕ, ℤ, List, [], ◌∷◌, map, Option, option_map}
-use Rattle.lore_base.specs.declared.values.Value.{Value}
-use Rattle.lore_base.specs.declared.operators.Op.{Op}
-use Rattle.lore_base.specs.declared.modes.Mode.{Mode}
+use Rattle.lorel_ast.specs.Types.{Value, Op, Mode}
 use Rattle.lore_base.specs.Paths.{PathTree, path_trees}
-use Rattle.lorel_ast.specs.declared.routes.Rooted.{Rooted}
+use Rattle.lorel_ast.specs.declared.rooted_paths.Rooted.{Rooted}
 use Rattle.lorel_ast.specs.declared.dump_trees.DumpTree.{DumpTree}
 use Rattle.lorel_ast.specs.declared.literals.Literal.{Literal, fold-Literal}
 use Rattle.lorel_ast.specs.declared.literals.Literal.TheOpen.{Literal-F, MemberList-F, Member-F, Local, Atom, Node}
@@ -107,29 +106,33 @@ pub data StatementTree : Type 0 where
 abbrev pub rooted_tree : Rooted → RootedTree
 rooted_tree path = record { start = path.start; parts = path_trees path.parts }
 
-abbrev pub members_from : List (List ℕ × LiteralTree) → MemberTrees
+-- a member: its label and its literal
+abbrev pub MemberTree : Type 0
+MemberTree = List ℕ × LiteralTree
+
+abbrev pub members_from : List MemberTree → MemberTrees
 members_from [] = none
 members_from (member ∷ others) = more member.0 member.1 (members_from others)
 
-abbrev pub literal_step : Literal-F LiteralTree (List ℕ × LiteralTree) (List (List ℕ × LiteralTree)) → LiteralTree
+abbrev pub literal_step : Literal-F LiteralTree MemberTree (List MemberTree) → LiteralTree
 literal_step (Local number) = local number
 literal_step (Atom mark value) = atom mark value
 literal_step (Node mark members) = node mark (members_from members)
 
-abbrev pub member_step : Member-F LiteralTree (List ℕ × LiteralTree) (List (List ℕ × LiteralTree)) → List ℕ × LiteralTree
+abbrev pub member_step : Member-F LiteralTree MemberTree (List MemberTree) → MemberTree
 member_step member = (member.label, member.literal)
 
-abbrev pub members_step : MemberList-F LiteralTree (List ℕ × LiteralTree) (List (List ℕ × LiteralTree)) → List (List ℕ × LiteralTree)
+abbrev pub members_step : MemberList-F LiteralTree MemberTree (List MemberTree) → List MemberTree
 members_step list = list.items.items
 
 abbrev pub literal_tree : Literal → LiteralTree
-literal_tree = fold-Literal LiteralTree (List ℕ × LiteralTree) (List (List ℕ × LiteralTree)) literal_step member_step members_step
+literal_tree = fold-Literal LiteralTree MemberTree (List MemberTree) literal_step member_step members_step
 
-abbrev pub member_tree : Member → List ℕ × LiteralTree
-member_tree = fold-Member LiteralTree (List ℕ × LiteralTree) (List (List ℕ × LiteralTree)) literal_step member_step members_step
+abbrev pub member_tree : Member → MemberTree
+member_tree = fold-Member LiteralTree MemberTree (List MemberTree) literal_step member_step members_step
 
-abbrev pub member_trees : MemberList → List (List ℕ × LiteralTree)
-member_trees = fold-MemberList LiteralTree (List ℕ × LiteralTree) (List (List ℕ × LiteralTree)) literal_step member_step members_step
+abbrev pub member_trees : MemberList → List MemberTree
+member_trees = fold-MemberList LiteralTree MemberTree (List MemberTree) literal_step member_step members_step
 
 -- the members of a list, in order
 abbrev pub members_of : MemberList → List Member
@@ -183,9 +186,12 @@ statement_tree (s.Load name literal) = load name (literal_tree literal)
 statement_tree (s.Name name path) = bind name (rooted_tree path)
 statement_tree (s.Unname name) = unname name
 statement_tree (s.Assign target value tail) = assign (rooted_tree target) value (tail_tree tail)
-statement_tree (s.AddNew target label literal tail) = add_new (rooted_tree target) label (literal_tree literal) (tail_tree tail)
-statement_tree (s.AddLink target label right tail) = add_link (rooted_tree target) label (rooted_tree right) (tail_tree tail)
-statement_tree (s.Remove target label right tail) = remove (rooted_tree target) label (rooted_tree right) (tail_tree tail)
+statement_tree (s.AddNew target label literal tail) =
+    add_new (rooted_tree target) label (literal_tree literal) (tail_tree tail)
+statement_tree (s.AddLink target label right tail) =
+    add_link (rooted_tree target) label (rooted_tree right) (tail_tree tail)
+statement_tree (s.Remove target label right tail) =
+    remove (rooted_tree target) label (rooted_tree right) (tail_tree tail)
 statement_tree (s.Select query) = select (select_tree query)
 statement_tree (s.Explain query) = explain (select_tree query)
 statement_tree s.Guide = guide

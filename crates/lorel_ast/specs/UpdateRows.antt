@@ -1,3 +1,4 @@
+-- The select that gives an update its rows.
 use Rattle.std.specs.Prelude.{[], ◌∷◌, Option, Some, None}
 use Rattle.lorel_ast.specs.Trees.{RootedTree, TailTree, SelectTree, StatementTree, object, assign, add_new, add_link, remove}
 

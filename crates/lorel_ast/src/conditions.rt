@@ -1,8 +1,10 @@
-ghost use Rattle.std.specs.Prelude.{◌≡◌, [], ◌∷◌, ◌++◌, length, map, slice_get, IfOk, OnOk, OnErr};
+ghost use Rattle.std.specs.Prelude.{◌≡◌, List, [], ◌∷◌, ◌++◌, length, map, slice_get};
+ghost use Rattle.std.specs.Prelude.{IfOk, OnOk, OnErr};
 ghost use Rattle.std.specs.Option.{option_copied};
-ghost use Rattle.lorel_ast.specs.Trees.{operand_tree, cond_tree, cond_trees, conds_of};
+ghost use Rattle.lorel_ast.specs.Trees.{OperandTree, CondTree, compare, same};
+ghost use Rattle.lorel_ast.specs.Trees.{operand_tree, rooted_tree, cond_tree, cond_trees, conds_of};
 
-use crate::routes::Rooted;
+use crate::rooted_paths::Rooted;
 use lore_base::{NoMemory, OemText, Op, TryCopy, Value};
 use std::alloc::Global;
 
@@ -57,11 +59,12 @@ pub struct CondList {
     items: Vec<Cond>,
 }
 
-impl Operand {
-    /// A copy, which stands for the same tree.
-    pub fn try_copy(&self, alloc: Global) -> Result<Operand, NoMemory>
-        ensures { IfOk result (λ copy. operand_tree copy ≡ operand_tree self.now) }
-    {
+impl TryCopy for Operand {
+    ghost Seen = { OperandTree };
+
+    ghost seen = { operand_tree };
+
+    fn try_copy(&self, alloc: Global) -> Result<Self, NoMemory> {
         match self {
             Operand::Atom(value) => Ok(Operand::Atom(value.try_copy(alloc)?)),
             Operand::At(path) => Ok(Operand::At(path.try_copy(alloc)?)),
@@ -69,12 +72,23 @@ impl Operand {
     }
 }
 
-impl Cond {
-    /// A copy, which stands for the same tree.
-    pub fn try_copy(&self, alloc: Global) -> Result<Cond, NoMemory>
-        ensures { IfOk result (λ copy. cond_tree copy ≡ cond_tree self.now) }
-    {
-        copy_cond(self, alloc)
+impl TryCopy for Cond {
+    ghost Seen = { CondTree };
+
+    ghost seen = { cond_tree };
+
+    fn try_copy(&self, alloc: Global) -> Result<Self, NoMemory> {
+        copy_cond(alloc, self)
+    }
+}
+
+impl TryCopy for CondList {
+    ghost Seen = { List CondTree };
+
+    ghost seen = { cond_trees };
+
+    fn try_copy(&self, alloc: Global) -> Result<Self, NoMemory> {
+        copy_conds(alloc, self)
     }
 }
 
@@ -112,32 +126,27 @@ impl CondList {
         self.items.as_slice()
     }
 
-    /// Puts a condition behind those that are there. Where memory is refused the list stays as it is.
+    /// Puts a condition behind those that are there. Where memory is refused the list stays as it
+    /// is.
     pub fn push(&mut self, item: Cond) -> Result<(), NoMemory>
         ensures ok { OnOk result (conds_of self.new ≡ conds_of self.old ++ item ∷ []) }
-        ensures trees { OnOk result (cond_trees self.new ≡ cond_trees self.old ++ cond_tree item ∷ []) }
+        ensures trees { OnOk result
+            (cond_trees self.new ≡ cond_trees self.old ++ cond_tree item ∷ []) }
         ensures err { OnErr result (conds_of self.new ≡ conds_of self.old) }
     {
         self.items.push(item)?;
         Ok(())
     }
-
-    /// A copy, whose conditions stand for the same trees.
-    pub fn try_copy(&self, alloc: Global) -> Result<CondList, NoMemory>
-        ensures { IfOk result (λ copy. cond_trees copy ≡ cond_trees self.now) }
-    {
-        copy_conds(self, alloc)
-    }
 }
 
 #[cycle(copy)]
-fn copy_cond(cond: &Cond, alloc: Global) -> Result<Cond, NoMemory>
+fn copy_cond(alloc: Global, cond: &Cond) -> Result<Cond, NoMemory>
     ensures { IfOk result (λ copy. cond_tree copy ≡ cond_tree cond.now) }
 {
     match cond {
-        Cond::Or(conds) => Ok(Cond::Or(copy_conds(conds, alloc)?)),
-        Cond::And(conds) => Ok(Cond::And(copy_conds(conds, alloc)?)),
-        Cond::Not(body) => Ok(Cond::Not(Box::new(alloc, copy_cond(body, alloc)?)?)),
+        Cond::Or(conds) => Ok(Cond::Or(copy_conds(alloc, conds)?)),
+        Cond::And(conds) => Ok(Cond::And(copy_conds(alloc, conds)?)),
+        Cond::Not(body) => Ok(Cond::Not(Box::new(alloc, copy_cond(alloc, body)?)?)),
         Cond::Exists {
             variable,
             path,
@@ -145,7 +154,7 @@ fn copy_cond(cond: &Cond, alloc: Global) -> Result<Cond, NoMemory>
         } => {
             let variable = variable.try_copy(alloc)?;
             let path = path.try_copy(alloc)?;
-            let body = Box::new(alloc, copy_cond(body, alloc)?)?;
+            let body = Box::new(alloc, copy_cond(alloc, body)?)?;
             Ok(Cond::Exists {
                 variable,
                 path,
@@ -159,37 +168,43 @@ fn copy_cond(cond: &Cond, alloc: Global) -> Result<Cond, NoMemory>
         } => {
             let variable = variable.try_copy(alloc)?;
             let path = path.try_copy(alloc)?;
-            let body = Box::new(alloc, copy_cond(body, alloc)?)?;
+            let body = Box::new(alloc, copy_cond(alloc, body)?)?;
             Ok(Cond::ForAll {
                 variable,
                 path,
                 body,
             })
         }
-        Cond::Compare { left, op, right } => {
-            let left = left.try_copy(alloc)?;
-            let right = right.try_copy(alloc)?;
-            Ok(Cond::Compare {
-                left,
-                op: *op,
-                right,
-            })
-        }
-        Cond::Same { left, right } => {
-            let left = left.try_copy(alloc)?;
-            let right = right.try_copy(alloc)?;
-            Ok(Cond::Same { left, right })
-        }
+        Cond::Compare { left, op, right } => copy_comparison(alloc, left, *op, right),
+        Cond::Same { left, right } => copy_sameness(alloc, left, right),
     }
 }
 
 #[cycle(copy)]
-fn copy_conds(conds: &CondList, alloc: Global) -> Result<CondList, NoMemory>
+fn copy_conds(alloc: Global, conds: &CondList) -> Result<CondList, NoMemory>
     ensures { IfOk result (λ copy. cond_trees copy ≡ cond_trees conds.now) }
 {
     let mut items = Vec::with_capacity(alloc, conds.items.len())?;
     'conds: for cond in &conds.items {
-        items.push(copy_cond(cond, alloc)?)?;
+        items.push(copy_cond(alloc, cond)?)?;
     }
     Ok(CondList { items })
+}
+
+fn copy_comparison(alloc: Global, left: &Operand, op: Op, right: &Operand) -> Result<Cond, NoMemory>
+    ensures { IfOk result (λ copy.
+        cond_tree copy ≡ compare (operand_tree left.now) op (operand_tree right.now)) }
+{
+    let left = left.try_copy(alloc)?;
+    let right = right.try_copy(alloc)?;
+    Ok(Cond::Compare { left, op, right })
+}
+
+fn copy_sameness(alloc: Global, left: &Rooted, right: &Rooted) -> Result<Cond, NoMemory>
+    ensures { IfOk result (λ copy.
+        cond_tree copy ≡ same (rooted_tree left.now) (rooted_tree right.now)) }
+{
+    let left = left.try_copy(alloc)?;
+    let right = right.try_copy(alloc)?;
+    Ok(Cond::Same { left, right })
 }

@@ -1,4 +1,5 @@
 ghost use Rattle.std.specs.Prelude.{◌≡◌, IfOk};
+ghost use Rattle.lorel_ast.specs.declared.dump_trees.DumpTree.{DumpTree as TheDumpTree};
 
 use lore_base::{Listing, Mode, NoMemory, ObjectList, OemText, Oid, TextList, TryCopy};
 use std::alloc::Global;
@@ -23,6 +24,10 @@ pub struct DumpTree {
 }
 
 impl TryCopy for DumpTree {
+    ghost Seen = { TheDumpTree };
+
+    ghost seen = { λ text. text };
+
     fn try_copy(&self, alloc: Global) -> Result<Self, NoMemory> {
         let labels = self.labels.try_copy(alloc)?;
         let names = self.names.try_copy(alloc)?;

@@ -1,6 +1,8 @@
-ghost use Rattle.std.specs.Prelude.{◌≡◌, [], ◌∷◌, ◌++◌, length, map, slice_get, IfOk, OnOk, OnErr};
+ghost use Rattle.std.specs.Prelude.{◌≡◌, List, [], ◌∷◌, ◌++◌, length, map, slice_get};
+ghost use Rattle.std.specs.Prelude.{IfOk, OnOk, OnErr};
 ghost use Rattle.std.specs.Option.{option_copied};
-ghost use Rattle.lorel_ast.specs.Trees.{literal_tree, member_tree, member_trees, members_of};
+ghost use Rattle.lorel_ast.specs.Trees.{LiteralTree, MemberTree, literal_tree, member_tree};
+ghost use Rattle.lorel_ast.specs.Trees.{member_trees, members_of};
 
 use lore_base::{NoMemory, OemText, TryCopy, Value};
 use std::alloc::Global;
@@ -38,21 +40,33 @@ pub struct Member {
     pub literal: Literal,
 }
 
-impl Literal {
-    /// A copy, which stands for the same tree.
-    pub fn try_copy(&self, alloc: Global) -> Result<Literal, NoMemory>
-        ensures { IfOk result (λ copy. literal_tree copy ≡ literal_tree self.now) }
-    {
-        copy_literal(self, alloc)
+impl TryCopy for Literal {
+    ghost Seen = { LiteralTree };
+
+    ghost seen = { literal_tree };
+
+    fn try_copy(&self, alloc: Global) -> Result<Self, NoMemory> {
+        copy_literal(alloc, self)
     }
 }
 
-impl Member {
-    /// A copy, which stands for the same label and tree.
-    pub fn try_copy(&self, alloc: Global) -> Result<Member, NoMemory>
-        ensures { IfOk result (λ copy. member_tree copy ≡ member_tree self.now) }
-    {
-        copy_member(self, alloc)
+impl TryCopy for Member {
+    ghost Seen = { MemberTree };
+
+    ghost seen = { member_tree };
+
+    fn try_copy(&self, alloc: Global) -> Result<Self, NoMemory> {
+        copy_member(alloc, self)
+    }
+}
+
+impl TryCopy for MemberList {
+    ghost Seen = { List MemberTree };
+
+    ghost seen = { member_trees };
+
+    fn try_copy(&self, alloc: Global) -> Result<Self, NoMemory> {
+        copy_members(alloc, self)
     }
 }
 
@@ -93,23 +107,17 @@ impl MemberList {
     /// Puts a member behind those that are there. Where memory is refused the list stays as it is.
     pub fn push(&mut self, item: Member) -> Result<(), NoMemory>
         ensures ok { OnOk result (members_of self.new ≡ members_of self.old ++ item ∷ []) }
-        ensures trees { OnOk result (member_trees self.new ≡ member_trees self.old ++ member_tree item ∷ []) }
+        ensures trees { OnOk result
+            (member_trees self.new ≡ member_trees self.old ++ member_tree item ∷ []) }
         ensures err { OnErr result (members_of self.new ≡ members_of self.old) }
     {
         self.items.push(item)?;
         Ok(())
     }
-
-    /// A copy, whose members stand for the same labels and trees.
-    pub fn try_copy(&self, alloc: Global) -> Result<MemberList, NoMemory>
-        ensures { IfOk result (λ copy. member_trees copy ≡ member_trees self.now) }
-    {
-        copy_members(self, alloc)
-    }
 }
 
 #[cycle(copy)]
-fn copy_literal(literal: &Literal, alloc: Global) -> Result<Literal, NoMemory>
+fn copy_literal(alloc: Global, literal: &Literal) -> Result<Literal, NoMemory>
     ensures { IfOk result (λ copy. literal_tree copy ≡ literal_tree literal.now) }
 {
     match literal {
@@ -122,7 +130,7 @@ fn copy_literal(literal: &Literal, alloc: Global) -> Result<Literal, NoMemory>
             })
         }
         Literal::Node { local, members } => {
-            let members = copy_members(members, alloc)?;
+            let members = copy_members(alloc, members)?;
             Ok(Literal::Node {
                 local: *local,
                 members,
@@ -132,21 +140,21 @@ fn copy_literal(literal: &Literal, alloc: Global) -> Result<Literal, NoMemory>
 }
 
 #[cycle(copy)]
-fn copy_members(members: &MemberList, alloc: Global) -> Result<MemberList, NoMemory>
+fn copy_members(alloc: Global, members: &MemberList) -> Result<MemberList, NoMemory>
     ensures { IfOk result (λ copy. member_trees copy ≡ member_trees members.now) }
 {
     let mut items = Vec::with_capacity(alloc, members.items.len())?;
     'members: for member in &members.items {
-        items.push(copy_member(member, alloc)?)?;
+        items.push(copy_member(alloc, member)?)?;
     }
     Ok(MemberList { items })
 }
 
 #[cycle(copy)]
-fn copy_member(member: &Member, alloc: Global) -> Result<Member, NoMemory>
+fn copy_member(alloc: Global, member: &Member) -> Result<Member, NoMemory>
     ensures { IfOk result (λ copy. member_tree copy ≡ member_tree member.now) }
 {
     let label = member.label.try_copy(alloc)?;
-    let literal = copy_literal(&member.literal, alloc)?;
+    let literal = copy_literal(alloc, &member.literal)?;
     Ok(Member { label, literal })
 }

@@ -1,9 +1,11 @@
 ghost use Rattle.std.specs.Prelude.{◌≡◌, IfOk};
-ghost use Rattle.lorel_ast.specs.Trees.{rooted_tree, literal_tree, tail_tree, statement_tree, load, bind, assign, add_new, add_link, remove};
+ghost use Rattle.lorel_ast.specs.Trees.{StatementTree, load, bind, unname, assign, add_new};
+ghost use Rattle.lorel_ast.specs.Trees.{add_link, remove};
+ghost use Rattle.lorel_ast.specs.Trees.{rooted_tree, literal_tree, tail_tree, statement_tree};
 
 use crate::dump_trees::DumpTree;
 use crate::literals::Literal;
-use crate::routes::{LabelPath, Rooted};
+use crate::rooted_paths::{LabelPath, Rooted};
 use crate::selects::{Select, Tail};
 use lore_base::{Mode, NoMemory, OemText, TryCopy, Value};
 use std::alloc::Global;
@@ -74,40 +76,39 @@ pub enum Statement {
     Generate(i64, i64),
 }
 
-impl Statement {
-    /// A copy, which stands for the same tree.
-    pub fn try_copy(&self, alloc: Global) -> Result<Statement, NoMemory>
-        ensures { IfOk result (λ copy. statement_tree copy ≡ statement_tree self.now) }
-    {
+impl TryCopy for Statement {
+    ghost Seen = { StatementTree };
+
+    ghost seen = { statement_tree };
+
+    fn try_copy(&self, alloc: Global) -> Result<Self, NoMemory> {
         match self {
-            Statement::Load { name, literal } => copy_load(name, literal, alloc),
-            Statement::Name { name, path } => copy_name(name, path, alloc),
-            Statement::Unname { name } => Ok(Statement::Unname {
-                name: name.try_copy(alloc)?,
-            }),
+            Statement::Load { name, literal } => copy_load(alloc, name, literal),
+            Statement::Name { name, path } => copy_name(alloc, name, path),
+            Statement::Unname { name } => copy_unname(alloc, name),
             Statement::Assign {
                 target,
                 value,
                 tail,
-            } => copy_assign(target, value, tail, alloc),
+            } => copy_assign(alloc, target, value, tail),
             Statement::AddNew {
                 target,
                 label,
                 literal,
                 tail,
-            } => copy_add_new(target, label, literal, tail, alloc),
+            } => copy_add_new(alloc, target, label, literal, tail),
             Statement::AddLink {
                 target,
                 label,
                 right,
                 tail,
-            } => copy_add_link(target, label, right, tail, alloc),
+            } => copy_add_link(alloc, target, label, right, tail),
             Statement::Remove {
                 target,
                 label,
                 right,
                 tail,
-            } => copy_remove(target, label, right, tail, alloc),
+            } => copy_remove(alloc, target, label, right, tail),
             Statement::Select(select) => Ok(Statement::Select(select.try_copy(alloc)?)),
             Statement::Explain(select) => Ok(Statement::Explain(select.try_copy(alloc)?)),
             Statement::Guide => Ok(Statement::Guide),
@@ -122,7 +123,7 @@ impl Statement {
     }
 }
 
-fn copy_load(name: &OemText, literal: &Literal, alloc: Global) -> Result<Statement, NoMemory>
+fn copy_load(alloc: Global, name: &OemText, literal: &Literal) -> Result<Statement, NoMemory>
     ensures { IfOk result (λ copy. statement_tree copy ≡ load name.now (literal_tree literal.now)) }
 {
     let name = name.try_copy(alloc)?;
@@ -130,7 +131,7 @@ fn copy_load(name: &OemText, literal: &Literal, alloc: Global) -> Result<Stateme
     Ok(Statement::Load { name, literal })
 }
 
-fn copy_name(name: &OemText, path: &Rooted, alloc: Global) -> Result<Statement, NoMemory>
+fn copy_name(alloc: Global, name: &OemText, path: &Rooted) -> Result<Statement, NoMemory>
     ensures { IfOk result (λ copy. statement_tree copy ≡ bind name.now (rooted_tree path.now)) }
 {
     let name = name.try_copy(alloc)?;
@@ -138,13 +139,21 @@ fn copy_name(name: &OemText, path: &Rooted, alloc: Global) -> Result<Statement, 
     Ok(Statement::Name { name, path })
 }
 
+fn copy_unname(alloc: Global, name: &OemText) -> Result<Statement, NoMemory>
+    ensures { IfOk result (λ copy. statement_tree copy ≡ unname name.now) }
+{
+    let name = name.try_copy(alloc)?;
+    Ok(Statement::Unname { name })
+}
+
 fn copy_assign(
+    alloc: Global,
     target: &Rooted,
     value: &Value,
     tail: &Tail,
-    alloc: Global,
 ) -> Result<Statement, NoMemory>
-    ensures { IfOk result (λ copy. statement_tree copy ≡ assign (rooted_tree target.now) value.now (tail_tree tail.now)) }
+    ensures { IfOk result (λ copy.
+        statement_tree copy ≡ assign (rooted_tree target.now) value.now (tail_tree tail.now)) }
 {
     let target = target.try_copy(alloc)?;
     let value = value.try_copy(alloc)?;
@@ -157,13 +166,14 @@ fn copy_assign(
 }
 
 fn copy_add_new(
+    alloc: Global,
     target: &Rooted,
     label: &OemText,
     literal: &Literal,
     tail: &Tail,
-    alloc: Global,
 ) -> Result<Statement, NoMemory>
-    ensures { IfOk result (λ copy. statement_tree copy ≡ add_new (rooted_tree target.now) label.now (literal_tree literal.now) (tail_tree tail.now)) }
+    ensures { IfOk result (λ copy. statement_tree copy ≡ add_new
+        (rooted_tree target.now) label.now (literal_tree literal.now) (tail_tree tail.now)) }
 {
     let target = target.try_copy(alloc)?;
     let label = label.try_copy(alloc)?;
@@ -178,13 +188,14 @@ fn copy_add_new(
 }
 
 fn copy_add_link(
+    alloc: Global,
     target: &Rooted,
     label: &OemText,
     right: &Rooted,
     tail: &Tail,
-    alloc: Global,
 ) -> Result<Statement, NoMemory>
-    ensures { IfOk result (λ copy. statement_tree copy ≡ add_link (rooted_tree target.now) label.now (rooted_tree right.now) (tail_tree tail.now)) }
+    ensures { IfOk result (λ copy. statement_tree copy ≡ add_link
+        (rooted_tree target.now) label.now (rooted_tree right.now) (tail_tree tail.now)) }
 {
     let target = target.try_copy(alloc)?;
     let label = label.try_copy(alloc)?;
@@ -199,13 +210,14 @@ fn copy_add_link(
 }
 
 fn copy_remove(
+    alloc: Global,
     target: &Rooted,
     label: &OemText,
     right: &Rooted,
     tail: &Tail,
-    alloc: Global,
 ) -> Result<Statement, NoMemory>
-    ensures { IfOk result (λ copy. statement_tree copy ≡ remove (rooted_tree target.now) label.now (rooted_tree right.now) (tail_tree tail.now)) }
+    ensures { IfOk result (λ copy. statement_tree copy ≡ remove
+        (rooted_tree target.now) label.now (rooted_tree right.now) (tail_tree tail.now)) }
 {
     let target = target.try_copy(alloc)?;
     let label = label.try_copy(alloc)?;

@@ -3,8 +3,8 @@ use Rattle.std.proofs.Common.{◌≡◌, ◌≢◌, ℕ, ◌+◌, ◌<◌, Bool,
 use Rattle.std.specs.List.{list_any}
 use Rattle.std.proofs.lemmas.Bool.{ne_eqb, or_parts, cases_Bool, eqb-false, eq-eqb, cases_eq}
 use Rattle.std.proofs.lemmas.List.{take_more, take-append-drop, drop_more}
-use Rattle.lorel_lex.specs.Shapes.{escape_of, IsContents, IsEscaped}
-use Rattle.lorel_lex.specs.Lexing.{escaped_after, ClosesAt, FindsQuote}
+use Rattle.lore_base.specs.Quotes.{unescape, IsContents, IsEscaped}
+use Rattle.lorel_lex.specs.inside.Lexing.{escaped_after, ClosesAt, FindsQuote}
 
 -- behind one more byte
 pub escaped_after-push : (quote : ℕ) (escaped : Bool) (bytes : List ℕ) (before : Bool) (byte : ℕ) → escaped_after quote escaped bytes ≡ Some before
@@ -54,7 +54,7 @@ mutual
   escaped_inside quote (letter ∷ raw) text plain (byte, rest, is, e, f) = contents_inside quote raw rest plain f
 
 -- two fronts that a quote ends are one
-same_front : (quote : ℕ) (escaped : Bool) (a b x y : List ℕ) → escaped_after quote escaped a ≡ Some false → escaped_after quote escaped b ≡ Some false → a ++ quote ∷ x ≡ b ++ quote ∷ y → a ≡ b
+pub same_front : (quote : ℕ) (escaped : Bool) (a b x y : List ℕ) → escaped_after quote escaped a ≡ Some false → escaped_after quote escaped b ≡ Some false → a ++ quote ∷ x ≡ b ++ quote ∷ y → a ≡ b
 same_front quote escaped [] [] x y f g e = refl
 same_front quote escaped [] (byte ∷ b) x y f g e = absurd (
     let head : byte ≡ quote = cc in
@@ -140,7 +140,7 @@ mutual
 
   an_escape : (quote : ℕ) (raw : List ℕ) → ((text : List ℕ) × IsEscaped quote raw text) ⊎ ((text : List ℕ) → IsEscaped quote raw text → ⊥)
   an_escape quote [] = inr (λ text f. f)
-  an_escape quote (letter ∷ raw) = elim (a_byte (escape_of quote letter)) [
+  an_escape quote (letter ∷ raw) = elim (a_byte (unescape quote letter)) [
     | inl none ↦ inr (λ text f. let (byte, rest, is, _, _) = f in let wrong : None ≡ Some byte = sym none ∙ is in cc)
     | inr (byte, is) ↦ elim (a_text quote raw) [
       | inl (text, f) ↦ inl (byte ∷ text, (byte, text, is, refl, f))

@@ -1,12 +1,10 @@
 -- The longest token at the front, and what a fault of it is.
 use Rattle.std.proofs.Common.{◌≡◌, ℕ, ◌<◌, ◌≤◌, List, ◌++◌, length, take, drop, Err, refl, sym, ap, ◌∙◌, inl, inr, arith}
 use Rattle.std.proofs.lemmas.List.{take-append-drop, length-take-le, take_at, drop_at}
-use Rattle.lorel_lex.specs.declared.token_types.Kind.{Kind}
-use Rattle.lorel_lex.specs.declared.token_types.LexFault.{LexFault}
-use Rattle.lorel_lex.specs.declared.token_types.LexFault.TheVariants.{BadToken, RealRefused, NumberRange, TextTooLong, NoMemory}
+use Rattle.lorel_lex.specs.Types.{Kind, LexFault, BadToken, RealRefused, NumberRange, TextTooLong, NoMemory}
 use Rattle.lorel_lex.specs.Shapes.{IsToken}
 use Rattle.lorel_lex.specs.Tokens.{IsWhole, IsInRange, IsShort, Keeps, fault_number, BeginsNone}
-use Rattle.lorel_lex.specs.Lexing.{IsShape, ReadsFirst}
+use Rattle.lorel_lex.specs.inside.Lexing.{IsShape, ReadsFirst}
 
 -- the same number of bytes at the front of a list are the same bytes
 pub same_cut : {A : Type 0} (a b x y : List A) → length a ≡ length b → a ++ x ≡ b ++ y → (a ≡ b) × (x ≡ y)

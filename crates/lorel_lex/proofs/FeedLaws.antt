@@ -2,14 +2,14 @@
 use Rattle.std.proofs.Common.{◌≡◌, ℕ, ◌+◌, ◌-◌, ◌<◌, ◌≤◌, Bool, true, false, List, ◌∷◌, ◌++◌, length, get_or, take, drop, Option, Some, None, refl, sym, ap, ◌∙◌, subst, inr, arith}
 use Rattle.std.specs.Prelude.{unwrap_or, is_some}
 use Rattle.std.proofs.lemmas.List.{length-append, length-take-le, take-append-drop, drop_more}
-use Rattle.lore_base.specs.declared.limits.TheConstants.{CHUNK_BYTES}
+use Rattle.lorel_lex.specs.Types.{CHUNK_BYTES}
 use Rattle.lorel_lex.specs.declared.scan.State.{State}
 use Rattle.lorel_lex.specs.declared.scan.State.TheVariants.{Plain}
 use Rattle.lorel_lex.specs.Progress.{Progress, holds}
 use Rattle.lorel_lex.specs.Scan.{is_end, scanned, GoesOn, IsOpen, IsChunk}
 use Rattle.lorel_lex.specs.declared.chunk_reader.FedState.TheVariants.{More, Whole, TooLong}
 use Rattle.lorel_lex.specs.Chunks.{IsTooLong, Feeds}
-use Rattle.lorel_lex.specs.Scanning.{EndsAt}
+use Rattle.lorel_lex.specs.inside.Scanning.{EndsAt}
 use Rattle.lorel_lex.proofs.ScanLaws.{GoesOn-append, scanned-append, is_end-true}
 
 -- a reader with these fields, as contracts see it

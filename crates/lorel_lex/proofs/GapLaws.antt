@@ -4,7 +4,7 @@ use Rattle.std.proofs.lemmas.List.{append_assoc, take_more, take-append-drop, le
 use Rattle.std.proofs.Math.Seq.{take-add}
 use Rattle.std.proofs.lemmas.Bool.{or_parts, and_parts, cases_lt}
 use Rattle.lorel_lex.specs.Gaps.{is_blank, IsOnOneLine, IsGap, nothing, blank, comment, IsLastComment, IsBlank, begins_comment, begins_gap}
-use Rattle.lorel_lex.specs.Skipping.{EndsLine, SkipsGap}
+use Rattle.lorel_lex.specs.inside.Skipping.{EndsLine, SkipsGap}
 
 pub IsGap-append : {front : List ℕ} (back : List ℕ) → IsGap front → IsGap back → IsGap (front ++ back)
 IsGap-append back nothing g = g

@@ -5,16 +5,10 @@ use Rattle.std.specs.Char.{is_ascii_digit}
 use Rattle.std.specs.Str.Parse.{IsNumeral, digits_value}
 use Rattle.std.proofs.lemmas.Str.Parse.{digit_from_value}
 use Rattle.std.proofs.lemmas.Bool.{cases_order}
-use Rattle.lorel_lex.specs.declared.token_types.Kind.{Kind}
-use Rattle.lorel_lex.specs.declared.token_types.Kind.TheVariants.{Number, Local, Chars, Quoted, Symbol}
-use Rattle.lorel_lex.specs.declared.token_types.Sign.{Sign}
-use Rattle.lorel_lex.specs.declared.token_types.LexFault.{LexFault}
-use Rattle.lorel_lex.specs.declared.token_types.LexFault.TheVariants.{BadToken, RealRefused, NumberRange, TextTooLong, NoMemory}
-use Rattle.lorel_lex.specs.declared.byte_class.ByteClass.{ByteClass}
-use Rattle.lorel_lex.specs.declared.byte_class.ByteClass.TheVariants.{Letter, Digit, Minus, Ampersand, DoubleQuote, SingleQuote, Other}
+use Rattle.lorel_lex.specs.Types.{Kind, Number, Local, Chars, Quoted, Symbol, Sign, LexFault, BadToken, RealRefused, NumberRange, TextTooLong, NoMemory, ByteClass, Letter, Digit, Minus, Ampersand, DoubleQuote, SingleQuote, Other}
 use Rattle.lorel_lex.specs.Shapes.{IsNumber, IsLocal, sign_text, IsToken}
 use Rattle.lorel_lex.specs.Tokens.{IsFirst, Keeps, fault_number, BeginsNone, Breaks, IsFaultAt}
-use Rattle.lorel_lex.specs.Lexing.{class_of}
+use Rattle.lorel_lex.specs.inside.Lexing.{class_of}
 use Rattle.lorel_lex.proofs.SymbolLaws.{same_symbol, Written, written, one, two}
 use Rattle.lorel_lex.proofs.ClassLaws.{admits, digit_class, begins_with, digit_kind, minus_kind, local_kind, text_kind, label_kind, other_kind}
 use Rattle.lorel_lex.proofs.WordLaws.{word_kind, letter_front}

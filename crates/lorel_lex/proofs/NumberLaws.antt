@@ -11,12 +11,10 @@ use Rattle.std.proofs.lemmas.Str.Parse.{digit_from_value, digits_value-take-le}
 use Rattle.std.proofs.lemmas.Int.Digits.{digits_value_more}
 use Rattle.std.proofs.lemmas.Bool.{and_parts, and_from, leb-true, le-leb}
 use Rattle.std.proofs.lemmas.List.{length-take-le, take_rest}
-use Rattle.lorel_lex.specs.declared.token_types.Kind.{Kind}
-use Rattle.lorel_lex.specs.declared.token_types.Kind.TheVariants.{Number, Local}
-use Rattle.lorel_lex.specs.declared.byte_class.ByteClass.TheVariants.{Digit, Minus, Ampersand, Other}
+use Rattle.lorel_lex.specs.Types.{Kind, Number, Local, Digit, Minus, Ampersand, Other}
 use Rattle.lorel_lex.specs.Shapes.{IsNumber, begins, IsToken}
 use Rattle.lorel_lex.specs.Tokens.{begins_fraction, BeginsNone}
-use Rattle.lorel_lex.specs.Lexing.{class_of, EndsRun, BeginsSymbol, IsShape}
+use Rattle.lorel_lex.specs.inside.Lexing.{class_of, EndsRun, BeginsSymbol, IsShape}
 use Rattle.lorel_lex.proofs.RunLaws.{run_most, run_some}
 use Rattle.lorel_lex.proofs.SymbolLaws.{sign_short}
 use Rattle.lorel_lex.proofs.ClassLaws.{admitted, class_says, digit_kind, minus_kind, local_kind}
@@ -40,7 +38,7 @@ digit_passes byte d =
     let range = digit_from_value byte d in
     and_from (leb 48 byte) (leb byte 57) (le-leb 48 byte (omega arith)) (le-leb byte 57 (omega arith))
 
-run_from_AllDigits : (bytes : List ℕ) → AllDigits 10 bytes → list_all is_ascii_digit bytes ≡ true
+pub run_from_AllDigits : (bytes : List ℕ) → AllDigits 10 bytes → list_all is_ascii_digit bytes ≡ true
 run_from_AllDigits [] d = refl
 run_from_AllDigits (byte ∷ bytes) d = and_from (is_ascii_digit byte) (list_all is_ascii_digit bytes) (digit_passes byte d.0) (run_from_AllDigits bytes d.1)
 
@@ -55,6 +53,9 @@ digits_most bytes digits back len run e n = run_most is_ascii_digit bytes digits
 pub digit_first : (bytes : List ℕ) → class_of (get_or bytes 0 0) ≡ Digit → (0 < length bytes) × (is_ascii_digit (get_or bytes 0 0) ≡ true)
 digit_first [] e = absurd (let other : class_of 0 ≡ Other = refl in let same : Digit ≡ Other = sym e ∙ other in cc)
 digit_first (byte ∷ bytes) e = (omega arith, class_says byte Digit e)
+
+pub unsigned_some : (bytes : List ℕ) (len : ℕ) → EndsRun is_ascii_digit bytes len → class_of (get_or bytes 0 0) ≡ Digit → 0 < len
+unsigned_some bytes len run class = let (some, digit) = digit_first bytes class in run_some is_ascii_digit bytes len run some digit
 
 pub no_minus : (byte : ℕ) → is_ascii_digit byte ≡ true → byte ≡ 45 → ⊥
 no_minus byte e is = let range = digit_range byte e in omega arith

@@ -7,16 +7,11 @@ use Rattle.std.specs.Str.{is_utf8}
 use Rattle.std.proofs.lemmas.Str.{IsUtf8-from_is_utf8, is_utf8-from_IsUtf8}
 use Rattle.std.proofs.lemmas.Bool.{cases_Bool, cases_lt, cases_eq, or_from}
 use Rattle.std.proofs.lemmas.List.{take_all, drop_more, length-drop, append-nil}
-use Rattle.lore_base.specs.declared.limits.TheConstants.{WORD_BYTES, TEXT_BYTES}
-use Rattle.lorel_lex.specs.declared.token_types.Token.{Token}
-use Rattle.lorel_lex.specs.declared.token_types.Kind.{Kind}
-use Rattle.lorel_lex.specs.declared.token_types.Kind.TheVariants.{Word, Wild, Number, Local, Chars, Quoted}
-use Rattle.lorel_lex.specs.declared.token_types.LexFault.{LexFault}
-use Rattle.lorel_lex.specs.declared.token_types.LexFault.TheVariants.{BadToken, RealRefused, NumberRange, TextTooLong}
+use Rattle.lorel_lex.specs.Types.{WORD_BYTES, TEXT_BYTES, Token, Kind, Word, Wild, Number, Local, Chars, Quoted, LexFault, BadToken, RealRefused, NumberRange, TextTooLong}
 use Rattle.lorel_lex.specs.Gaps.{is_blank, IsGap, nothing, IsBlank, begins_comment, begins_gap}
-use Rattle.lorel_lex.specs.Skipping.{FindsLine, SkipsGap}
+use Rattle.lorel_lex.specs.inside.Skipping.{FindsLine, SkipsGap}
 use Rattle.lorel_lex.specs.Tokens.{begins_fraction, IsWhole, IsInRange, IsShort, Keeps, IsFaultAt, IsNext, AreTokensFrom, IsFaultBehind, HasSomeOutcome}
-use Rattle.lorel_lex.specs.Lexing.{IsShape}
+use Rattle.lorel_lex.specs.inside.Lexing.{IsShape}
 use Rattle.lorel_lex.proofs.GapLaws.{IsGap-blank, IsGap-comment, IsBlank-comment}
 use Rattle.lorel_lex.proofs.FaultLaws.{kept, reads_real, reads_range, reads_long}
 use Rattle.lorel_lex.proofs.TokenLaws.{a_place, next_found, next_shorter}

@@ -1,25 +1,22 @@
 -- The text or the quoted label at the front.
 use Rattle.std.proofs.Common.{◌≡◌, ◌≢◌, ℕ, ◌+◌, ◌≤◌, List, [], ◌∷◌, ◌++◌, length, take, drop, None, Err, suc, refl, sym, ap, ◌∙◌, subst, arith, get_or}
 use Rattle.std.proofs.lemmas.List.{append_assoc, append_cancel_right, length-append, length-take-le, take_more, take-append-drop}
-use Rattle.lorel_lex.specs.declared.token_types.Kind.TheVariants.{Chars, Quoted}
-use Rattle.lorel_lex.specs.declared.byte_class.ByteClass.TheVariants.{DoubleQuote, SingleQuote}
-use Rattle.lorel_lex.specs.declared.token_types.LexFault.{LexFault}
-use Rattle.lorel_lex.specs.declared.token_types.LexFault.TheVariants.{BadToken}
-use Rattle.lorel_lex.specs.Shapes.{IsContents, IsQuoted}
+use Rattle.lorel_lex.specs.Types.{Chars, Quoted, DoubleQuote, SingleQuote, LexFault, BadToken}
+use Rattle.lore_base.specs.Quotes.{IsContents, IsQuoted}
 use Rattle.lorel_lex.specs.Tokens.{BeginsNone}
-use Rattle.lorel_lex.specs.Lexing.{class_of, ClosesAt, FindsQuote, IsShape, Resolves, Encloses, ReadsQuoted}
+use Rattle.lorel_lex.specs.inside.Lexing.{class_of, ClosesAt, FindsQuote, IsShape, Resolves, Encloses, ReadsQuoted}
 use Rattle.lorel_lex.proofs.ClassLaws.{admitted, text_kind, label_kind}
 use Rattle.lorel_lex.proofs.ContentsLaws.{same_raw, contents_inside, same_contents}
 use Rattle.lorel_lex.proofs.FaultLaws.{shape, same_cut}
 
 -- quoted contents at the front
-record IsFrontQuoted (quote : ℕ) (rest front back text : List ℕ) : Type 0 where
-  raw : List ℕ
-  shape : front ≡ quote ∷ (raw ++ quote ∷ [])
-  parts : rest ≡ raw ++ quote ∷ back
-  contents : IsContents quote raw text
+pub record IsFrontQuoted (quote : ℕ) (rest front back text : List ℕ) : Type 0 where
+  pub raw : List ℕ
+  pub shape : front ≡ quote ∷ (raw ++ quote ∷ [])
+  pub parts : rest ≡ raw ++ quote ∷ back
+  pub contents : IsContents quote raw text
 
-front_quoted : (quote : ℕ) (bytes rest front back text : List ℕ) → bytes ≡ quote ∷ rest → bytes ≡ front ++ back → IsQuoted quote front text → IsFrontQuoted quote rest front back text
+pub front_quoted : (quote : ℕ) (bytes rest front back text : List ℕ) → bytes ≡ quote ∷ rest → bytes ≡ front ++ back → IsQuoted quote front text → IsFrontQuoted quote rest front back text
 front_quoted quote bytes rest front back text e parts (raw, f, contents) =
     let both : quote ∷ rest ≡ (quote ∷ (raw ++ quote ∷ [])) ++ back = sym e ∙ parts ∙ ap (λ (l : List ℕ). l ++ back) f in
     let tails : rest ≡ (raw ++ quote ∷ []) ++ back = cc in
@@ -73,7 +70,7 @@ same_quoted quote text a b (raw, e, f) (raw', e', g) =
 
 -- texts
 
-text_class : (bytes : List ℕ) → get_or bytes 0 0 ≡ 34 → class_of (get_or bytes 0 0) ≡ DoubleQuote
+pub text_class : (bytes : List ℕ) → get_or bytes 0 0 ≡ 34 → class_of (get_or bytes 0 0) ≡ DoubleQuote
 text_class bytes e = ap class_of e
 
 pub text_shape : (bytes contents : List ℕ) (len : ℕ) → get_or bytes 0 0 ≡ 34 → Encloses 34 bytes contents len → IsShape bytes (Chars contents) len
@@ -88,7 +85,7 @@ no_text bytes first none front back kind parts s =
 
 -- labels
 
-label_class : (bytes : List ℕ) → get_or bytes 0 0 ≡ 39 → class_of (get_or bytes 0 0) ≡ SingleQuote
+pub label_class : (bytes : List ℕ) → get_or bytes 0 0 ≡ 39 → class_of (get_or bytes 0 0) ≡ SingleQuote
 label_class bytes e = ap class_of e
 
 pub label_shape : (bytes label : List ℕ) (len : ℕ) → get_or bytes 0 0 ≡ 39 → Encloses 39 bytes label len → 1 ≤ length label → IsShape bytes (Quoted label) len

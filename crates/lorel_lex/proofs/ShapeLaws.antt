@@ -4,14 +4,11 @@ use Rattle.std.specs.Prelude.{pos, neg_ℤ}
 use Rattle.std.specs.Char.{is_ascii_digit}
 use Rattle.std.specs.Str.Parse.{digits_value}
 use Rattle.std.proofs.lemmas.Bool.{cases_Bool, cases_lt}
-use Rattle.lorel_lex.specs.declared.token_types.Kind.{Kind}
-use Rattle.lorel_lex.specs.declared.token_types.Kind.TheVariants.{PathOf, Number, Local, Chars, Quoted, Symbol}
-use Rattle.lorel_lex.specs.declared.token_types.LexFault.TheVariants.{BadToken}
-use Rattle.lorel_lex.specs.declared.byte_class.ByteClass.{ByteClass}
-use Rattle.lorel_lex.specs.declared.byte_class.ByteClass.TheVariants.{Letter, Digit, Minus, Ampersand, DoubleQuote, SingleQuote, Other}
-use Rattle.lorel_lex.specs.Shapes.{is_pattern_byte, begins, IsQuoted}
+use Rattle.lorel_lex.specs.Types.{Kind, PathOf, Number, Local, Chars, Quoted, Symbol, BadToken, ByteClass, Letter, Digit, Minus, Ampersand, DoubleQuote, SingleQuote, Other}
+use Rattle.lore_base.specs.Quotes.{IsQuoted}
+use Rattle.lorel_lex.specs.Shapes.{is_pattern_byte, begins}
 use Rattle.lorel_lex.specs.Tokens.{BeginsNone}
-use Rattle.lorel_lex.specs.Lexing.{class_of, begins_path_of, single, pair_at, BeginsSymbol, escaped_after, IsShape, ClosesAt, Encloses}
+use Rattle.lorel_lex.specs.inside.Lexing.{class_of, begins_path_of, single, pair_at, BeginsSymbol, escaped_after, IsShape, ClosesAt, Encloses}
 use Rattle.lorel_lex.proofs.RunLaws.{a_run}
 use Rattle.lorel_lex.proofs.ClassLaws.{class_says}
 use Rattle.lorel_lex.proofs.WordLaws.{word_kind, path_of_shape, word_shape}

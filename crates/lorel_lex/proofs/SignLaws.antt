@@ -1,13 +1,10 @@
 -- The symbol at the front.
 use Rattle.std.proofs.Common.{◌≡◌, ℕ, ◌<◌, List, [], ◌∷◌, ◌++◌, length, get_or, take, Option, Some, None, sym, ap, subst, ◌∙◌, arith}
 use Rattle.std.proofs.lemmas.List.{length-append, take_at}
-use Rattle.lorel_lex.specs.declared.token_types.Kind.{Kind}
-use Rattle.lorel_lex.specs.declared.token_types.Kind.TheVariants.{Symbol}
-use Rattle.lorel_lex.specs.declared.token_types.Sign.{Sign}
+use Rattle.lorel_lex.specs.Types.{Kind, Symbol, Sign, Other}
 use Rattle.lorel_lex.specs.Shapes.{sign_text, IsToken}
 use Rattle.lorel_lex.specs.Tokens.{BeginsNone}
-use Rattle.lorel_lex.specs.declared.byte_class.ByteClass.TheVariants.{Other}
-use Rattle.lorel_lex.specs.Lexing.{class_of, single, pair_at, BeginsSymbol, IsShape}
+use Rattle.lorel_lex.specs.inside.Lexing.{class_of, single, pair_at, BeginsSymbol, IsShape}
 use Rattle.lorel_lex.proofs.SymbolLaws.{Written, written, one, two, single_text, pair_front, pair_found, sign_short}
 use Rattle.lorel_lex.proofs.ClassLaws.{admitted, other_kind}
 use Rattle.lorel_lex.proofs.FaultLaws.{shape}
@@ -23,7 +20,7 @@ pair_shape bytes sign only found =
     let (other, is) = symbol_text bytes text rest kind only parts s in omega (arith, ap length is, sign_short other))
 
 -- without a pair there is at most one byte
-one_byte : (bytes text rest : List ℕ) (sign : Sign) → pair_at bytes ≡ None → bytes ≡ text ++ rest → text ≡ sign_text sign → Written sign → (byte : ℕ) × (text ≡ byte ∷ []) × (single byte ≡ Some sign)
+pub one_byte : (bytes text rest : List ℕ) (sign : Sign) → pair_at bytes ≡ None → bytes ≡ text ++ rest → text ≡ sign_text sign → Written sign → (byte : ℕ) × (text ≡ byte ∷ []) × (single byte ≡ Some sign)
 one_byte bytes text rest sign none e is (one byte t s) = (byte, is ∙ t, s)
 one_byte bytes text rest sign none e is (two byte t s) = absurd (
     let found = pair_found bytes rest byte sign (e ∙ ap (λ (l : List ℕ). l ++ rest) (is ∙ t)) s in cc)

@@ -4,16 +4,12 @@ use Rattle.std.specs.List.{All, AllByRecursion}
 use Rattle.std.proofs.lemmas.List.{append_assoc, take-append-drop, length-append, length-take-le, length-drop, append-nil, drop-drop, drop_at, drop_all, take_rest}
 use Rattle.std.proofs.lemmas.List.Elements.{All-from_recursion}
 use Rattle.lore_base.specs.Names.{IsIdentifier}
-use Rattle.lorel_lex.specs.declared.token_types.Token.{Token}
-use Rattle.lorel_lex.specs.declared.token_types.Kind.{Kind}
-use Rattle.lorel_lex.specs.declared.token_types.Kind.TheVariants.{Word, Wild, PathOf, Number, Local, Chars, Quoted, Symbol}
-use Rattle.lorel_lex.specs.declared.token_types.LexFault.{LexFault}
-use Rattle.lorel_lex.specs.declared.token_types.LexFault.TheVariants.{NumberRange, TextTooLong}
+use Rattle.lorel_lex.specs.Types.{Token, Kind, Word, Wild, PathOf, Number, Local, Chars, Quoted, Symbol, LexFault, NumberRange, TextTooLong}
 use Rattle.lorel_lex.specs.Gaps.{nothing, IsBlank, begins_gap}
-use Rattle.lorel_lex.specs.Skipping.{SkipsGap}
+use Rattle.lorel_lex.specs.inside.Skipping.{SkipsGap}
 use Rattle.lorel_lex.specs.Shapes.{IsPattern, IsToken}
 use Rattle.lorel_lex.specs.Tokens.{Keeps, IsFaultAt, IsPlace, IsNext, AreTokensFrom, AreTokens, IsFaultBehind, HasFault, HasOneOutcome, HasForm}
-use Rattle.lorel_lex.specs.Lexing.{IsShape}
+use Rattle.lorel_lex.specs.inside.Lexing.{IsShape}
 use Rattle.lorel_lex.proofs.GapLaws.{one_gap, not_blank}
 use Rattle.lorel_lex.proofs.ClassLaws.{begins_with}
 use Rattle.lorel_lex.proofs.KindLaws.{same_first, same_fault, no_fault}
@@ -53,10 +49,10 @@ same_token token other kinds starts ends =
     ∙ ap (λ (end : ℕ). made other.kind other.start end) ends
 
 -- bytes have one next place
-same_place : (bytes gap place other next : List ℕ) → IsPlace bytes gap place → IsPlace bytes other next → (gap ≡ other) × (place ≡ next)
+pub same_place : (bytes gap place other next : List ℕ) → IsPlace bytes gap place → IsPlace bytes other next → (gap ≡ other) × (place ≡ next)
 same_place bytes gap place other next p q = one_gap place next p.dropped q.dropped p.outside q.outside (sym p.parts ∙ q.parts)
 
-place_not_blank : (bytes gap place : List ℕ) → IsPlace bytes gap place → IsBlank bytes → ⊥
+pub place_not_blank : (bytes gap place : List ℕ) → IsPlace bytes gap place → IsBlank bytes → ⊥
 place_not_blank bytes gap place p blank = not_blank gap place p.dropped p.outside p.some (subst IsBlank p.parts blank)
 
 -- the bytes from a place on have one next token
@@ -136,7 +132,7 @@ pub record Leaves (at end : ℕ) (chunk rest : List ℕ) : Type 0 where
   pub within : end ≤ length chunk
   pub further : at < end
 
-token_length : (text rest : List ℕ) (kind : Kind) → IsToken text rest kind → 0 < length text
+pub token_length : (text rest : List ℕ) (kind : Kind) → IsToken text rest kind → 0 < length text
 token_length text rest kind s = let b = begins_with text rest kind s in omega (arith, ap length b.parts)
 
 pub next_leaves : (at : ℕ) (chunk rest : List ℕ) (token : Token) → at ≤ length chunk → IsNext at (drop at chunk) token rest → Leaves at token.end chunk rest

@@ -1,5 +1,6 @@
+-- What a reader of chunks does with the next piece of a script.
 use Rattle.std.specs.Prelude.{◌≡◌, ℕ, ◌+◌, ◌<◌, ◌≤◌, true, false, ◌⊎◌, List, ◌∷◌, ◌++◌, length}
-use Rattle.lore_base.specs.declared.limits.TheConstants.{CHUNK_BYTES}
+use Rattle.lorel_lex.specs.Types.{CHUNK_BYTES}
 use Rattle.lorel_lex.specs.declared.chunk_reader.FedState.{FedState}
 use Rattle.lorel_lex.specs.declared.chunk_reader.FedState.TheVariants.{More, Whole, TooLong, NoMemory}
 use Rattle.lorel_lex.specs.Progress.{Progress, holds}

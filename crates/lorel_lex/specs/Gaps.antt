@@ -1,3 +1,4 @@
+-- Blank bytes and comments, which part tokens.
 use Rattle.std.specs.Prelude.{◌≡◌, ◌≢◌, ℕ, Bool, true, false, ◌&&◌, ◌||◌, ◌==◌, List, [], ◌∷◌, ◌++◌, ◌⊎◌}
 use Rattle.std.specs.List.{AllByRecursion}
 
@@ -9,7 +10,8 @@ is_blank byte = (byte == 32) || ((byte == 9) || ((byte == 10) || (byte == 13)))
 abbrev pub IsOnOneLine : List ℕ → Type 0
 IsOnOneLine bytes = AllByRecursion (λ byte. byte ≢ 10) bytes
 
--- blank bytes, and comments with the line feeds that end them: a comment is `--` and what stands behind it on its line
+-- blank bytes, and comments with the line feeds that end them: a comment is `--` and what stands behind it on
+-- its line
 pub data IsGap : List ℕ → Type 0 where
   nothing : IsGap []
   blank : (byte : ℕ) (more : List ℕ) → is_blank byte ≡ true → IsGap more → IsGap (byte ∷ more)

@@ -1,10 +1,10 @@
+pub mod Types
 pub mod Scan
-pub mod Scanning
-pub mod Gaps
-pub mod Skipping
 pub mod Progress
-pub mod Reader
 pub mod Chunks
+pub mod Gaps
 pub mod Shapes
 pub mod Tokens
-pub mod Lexing
+pub mod Writing
+pub mod Faults
+pub mod inside

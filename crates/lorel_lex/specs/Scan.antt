@@ -1,7 +1,9 @@
+-- How a script is cut into chunks: the states of the scanner, and which `;` ends a chunk.
 use Rattle.std.specs.Prelude.{◌≡◌, ℕ, Bool, true, false, if◌then◌else◌, ◌==◌, List, [], ◌∷◌, ◌++◌, All}
-use Rattle.std.specs.List.{flat_map}
+use Rattle.lore_base.specs.Chunks.{joined_chunks}
 use Rattle.lorel_lex.specs.declared.scan.State.{State}
-use Rattle.lorel_lex.specs.declared.scan.State.TheVariants.{Plain, Dash, Comment, Text, TextEscape, Quoted, QuotedEscape}
+use Rattle.lorel_lex.specs.declared.scan.State.TheVariants.{Plain, Dash, Comment, Text, TextEscape, Quoted}
+use Rattle.lorel_lex.specs.declared.scan.State.TheVariants.{QuotedEscape}
 
 -- a `;` ends a chunk, save in a comment, a text and a quoted label
 abbrev pub is_end : State → ℕ → Bool
@@ -17,8 +19,8 @@ is_end QuotedEscape byte = false
 abbrev pub opened : ℕ → State
 opened byte = if byte == 34 then Text else (if byte == 39 then Quoted else Plain)
 
--- the state behind a byte that doesn't end the chunk. A second `-` opens a comment, which goes to a line feed; a `\`
--- takes the next byte of a text or quoted label with it
+-- the state behind a byte that doesn't end the chunk. A second `-` opens a comment, which goes to a line
+-- feed; a `\` takes the next byte of a text or quoted label with it
 abbrev pub state_after : State → ℕ → State
 state_after Plain byte = if byte == 45 then Dash else opened byte
 state_after Dash byte = if byte == 45 then Comment else opened byte
@@ -49,11 +51,15 @@ pub record IsChunk (bytes : List ℕ) : Type 0 where
 
 -- the script is these chunks, each with its `;`, and a rest that no `;` ends
 pub record IsScript (script : List ℕ) (chunks : List (List ℕ)) (rest : List ℕ) : Type 0 where
-  pub whole : script ≡ flat_map (λ chunk. chunk ++ 59 ∷ []) chunks ++ rest
+  pub whole : script ≡ joined_chunks chunks ++ rest
   pub each : All IsChunk chunks
   pub unended : IsOpen rest
 
 -- no script has two cuts into chunks and a rest
 abbrev pub HasOneCut : Type 0
-HasOneCut = (script rest other : List ℕ) (chunks others : List (List ℕ)) → IsScript script chunks rest → IsScript script others other →
-    (chunks ≡ others) × (rest ≡ other)
+HasOneCut = (script rest other : List ℕ) (chunks others : List (List ℕ))
+    → IsScript script chunks rest → IsScript script others other → (chunks ≡ others) × (rest ≡ other)
+
+-- each script has a cut into chunks and a rest
+abbrev pub HasSomeCut : Type 0
+HasSomeCut = (script : List ℕ) → (chunks : List (List ℕ)) × (rest : List ℕ) × IsScript script chunks rest

@@ -1,19 +1,19 @@
-use Rattle.std.specs.Prelude.{◌≡◌, ℕ, ◌+◌, ◌<◌, ◌≤◌, ◌^◌, ◌⊎◌, Bool, false, ◌&&◌, ◌==◌, List, [], ◌∷◌, ◌++◌, length, Result, Ok, Err, FitsSigned, IsUtf8}
+-- The tokens or the fault of a chunk, and the form that each token has.
+use Rattle.std.specs.Prelude.{◌≡◌, ℕ, ◌+◌, ◌<◌, ◌≤◌, ◌^◌, ◌⊎◌, Bool, false, ◌&&◌, ◌==◌, List, [], ◌∷◌, ◌++◌}
+use Rattle.std.specs.Prelude.{length, Result, Ok, Err, FitsSigned, IsUtf8}
 use Rattle.std.specs.Int.{w64}
 use Rattle.std.specs.Char.{is_ascii_digit}
 use Rattle.lore_base.specs.Names.{IsIdentifier}
-use Rattle.lore_base.specs.declared.limits.TheConstants.{WORD_BYTES, TEXT_BYTES}
-use Rattle.lorel_lex.specs.declared.token_types.Token.{Token}
-use Rattle.lorel_lex.specs.declared.token_types.Kind.{Kind}
-use Rattle.lorel_lex.specs.declared.token_types.Kind.TheVariants.{Word, Wild, PathOf, Number, Local, Chars, Quoted, Symbol}
-use Rattle.lorel_lex.specs.declared.token_types.LexFault.{LexFault}
-use Rattle.lorel_lex.specs.declared.token_types.LexFault.TheVariants.{BadToken, RealRefused, NumberRange, TextTooLong, NoMemory}
+use Rattle.lorel_lex.specs.Types.{WORD_BYTES, TEXT_BYTES, Token, Kind, Word, Wild, PathOf, Number, Local}
+use Rattle.lorel_lex.specs.Types.{Chars, Quoted, Symbol, LexFault, BadToken, RealRefused, NumberRange}
+use Rattle.lorel_lex.specs.Types.{TextTooLong, NoMemory}
 use Rattle.lorel_lex.specs.Gaps.{IsGap, IsBlank, begins_gap}
 use Rattle.lorel_lex.specs.Shapes.{IsPattern, begins, IsToken}
 
 -- of all fronts of these bytes, none longer than the text is a token
 abbrev pub IsLongest : List ℕ → List ℕ → Type 0
-IsLongest text rest = (front back : List ℕ) (kind : Kind) → text ++ rest ≡ front ++ back → IsToken front back kind → length front ≤ length text
+IsLongest text rest = (front back : List ℕ) (kind : Kind) → text ++ rest ≡ front ++ back
+    → IsToken front back kind → length front ≤ length text
 
 -- the longest token that starts a list of bytes, what it stands for, and the rest behind it
 pub record IsFirst (bytes : List ℕ) (kind : Kind) (rest : List ℕ) : Type 0 where
@@ -98,7 +98,8 @@ pub record IsNext (at : ℕ) (bytes : List ℕ) (token : Token) (rest : List ℕ
 -- the bytes from a place on have these tokens, and else only blank bytes and comments
 abbrev pub AreTokensFrom : ℕ → List ℕ → List Token → Type 0
 AreTokensFrom at bytes [] = IsBlank bytes
-AreTokensFrom at bytes (token ∷ tokens) = (rest : List ℕ) × IsNext at bytes token rest × AreTokensFrom token.end rest tokens
+AreTokensFrom at bytes (token ∷ tokens) = (rest : List ℕ) × IsNext at bytes token rest
+    × AreTokensFrom token.end rest tokens
 
 -- the tokens of a chunk, which is UTF-8
 pub record AreTokens (chunk : List ℕ) (tokens : List Token) : Type 0 where
@@ -108,11 +109,13 @@ pub record AreTokens (chunk : List ℕ) (tokens : List Token) : Type 0 where
 -- the bytes from a place on have these tokens without a fault, and the next place has this fault
 abbrev pub IsFaultBehind : ℕ → List ℕ → List Token → LexFault → Type 0
 IsFaultBehind at bytes [] fault = (gap place : List ℕ) × IsPlace bytes gap place × IsFaultAt fault place
-IsFaultBehind at bytes (token ∷ tokens) fault = (rest : List ℕ) × IsNext at bytes token rest × IsFaultBehind token.end rest tokens fault
+IsFaultBehind at bytes (token ∷ tokens) fault = (rest : List ℕ) × IsNext at bytes token rest
+    × IsFaultBehind token.end rest tokens fault
 
 -- the fault of a chunk: BadToken where it isn't UTF-8, else the fault at the first place that has one
 abbrev pub HasFault : List ℕ → LexFault → Type 0
-HasFault chunk fault = ((fault ≡ BadToken) × (IsUtf8 chunk → ⊥)) ⊎ (IsUtf8 chunk × (tokens : List Token) × IsFaultBehind 0 chunk tokens fault)
+HasFault chunk fault = ((fault ≡ BadToken) × (IsUtf8 chunk → ⊥))
+    ⊎ (IsUtf8 chunk × (tokens : List Token) × IsFaultBehind 0 chunk tokens fault)
 
 -- the outcome of a chunk: its tokens or its fault
 abbrev pub IsOutcome : List ℕ → Result (List Token) LexFault → Type 0
@@ -121,7 +124,8 @@ IsOutcome chunk (Err fault) = HasFault chunk fault
 
 -- no chunk has two outcomes: it has one list of tokens or one fault, and not both
 abbrev pub HasOneOutcome : Type 0
-HasOneOutcome = (chunk : List ℕ) (outcome other : Result (List Token) LexFault) → IsOutcome chunk outcome → IsOutcome chunk other → outcome ≡ other
+HasOneOutcome = (chunk : List ℕ) (outcome other : Result (List Token) LexFault) → IsOutcome chunk outcome
+    → IsOutcome chunk other → outcome ≡ other
 
 -- each chunk has a list of tokens or a fault
 abbrev pub HasSomeOutcome : Type 0

@@ -1,6 +1,7 @@
 ghost use Rattle.std.specs.Prelude.{◌≡◌};
+ghost use Rattle.lore_base.specs.Names.{is_word_byte};
 ghost use Rattle.lorel_lex.specs.Shapes.{is_pattern_start, is_pattern_byte};
-ghost use Rattle.lorel_lex.specs.Lexing as spec;
+ghost use Rattle.lorel_lex.specs.inside.Lexing as spec;
 
 /// Which tokens a byte may begin.
 #[derive(Clone, Copy)]
@@ -27,11 +28,42 @@ fn is_pattern_start(byte: u8) -> bool
     byte.is_ascii_alphabetic() || byte == b'_' || byte == b'%'
 }
 
+// Which bytes may stand in an identifier behind its first.
+const WORD_BYTES: [bool; 256] = [
+    false, false, false, false, false, false, false, false, false, false, false, false, false,
+    false, false, false, false, false, false, false, false, false, false, false, false, false,
+    false, false, false, false, false, false, false, false, false, false, false, false, false,
+    false, false, false, false, false, false, false, false, false, true, true, true, true, true,
+    true, true, true, true, true, false, false, false, false, false, false, false, true, true,
+    true, true, true, true, true, true, true, true, true, true, true, true, true, true, true, true,
+    true, true, true, true, true, true, true, true, false, false, false, false, true, false, true,
+    true, true, true, true, true, true, true, true, true, true, true, true, true, true, true, true,
+    true, true, true, true, true, true, true, true, true, false, false, false, false, false, false,
+    false, false, false, false, false, false, false, false, false, false, false, false, false,
+    false, false, false, false, false, false, false, false, false, false, false, false, false,
+    false, false, false, false, false, false, false, false, false, false, false, false, false,
+    false, false, false, false, false, false, false, false, false, false, false, false, false,
+    false, false, false, false, false, false, false, false, false, false, false, false, false,
+    false, false, false, false, false, false, false, false, false, false, false, false, false,
+    false, false, false, false, false, false, false, false, false, false, false, false, false,
+    false, false, false, false, false, false, false, false, false, false, false, false, false,
+    false, false, false, false, false, false, false, false, false, false, false, false, false,
+    false, false, false, false, false, false, false, false, false, false,
+];
+
+/// Whether the byte may stand in an identifier behind its first: a look-up, since most bytes of a
+/// script are asked this.
+pub(crate) fn is_word_byte(byte: u8) -> bool
+    ensures { result ≡ is_word_byte byte }
+{
+    WORD_BYTES[byte as usize]
+}
+
 /// Whether the byte may stand in a pattern behind its first.
 pub(crate) fn is_pattern_byte(byte: u8) -> bool
     ensures { result ≡ is_pattern_byte byte }
 {
-    byte.is_ascii_alphanumeric() || byte == b'_' || byte == b'%'
+    is_word_byte(byte) || byte == b'%'
 }
 
 pub(crate) fn class_of(byte: u8) -> ByteClass

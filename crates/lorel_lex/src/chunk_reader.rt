@@ -1,4 +1,5 @@
-ghost use Rattle.std.specs.Prelude.{◌≡◌, ◌↔◌, true, false, [], ◌++◌, IfOk, OnErr, IfSome, OnSome, IfNone};
+ghost use Rattle.std.specs.Prelude.{◌≡◌, ◌↔◌, true, false, [], ◌++◌, IfOk, OnErr, IfSome, OnSome};
+ghost use Rattle.std.specs.Prelude.{IfNone};
 ghost use Rattle.lorel_lex.specs.Gaps.{IsBlank};
 
 use crate::gaps::is_all_blank;
@@ -40,8 +41,9 @@ pub enum Rest {
 
 /// Cuts a script that comes in pieces into chunks, each of them the bytes before a `;`.
 ///
-/// A `;` in a comment, a text or a quoted label ends no chunk. The caller feeds the script piece by piece, takes each
-/// chunk as it is whole, feeds what is left of the piece, and finishes at the end of the script.
+/// A `;` in a comment, a text or a quoted label ends no chunk. The caller feeds the script piece by
+/// piece, takes each chunk as it is whole, feeds what is left of the piece, and finishes at the end
+/// of the script.
 #[derive(Drop)]
 pub struct Chunks {
     held: Vec<u8>,
@@ -55,7 +57,7 @@ impl Model for Chunks {
 
     ghost Value = { Progress };
 
-    ghost use Rattle.lorel_lex.specs.Reader.{progress_of, IsReader};
+    ghost use Rattle.lorel_lex.specs.inside.Reader.{progress_of, IsReader};
 
     ghost view = { progress_of };
 
@@ -78,9 +80,11 @@ impl Chunks {
         }
     }
 
-    /// Reads the next piece of the script, at most up to the end of one chunk, and says how many bytes it used.
+    /// Reads the next piece of the script, at most up to the end of one chunk, and says how many
+    /// bytes it used.
     ///
-    /// A reader that met a chunk over its limit stays failed, and uses nothing of this or any later piece.
+    /// A reader that met a chunk over its limit stays failed, and uses nothing of this or any later
+    /// piece.
     pub fn feed(&mut self, piece: &[u8]) -> Fed
         requires { self.old.whole ≡ false }
         ensures { Feeds result.state self.old piece.now result.used self.new }
@@ -121,18 +125,20 @@ impl Chunks {
         }
     }
 
-    /// The whole chunk that waits, without its `;`; None exactly where none waits, and then nothing changes. Takes no
-    /// memory.
+    /// The whole chunk that waits, without its `;`; None exactly where none waits, and then nothing
+    /// changes. Takes no memory.
     pub fn take(&mut self) -> Option<OemText>
         ensures chunk { IfSome result
             (λ chunk. self.old ≡ record { held = chunk; whole = true; failed = self.old.failed }) }
-        ensures taken { OnSome result (self.new ≡ record { held = []; whole = false; failed = self.old.failed }) }
+        ensures taken { OnSome result
+            (self.new ≡ record { held = []; whole = false; failed = self.old.failed }) }
         ensures none { IfNone result ((self.old.whole ≡ false) × (self.new ≡ self.old)) }
     {
         self.ready.take()
     }
 
-    /// Ends the script: what stands behind its last chunk. The reader is then as a new one. Takes no memory.
+    /// Ends the script: what stands behind its last chunk. The reader is then as a new one. Takes
+    /// no memory.
     pub fn finish(&mut self) -> Rest
         requires taken { self.old.whole ≡ false }
         requires unfailed { self.old.failed ≡ false }
@@ -158,9 +164,11 @@ fn stopped(state: FedState) -> Fed
     Fed { used: 0, state }
 }
 
-// The bytes held and these behind them as one text; nothing is held then. Where memory is refused all stays.
+// The bytes held and these behind them as one text; nothing is held then. Where memory is refused
+// all stays.
 fn joined(held: &mut Vec<u8>, front: &[u8]) -> Result<OemText, NoMemory>
-    ensures ok { IfOk result (λ text. (text ≡ held.old.items ++ front.now) × (held.new.items ≡ [])) }
+    ensures ok { IfOk result (λ text.
+        (text ≡ held.old.items ++ front.now) × (held.new.items ≡ [])) }
     ensures err { OnErr result (held.new.items ≡ held.old.items) }
 {
     let alloc = *held.allocator();

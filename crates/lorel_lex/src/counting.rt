@@ -1,19 +1,26 @@
-ghost use Rattle.std.specs.Prelude.{◌≤◌, length};
+ghost use Rattle.std.specs.Prelude.{◌≡◌, ◌≢◌, ◌<◌, ◌≤◌, List, length, slice_index};
+ghost use Rattle.lorel_lex.specs.Types.{Token, Letter, Digit};
+ghost use Rattle.lorel_lex.specs.Tokens.{AreTokens};
+ghost use Rattle.lorel_lex.specs.inside.Lexing.{class_of, BeginsSymbol};
+ghost use Rattle.lorel_lex.specs.inside.Counting.{Measures, MeasuresQuoted};
 
 use crate::byte_class::{ByteClass, class_of};
 use crate::gaps::gap_len;
-use crate::numbers::digits_len;
+use crate::numbers::{digit_follows, digits_len};
 use crate::quoted_texts::closing_quote;
 use crate::symbols::pair;
-use crate::words::{is_path_of, pattern_len};
+use crate::words::{Letters, read_letters};
 
-// How many bytes the quoted contents at the front take with their quotes, or all bytes where no quote ends them.
+// How many bytes the quoted contents at the front take with their quotes, or all bytes where no
+// quote ends them.
 fn quoted_len(bytes: &[u8], quote: u8) -> usize
-    ensures { result ≤ length bytes.now }
+    requires quote { quote ≢ 92 }
+    requires some { 0 < length bytes.now }
+    requires opens { slice_index bytes.now 0 ≡ quote }
+    ensures within { result ≤ length bytes.now }
+    ensures some { 0 < result }
+    ensures measured { MeasuresQuoted quote bytes.now result }
 {
-    if bytes.is_empty() {
-        return 0;
-    }
     match closing_quote(&bytes[1..], quote) {
         Some(len) => len + 2,
         None => bytes.len(),
@@ -21,32 +28,75 @@ fn quoted_len(bytes: &[u8], quote: u8) -> usize
 }
 
 fn symbol_len(bytes: &[u8]) -> usize
-    ensures { result ≤ length bytes.now }
+    requires some { 0 < length bytes.now }
+    requires symbol { BeginsSymbol bytes.now }
+    ensures within { result ≤ length bytes.now }
+    ensures some { 0 < result }
+    ensures measured { Measures bytes.now result }
 {
-    if bytes.is_empty() {
-        return 0;
-    }
     match pair(bytes) {
         Some(_) => 2,
         None => 1,
     }
 }
 
+fn word_len(bytes: &[u8]) -> usize
+    requires { class_of (slice_index bytes.now 0) ≡ Letter }
+    ensures within { result ≤ length bytes.now }
+    ensures some { 0 < result }
+    ensures measured { Measures bytes.now result }
+{
+    match read_letters(bytes) {
+        Letters::Identifier(len) | Letters::Pattern(len) => len,
+        Letters::PathWord => 7,
+    }
+}
+
+fn number_len(bytes: &[u8]) -> usize
+    requires { class_of (slice_index bytes.now 0) ≡ Digit }
+    ensures within { result ≤ length bytes.now }
+    ensures some { 0 < result }
+    ensures measured { Measures bytes.now result }
+{
+    digits_len(bytes)
+}
+
+fn minus_len(bytes: &[u8]) -> usize
+    requires some { 0 < length bytes.now }
+    requires minus { slice_index bytes.now 0 ≡ 45 }
+    ensures within { result ≤ length bytes.now }
+    ensures some { 0 < result }
+    ensures measured { Measures bytes.now result }
+{
+    if digit_follows(bytes) {
+        digits_len(&bytes[1..]) + 1
+    } else {
+        symbol_len(bytes)
+    }
+}
+
+fn local_len(bytes: &[u8]) -> usize
+    requires some { 0 < length bytes.now }
+    requires local { slice_index bytes.now 0 ≡ 38 }
+    ensures within { result ≤ length bytes.now }
+    ensures some { 0 < result }
+    ensures measured { Measures bytes.now result }
+{
+    digits_len(&bytes[1..]) + 1
+}
+
 // How many bytes the token at the front takes.
 fn token_len(bytes: &[u8]) -> usize
-    ensures { result ≤ length bytes.now }
+    requires { 0 < length bytes.now }
+    ensures within { result ≤ length bytes.now }
+    ensures some { 0 < result }
+    ensures measured { Measures bytes.now result }
 {
-    if bytes.is_empty() {
-        return 0;
-    }
     match class_of(bytes[0]) {
-        ByteClass::Letter if is_path_of(bytes) => 7,
-        ByteClass::Letter => pattern_len(bytes),
-        ByteClass::Digit => digits_len(bytes),
-        ByteClass::Minus | ByteClass::Ampersand => {
-            let len = digits_len(&bytes[1..]);
-            if len == 0 { symbol_len(bytes) } else { len + 1 }
-        }
+        ByteClass::Letter => word_len(bytes),
+        ByteClass::Digit => number_len(bytes),
+        ByteClass::Minus => minus_len(bytes),
+        ByteClass::Ampersand => local_len(bytes),
         ByteClass::DoubleQuote => quoted_len(bytes, b'"'),
         ByteClass::SingleQuote => quoted_len(bytes, b'\''),
         ByteClass::Other => symbol_len(bytes),
@@ -55,17 +105,17 @@ fn token_len(bytes: &[u8]) -> usize
 
 /// How many tokens a chunk has where it has no fault; at most one for each byte. Takes no memory.
 pub(crate) fn count_tokens(chunk: &[u8]) -> usize
-    ensures { result ≤ length chunk.now }
+    ensures most { result ≤ length chunk.now }
+    ensures exact { (tokens : List Token) → AreTokens chunk.now tokens → result ≡ length tokens }
 {
     let mut count = 0;
     let mut at = 0;
     'tokens: while at < chunk.len() {
-        at += gap_len(&chunk[at..]);
-        let len = token_len(&chunk[at..]);
-        if len == 0 {
+        let start = at + gap_len(&chunk[at..]);
+        if start == chunk.len() {
             return count;
         }
-        at += len;
+        at = start + token_len(&chunk[start..]);
         count += 1;
     }
     count

@@ -1,6 +1,6 @@
 ghost use Rattle.std.specs.Prelude.{◌≡◌, ◌↔◌, IsTrue};
 ghost use Rattle.lorel_lex.specs.Gaps as spec;
-ghost use Rattle.lorel_lex.specs.Skipping.{FindsLine, SkipsGap};
+ghost use Rattle.lorel_lex.specs.inside.Skipping.{FindsLine, SkipsGap};
 
 fn is_blank(byte: u8) -> bool
     ensures { result ≡ spec.is_blank byte }
@@ -12,7 +12,7 @@ fn begins_comment(bytes: &[u8]) -> bool
     ensures { result ≡ spec.begins_comment bytes.now }
 {
     match bytes {
-        [first, second, ..] => *first == b'-' && *second == b'-',
+        [b'-', others @ ..] => matches!(others, [b'-', ..]),
         _ => false,
     }
 }
@@ -29,7 +29,8 @@ fn line_end(bytes: &[u8]) -> Option<usize>
     None
 }
 
-/// How many bytes at the front are blank bytes and comments; a comment goes to its line feed or to the end.
+/// How many bytes at the front are blank bytes and comments; a comment goes to its line feed or to
+/// the end.
 pub(crate) fn gap_len(bytes: &[u8]) -> usize
     ensures { SkipsGap bytes.now result }
 {

@@ -1,6 +1,7 @@
-ghost use Rattle.std.specs.Prelude.{◌≡◌, ◌≢◌, ◌<◌, ◌≤◌, length, drop, slice_index, All, IfOk, IfErr};
-ghost use Rattle.lorel_lex.specs.Tokens.{AreTokens, HasFault, HasForm, HasOneOutcome, HasSomeOutcome};
-ghost use Rattle.lorel_lex.specs.Lexing.{ReadsFirst, ReadsNext};
+ghost use Rattle.std.specs.Prelude.{◌≡◌, ◌≢◌, ◌<◌, ◌≤◌, length, drop, slice_index, All, IfOk};
+ghost use Rattle.std.specs.Prelude.{IfErr};
+ghost use Rattle.lorel_lex.specs.Tokens.{AreTokens, HasFault, HasForm};
+ghost use Rattle.lorel_lex.specs.inside.Lexing.{ReadsFirst, ReadsNext};
 
 use crate::byte_class::{ByteClass, class_of};
 use crate::counting::count_tokens;
@@ -8,8 +9,7 @@ use crate::gaps::gap_len;
 use crate::numbers::{digit_follows, local, signed, unsigned};
 use crate::quoted_texts::{label, text};
 use crate::symbols::symbol;
-use crate::token_list::TokenList;
-use crate::token_types::{Kind, LexFault, Token};
+use crate::token_types::{Kind, LexFault, Token, TokenList};
 use crate::words::word;
 use lore_base::limits::CHUNK_BYTES;
 use simdutf8::is_utf8;
@@ -66,11 +66,12 @@ fn next_token(alloc: Global, chunk: &[u8], at: usize) -> Result<Option<Token>, L
 
 /// The tokens of a chunk, with their places.
 ///
-/// Blank bytes and comments are dropped; elsewhere the longest token that starts at a place is taken. A chunk that isn't
-/// UTF-8 is BadToken. Of several faults that at the earliest place counts, and at one place the first of these: BadToken
-/// where no token starts there, RealRefused where a `.` and a digit follow a number, NumberRange where a number lies
-/// outside 64 bits or a local outside 32, TextTooLong where a text has more than 4,096 bytes, or an identifier, a pattern
-/// or a quoted label more than 255. The list is sized before it is filled.
+/// Blank bytes and comments are dropped; elsewhere the longest token that starts at a place is
+/// taken. A chunk that isn't UTF-8 is BadToken. Of several faults that at the earliest place
+/// counts, and at one place the first of these: BadToken where no token starts there, RealRefused
+/// where a `.` and a digit follow a number, NumberRange where a number lies outside 64 bits or a
+/// local outside 32, TextTooLong where a text has more than 4,096 bytes, or an identifier, a
+/// pattern or a quoted label more than 255. The list is sized before it is filled.
 pub fn tokens(alloc: Global, chunk: &[u8]) -> Result<TokenList, LexFault>
     requires { length chunk.now ≤ CHUNK_BYTES }
     ensures found { IfOk result (AreTokens chunk.now) }
@@ -94,13 +95,3 @@ pub fn tokens(alloc: Global, chunk: &[u8]) -> Result<TokenList, LexFault>
     }
     Ok(tokens)
 }
-
-/// A chunk has at most one outcome: one list of tokens or one fault.
-pub fn one_outcome()
-    ensures { HasOneOutcome }
-{}
-
-/// Each chunk has an outcome: a list of tokens or a fault.
-pub fn some_outcome()
-    ensures { HasSomeOutcome }
-{}

@@ -5,8 +5,8 @@ ghost use Rattle.std.specs.Char.{is_ascii_digit};
 ghost use Rattle.std.specs.Str.Parse.{AllDigits, digits_value};
 ghost use Rattle.lorel_lex.specs.Shapes.{begins};
 ghost use Rattle.lorel_lex.specs.Tokens.{begins_fraction};
-ghost use Rattle.lorel_lex.specs.Lexing.{class_of, EndsRun, ReadsFirst};
-ghost use Rattle.lorel_lex.specs.declared.byte_class.ByteClass.TheVariants.{Digit};
+ghost use Rattle.lorel_lex.specs.inside.Lexing.{class_of, EndsRun, ReadsFirst};
+ghost use Rattle.lorel_lex.specs.Types.{Digit};
 
 use crate::token_types::{Kind, LexFault};
 
@@ -39,7 +39,8 @@ fn magnitude(digits: &[u8]) -> Option<u64>
 // The number that digits write, where an i64 holds it.
 fn whole(digits: &[u8]) -> Option<i64>
     requires { AllDigits 10 digits.now }
-    ensures { SomeIff result (FitsSigned w64 (pos (digits_value 10 digits.now))) (pos (digits_value 10 digits.now)) }
+    ensures { SomeIff result (FitsSigned w64 (pos (digits_value 10 digits.now)))
+        (pos (digits_value 10 digits.now)) }
 {
     let value = magnitude(digits)?;
     i64::try_from(value).ok()
@@ -48,7 +49,8 @@ fn whole(digits: &[u8]) -> Option<i64>
 // The number that digits behind a minus write, where an i64 holds it.
 fn negated(digits: &[u8]) -> Option<i64>
     requires { AllDigits 10 digits.now }
-    ensures { SomeIff result (FitsSigned w64 (neg_ℤ (pos (digits_value 10 digits.now)))) (neg_ℤ (pos (digits_value 10 digits.now))) }
+    ensures { SomeIff result (FitsSigned w64 (neg_ℤ (pos (digits_value 10 digits.now))))
+        (neg_ℤ (pos (digits_value 10 digits.now))) }
 {
     let value = magnitude(digits)?;
     if value == 1 << 63 {

@@ -1,10 +1,11 @@
 ghost use Rattle.std.specs.Prelude.{◌≡◌, ◌≢◌, ◌<◌, length, slice_index, false, Some};
-ghost use Rattle.lorel_lex.specs.Shapes as shape;
-ghost use Rattle.lorel_lex.specs.Lexing.{escaped_after, FindsQuote, FindsByte, Resolves, ReadsQuoted, ReadsFirst};
+ghost use Rattle.lore_base.specs.Quotes.{unescape};
+ghost use Rattle.lorel_lex.specs.inside.Lexing.{escaped_after, FindsQuote, FindsByte, Resolves};
+ghost use Rattle.lorel_lex.specs.inside.Lexing.{ReadsQuoted, ReadsFirst};
 
 use crate::token_types::{Kind, LexFault};
-use lore_base::OemText;
 use lore_base::limits::{TEXT_BYTES, WORD_BYTES};
+use lore_base::{Listing, OemText};
 use std::alloc::Global;
 
 /// The place of the quote that ends the contents; the bytes begin behind the quote that opens them.
@@ -25,8 +26,8 @@ pub(crate) fn closing_quote(bytes: &[u8], quote: u8) -> Option<usize>
 }
 
 // The byte that a letter behind a backslash stands for.
-fn escape_of(quote: u8, letter: u8) -> Option<u8>
-    ensures { result ≡ shape.escape_of quote letter }
+fn unescape(quote: u8, letter: u8) -> Option<u8>
+    ensures { result ≡ unescape quote letter }
 {
     if letter == quote {
         return Some(quote);
@@ -56,16 +57,16 @@ fn first_byte(raw: &[u8], quote: u8) -> Option<(u8, usize)>
     if raw.len() == 1 {
         return None;
     }
-    let byte = escape_of(quote, raw[1])?;
+    let byte = unescape(quote, raw[1])?;
     Some((byte, 2))
 }
 
 // The bytes that the contents stand for.
-fn unescaped(alloc: Global, raw: &[u8], quote: u8) -> Result<Vec<u8>, LexFault>
+fn unescaped(alloc: Global, raw: &[u8], quote: u8) -> Result<Listing<u8>, LexFault>
     requires { quote ≢ 92 }
-    ensures { Resolves (λ bytes. bytes.items) quote raw.now result }
+    ensures { Resolves (λ bytes. bytes) quote raw.now result }
 {
-    let mut bytes = Vec::with_capacity(alloc, raw.len())?;
+    let mut bytes = Listing::with_capacity(alloc, raw.len())?;
     let mut at = 0;
     'raw: while at < raw.len() {
         let Some((byte, len)) = first_byte(&raw[at..], quote) else {
@@ -96,7 +97,8 @@ fn contents(alloc: Global, raw: &[u8], quote: u8) -> Result<OemText, LexFault>
     }
 }
 
-// The text that the quoted contents at the front stand for, and how many bytes these are with their quotes.
+// The text that the quoted contents at the front stand for, and how many bytes these are with their
+// quotes.
 fn quoted(alloc: Global, bytes: &[u8], quote: u8) -> Result<(OemText, usize), LexFault>
     requires quote { quote ≢ 92 }
     requires opens { slice_index bytes.now 0 ≡ quote }

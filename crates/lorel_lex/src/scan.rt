@@ -1,5 +1,7 @@
-ghost use Rattle.std.specs.Prelude.{◌≡◌};
-ghost use Rattle.lorel_lex.specs.Scanning.{Scans};
+ghost use Rattle.std.specs.Prelude.{◌≡◌, ◌≤◌, true, length, take};
+ghost use Rattle.std.specs.List.{list_all};
+ghost use Rattle.lorel_lex.specs.inside.Scanning.{StaysStill, Scans};
+ghost use Rattle.lorel_lex.specs.inside.Scanning as spec_run;
 ghost use Rattle.lorel_lex.specs.Scan as spec;
 
 /// Where a scan of a script stands.
@@ -64,21 +66,74 @@ pub enum Scanned {
     Open(State),
 }
 
-/// Scans bytes of a chunk from a state, up to the `;` that ends the chunk.
+fn is_neither(one: u8, other: u8, byte: u8) -> bool
+    ensures { result ≡ spec_run.is_neither one other byte }
+{
+    byte != one && byte != other
+}
+
+fn is_plain(byte: u8) -> bool
+    ensures { result ≡ spec_run.is_plain byte }
+{
+    is_neither(b'"', b'\'', byte) && is_neither(b'-', b';', byte)
+}
+
+// How many bytes at the front stand before the first of these two.
+fn before(bytes: &[u8], one: u8, other: u8) -> usize
+    ensures within { result ≤ length bytes.now }
+    ensures passed { list_all (spec_run.is_neither one other) (take result bytes.now) ≡ true }
+{
+    'bytes: for (i, byte) in bytes.iter().enumerate() {
+        if !is_neither(one, other, *byte) {
+            return i;
+        }
+    }
+    bytes.len()
+}
+
+// How many bytes at the front stand before the first that opens something or ends the chunk.
+fn plain_len(bytes: &[u8]) -> usize
+    ensures within { result ≤ length bytes.now }
+    ensures passed { list_all spec_run.is_plain (take result bytes.now) ≡ true }
+{
+    'bytes: for (i, byte) in bytes.iter().enumerate() {
+        if !is_plain(*byte) {
+            return i;
+        }
+    }
+    bytes.len()
+}
+
+// How many bytes at the front leave the state as it is, and end no chunk.
+fn still_len(state: State, bytes: &[u8]) -> usize
+    ensures { StaysStill state bytes.now result }
+{
+    match state {
+        State::Plain => plain_len(bytes),
+        State::Comment => before(bytes, b'\n', b'\n'),
+        State::Text => before(bytes, b'"', b'\\'),
+        State::Quoted => before(bytes, b'\'', b'\\'),
+        State::Dash | State::TextEscape | State::QuotedEscape => 0,
+    }
+}
+
+/// Scans bytes of a chunk from a state, up to the `;` that ends the chunk. Bytes that leave the
+/// state as it is go by in one run.
 pub(crate) fn scan(from: State, bytes: &[u8]) -> Scanned
     ensures { Scans from bytes.now result }
 {
     let mut state = from;
-    'bytes: for (i, byte) in bytes.iter().enumerate() {
-        if is_end(state, *byte) {
-            return Scanned::End(i);
+    let mut at = 0;
+    'bytes: while at < bytes.len() {
+        at += still_len(state, &bytes[at..]);
+        if at == bytes.len() {
+            return Scanned::Open(state);
         }
-        state = state_after(state, *byte);
+        if is_end(state, bytes[at]) {
+            return Scanned::End(at);
+        }
+        state = state_after(state, bytes[at]);
+        at += 1;
     }
     Scanned::Open(state)
 }
-
-/// A script has one cut into chunks and a rest.
-pub fn one_cut()
-    ensures { spec.HasOneCut }
-{}

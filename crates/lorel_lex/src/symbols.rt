@@ -1,6 +1,6 @@
 ghost use Rattle.std.specs.Prelude.{◌≡◌, ◌<◌, length};
-ghost use Rattle.lorel_lex.specs.Lexing.{BeginsSymbol, ReadsFirst};
-ghost use Rattle.lorel_lex.specs.Lexing as spec;
+ghost use Rattle.lorel_lex.specs.inside.Lexing.{BeginsSymbol, ReadsFirst};
+ghost use Rattle.lorel_lex.specs.inside.Lexing as spec;
 
 use crate::token_types::{Kind, LexFault, Sign};
 

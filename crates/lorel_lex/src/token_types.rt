@@ -1,17 +1,24 @@
 ghost use Rattle.std.specs.Prelude.{◌≡◌};
-ghost use Rattle.lorel_lex.specs.declared.token_types.LexFault.TheVariants.{NoMemory as MemoryRefused};
+ghost use Rattle.lorel_lex.specs.Types.{Kind as TheKind, Token as TheToken};
+ghost use Rattle.lorel_lex.specs.Types.{NoMemory as MemoryRefused};
+ghost use Rattle.lorel_lex.specs.Faults as spec;
+ghost use Rattle.lorel_lex.specs.Shapes.{sign_text};
 
-use lore_base::{NoMemory, OemText, TryCopy};
-use std::alloc::{AllocError, AllocFailed, Global};
+use lore_base::{Fault, Listing, NoMemory, OemText, Refusal, TryCopy};
+use std::alloc::Global;
 use thiserror::Error;
 
-/// A token of a chunk, with its place: the bytes of the chunk from `start` up to `end` are the token.
+/// A token of a chunk, with its place: the bytes of the chunk from `start` up to `end` are the
+/// token.
 #[derive(Debug, Drop)]
 pub struct Token {
     pub kind: Kind,
     pub start: u32,
     pub end: u32,
 }
+
+/// The tokens of a chunk, in order.
+pub type TokenList = Listing<Token>;
 
 // A list of as many tokens as a chunk may have bytes stays below 3 GiB.
 const _: () = prove!(size_of::<Token>() <= 40);
@@ -36,6 +43,10 @@ pub enum Kind {
 }
 
 impl TryCopy for Kind {
+    ghost Seen = { TheKind };
+
+    ghost seen = { λ kind. kind };
+
     fn try_copy(&self, alloc: Global) -> Result<Self, NoMemory> {
         match self {
             Kind::Word(text) => Ok(Kind::Word(text.try_copy(alloc)?)),
@@ -51,6 +62,10 @@ impl TryCopy for Kind {
 }
 
 impl TryCopy for Token {
+    ghost Seen = { TheToken };
+
+    ghost seen = { λ token. token };
+
     fn try_copy(&self, alloc: Global) -> Result<Self, NoMemory> {
         Ok(Token {
             kind: self.kind.try_copy(alloc)?,
@@ -88,6 +103,39 @@ pub enum Sign {
     At,
 }
 
+impl Sign {
+    /// The bytes of the symbol.
+    pub fn text(self) -> &'static [u8]
+        ensures { result.now ≡ sign_text self }
+    {
+        match self {
+            Sign::LeftBrace => b"{",
+            Sign::RightBrace => b"}",
+            Sign::LeftParen => b"(",
+            Sign::RightParen => b")",
+            Sign::Comma => b",",
+            Sign::Dot => b".",
+            Sign::Colon => b":",
+            Sign::Assign => b":=",
+            Sign::Equal => b"=",
+            Sign::SameAs => b"==",
+            Sign::NotEqual => b"!=",
+            Sign::Less => b"<",
+            Sign::LessEqual => b"<=",
+            Sign::Greater => b">",
+            Sign::GreaterEqual => b">=",
+            Sign::PlusAssign => b"+=",
+            Sign::MinusAssign => b"-=",
+            Sign::Question => b"?",
+            Sign::Star => b"*",
+            Sign::Plus => b"+",
+            Sign::Bar => b"|",
+            Sign::Hash => b"#",
+            Sign::At => b"@",
+        }
+    }
+}
+
 /// Why a chunk has no tokens.
 #[derive(Clone, Copy, Debug, PartialEq, Eq, Error)]
 pub enum LexFault {
@@ -115,18 +163,16 @@ impl From<NoMemory> for LexFault {
     }
 }
 
-impl From<AllocError> for LexFault {
-    ghost from_gives = { λ _ fault. fault ≡ MemoryRefused };
+impl Fault for LexFault {
+    ghost refusal_of = { spec.refusal_of };
 
-    fn from(_error: AllocError) -> LexFault {
-        LexFault::NoMemory
-    }
-}
-
-impl<T: Drop> From<AllocFailed<T>> for LexFault {
-    ghost from_gives = { λ _ fault. fault ≡ MemoryRefused };
-
-    fn from(_error: AllocFailed<T>) -> LexFault {
-        LexFault::NoMemory
+    fn refusal(&self) -> Option<Refusal> {
+        match self {
+            LexFault::BadToken => Some(Refusal::BadToken),
+            LexFault::RealRefused => Some(Refusal::RealRefused),
+            LexFault::NumberRange => Some(Refusal::NumberRange),
+            LexFault::TextTooLong => Some(Refusal::TextTooLong),
+            LexFault::NoMemory => None,
+        }
     }
 }

@@ -1,33 +1,20 @@
--- Ascending edges: their order, sorted lists without doubles, and lists of which one comes behind the other.
-use Rattle.std.proofs.Common.{◌≡◌, ℕ, ◌-◌, ◌<◌, ◌↔◌, ◌&&◌, Bool, true, nat_eq, Less, List, [], ◌∷◌, ◌++◌, length, get_or, AllPairs, Contains, IsPermutation, Some, zero, suc, refl, sym, ap, ◌∙◌, ◌⊎◌, inl, inr, arith, length-append}
-use Rattle.std.specs.declared.cmp.Ordering.{Ordering}
-use Rattle.std.specs.Cmp.{IsTotalOrder, IsEquivalence}
-use Rattle.std.specs.Ordering.{eq_by_cmp}
-use Rattle.std.specs.List.{slice_get, dedup}
-use Rattle.std.specs.List.Retain.{IsFiltered, DiffersFromLast}
-use Rattle.std.specs.List.Sorted.{IsSorted, IsStrictlySortedBy}
+-- Ascending edges: their order, and lists of which one comes behind the other.
+use Rattle.std.proofs.Common.{◌≡◌, ℕ, ◌-◌, ◌<◌, ◌↔◌, true, Less, List, ◌++◌, length, get_or, AllPairs, Contains, Some, zero, suc, refl, ap, ◌∙◌, ◌⊎◌, inl, inr, arith, length-append}
+use Rattle.std.specs.Cmp.{IsTotalOrder}
+use Rattle.std.specs.List.{slice_get}
 use Rattle.std.proofs.lemmas.Bool.{cases_lt}
 use Rattle.std.proofs.lemmas.Bool.Decides.{nat_tests}
-use Rattle.std.proofs.lemmas.Cmp.{nat_cmp_total, on_total, then_total, eq_by_cmp_equiv}
+use Rattle.std.proofs.lemmas.Cmp.{nat_cmp_total, on_total, then_total}
 use Rattle.std.proofs.lemmas.List.{get_or_append_left, get_or-append_right}
-use Rattle.std.proofs.lemmas.List.Elements.{All-from_recursion, Contains-append_cases, Contains-append_left, Contains-append_right}
-use Rattle.std.proofs.lemmas.List.Filters.{dedup_is}
-use Rattle.std.proofs.lemmas.List.Kept.{AllPairs-cons, IsStrictlySortedBy-dedup, Contains-dedup, Contains-from_dedup}
-use Rattle.std.proofs.lemmas.List.Sorted.{Contains-permutation, IsPermutation-sym}
+use Rattle.std.proofs.lemmas.List.Elements.{Contains-append_cases, Contains-append_left, Contains-append_right}
 use Rattle.std.proofs.lemmas.Option.{get_or_from_slice_get}
-use Rattle.lore_base.specs.declared.edges.Edge.{Edge}
+use Rattle.oem_graph.specs.Types.{Edge}
+use Rattle.oem_graph.specs.inside.EdgeTests.{edge_eq}
 use Rattle.lore_base.specs.Walks.{edge_cmp}
 use Rattle.lore_base.specs.Databases.{AreAscendingEdges}
 
 pub edge_cmp_total : IsTotalOrder edge_cmp
 edge_cmp_total = then_total (on_total (λ e. e.parent.0) nat_cmp_total) (then_total (on_total (λ e. e.label.0) nat_cmp_total) (on_total (λ e. e.child.0) nat_cmp_total))
-
--- the derived `==` of edges
-abbrev pub edge_eq : Edge → Edge → Bool
-edge_eq a b = nat_eq a.parent.0 b.parent.0 && (nat_eq a.label.0 b.label.0 && nat_eq a.child.0 b.child.0)
-
-pub edge_ties : (a b : Edge) → edge_eq a b ≡ eq_by_cmp edge_cmp a b
-edge_ties a b = grind (arith, nat_tests)
 
 pub edge_same : (a b : Edge) → edge_eq a b ≡ true → a ≡ b
 edge_same a b h =
@@ -35,31 +22,6 @@ edge_same a b h =
     let label : a.label.0 ≡ b.label.0 = grind (arith, nat_tests) in
     let child : a.child.0 ≡ b.child.0 = grind (arith, nat_tests) in
     λ i. record { parent = record { 0 = parent i }; label = record { 0 = label i }; child = record { 0 = child i } }
-
-AllPairs-from_strict : {X : Type 0} (R : X → X → Ordering) (xs : List X) → IsStrictlySortedBy R xs → AllPairs (λ a b. R a b ≡ Less) xs
-unfolding IsStrictlySortedBy
-AllPairs-from_strict R [] h = λ i j d lt len. absurd (omega arith)
-AllPairs-from_strict R (x ∷ xs) h = AllPairs-cons (λ a b. R a b ≡ Less) x xs (All-from_recursion _ xs h.0) (AllPairs-from_strict R xs h.1)
-
--- sorted edges without their doubles ascend
-pub ascend-dedup : (xs ys : List Edge) → IsSorted edge_cmp xs → IsFiltered (DiffersFromLast edge_eq) [] xs ys → AreAscendingEdges ys
-ascend-dedup xs ys sorted filtered =
-    rw (dedup_is edge_eq xs ys filtered) (AllPairs-from_strict edge_cmp (dedup edge_eq xs) (IsStrictlySortedBy-dedup edge_cmp_total edge_ties xs sorted))
-
-edge_eq_equiv : IsEquivalence edge_eq
-edge_eq_equiv = let laws = eq_by_cmp_equiv edge_cmp_total in record {
-  refl = λ a. edge_ties a a ∙ laws.refl a;
-  symm = λ a b. edge_ties a b ∙ laws.symm a b ∙ sym (edge_ties b a);
-  congr = λ a b c h. edge_ties a c ∙ laws.congr a b c (sym (edge_ties a b) ∙ h) ∙ sym (edge_ties b c);
-}
-
--- moved about and without their doubles they are the same edges
-pub members-dedup : (xs moved ys : List Edge) → IsPermutation xs moved → IsFiltered (DiffersFromLast edge_eq) [] moved ys → (edge : Edge) → Contains ys edge ↔ Contains xs edge
-members-dedup xs moved ys permutation filtered edge =
-    let is = dedup_is edge_eq moved ys filtered in (
-      λ at. Contains-permutation moved xs edge (IsPermutation-sym xs moved permutation) (Contains-from_dedup edge_eq moved edge (rw is at at)),
-      λ at. rw is (Contains-dedup edge_eq_equiv edge_same moved edge (Contains-permutation xs moved edge permutation at)),
-    )
 
 -- pairs within the parts and across them are the pairs of the whole
 pub AllPairs-append : {X : Type 0} (R : X → X → Type 0) (xs ys : List X) → AllPairs R xs → AllPairs R ys

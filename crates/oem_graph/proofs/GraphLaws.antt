@@ -1,7 +1,8 @@
 -- The new graph is sound.
 use Rattle.std.proofs.Common.{arith}
 use Rattle.std.specs.List.Sorted.{IsStrictlySortedBy}
-use Rattle.oem_graph.specs.Graphs.{new_graph, IsSound}
+use Rattle.lore_base.specs.Databases.{new_graph}
+use Rattle.oem_graph.specs.Graphs.{IsSound}
 
 pub sound-new : IsSound new_graph
 unfolding IsStrictlySortedBy

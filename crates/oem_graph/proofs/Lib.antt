@@ -1,5 +1,6 @@
 pub mod ObjectLaws
 pub mod EdgeLaws
+pub mod SearchLaws
 pub mod RunLaws
 pub mod NameLaws
 pub mod PlanLaws

@@ -8,7 +8,7 @@ use Rattle.std.specs.BTreeMap.{insert_entry}
 use Rattle.std.specs.List.{AllByRecursion}
 use Rattle.std.specs.List.Sorted.{IsStrictlySortedBy}
 use Rattle.std.proofs.lemmas.Cmp.{nat_list_cmp_total}
-use Rattle.lore_base.specs.declared.edges.Oid.{Oid}
+use Rattle.oem_graph.specs.Types.{Oid}
 use Rattle.lore_base.specs.Names.{IsNameTable}
 use Rattle.lore_base.specs.ChangeSets.{names_after}
 use Rattle.lore_base.specs.Bytes.{bytes_cmp}

@@ -9,8 +9,7 @@ use Rattle.std.proofs.lemmas.Cmp.{ranked}
 use Rattle.std.proofs.lemmas.List.{get_or_default}
 use Rattle.std.proofs.lemmas.List.Elements.{All-append}
 use Rattle.oem_graph.proofs.EdgeLaws.{AllPairs-append}
-use Rattle.lore_base.specs.declared.edges.Oid.{Oid}
-use Rattle.lore_base.specs.declared.values.Value.{Value}
+use Rattle.oem_graph.specs.Types.{Oid, Value}
 use Rattle.lore_base.specs.Databases.{AreAscendingObjects, IsLive}
 use Rattle.lore_base.specs.ChangeSets.{AreNumberedFrom}
 

@@ -8,8 +8,7 @@ use Rattle.std.proofs.lemmas.Bool.{cases_lt}
 use Rattle.std.proofs.lemmas.Bool.Decides.{nat_tests}
 use Rattle.std.proofs.lemmas.List.{append-nil, get_or-take, get_or-drop, take-append-drop}
 use Rattle.std.proofs.lemmas.List.Elements.{All-tail, filter-append}
-use Rattle.lore_base.specs.declared.edges.Oid.{Oid}
-use Rattle.lore_base.specs.declared.edges.Edge.{Edge}
+use Rattle.oem_graph.specs.Types.{Oid, Edge}
 use Rattle.lore_base.specs.Walks.{out_of}
 use Rattle.lore_base.specs.Databases.{AreAscendingEdges}
 

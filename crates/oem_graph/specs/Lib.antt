@@ -1,3 +1,4 @@
+pub mod Types
+pub mod inside
 pub mod Graphs
 pub mod Plans
-pub mod EdgePlans

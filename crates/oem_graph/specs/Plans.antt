@@ -1,45 +1,51 @@
-use Rattle.std.specs.Prelude.{ℕ, ◌+◌, ◌≤◌, List, ◌++◌, length}
-use Rattle.lore_base.specs.declared.edges.Oid.{Oid}
-use Rattle.lore_base.specs.declared.edges.Edge.{Edge}
-use Rattle.lore_base.specs.declared.values.Value.{Value}
-use Rattle.lore_base.specs.Databases.{OemGraph}
-use Rattle.oem_graph.specs.Graphs.{RoomyGraph, IsOrdered}
+-- Plans of changes: what goes and what comes, and which graph they lead to.
+use Rattle.std.specs.Prelude.{◌≡◌, ℕ, ◌+◌, ◌<◌, ◌≤◌, ◌⊎◌, ◌↔◌, not, ◌==◌, List, ◌++◌, length, filter, All}
+use Rattle.std.specs.Prelude.{Contains}
+use Rattle.std.specs.List.{list_any}
+use Rattle.oem_graph.specs.Types.{Oid, Edge, Value, NEXT_NUMBER}
+use Rattle.lore_base.specs.Names.{IsNameTable}
+use Rattle.lore_base.specs.Databases.{OemGraph, AreAscendingObjects, AreAscendingEdges}
+use Rattle.oem_graph.specs.Graphs.{RoomyGraph}
 
--- edges that come behind those that are there, or all edges in place of those that are there
-pub data NewEdges : Type 0 where
-  Behind : (edges : List Edge) → NewEdges
-  Merged : (edges : List Edge) → NewEdges
-
--- what comes with a plan: the whole table of names, the objects that are made, and edges
+-- what goes and what comes with a plan: the table that the names are then, and objects and edges
 pub record PlannedChange : Type 0 where
   pub names : List (List ℕ × Oid)
-  pub made : List (Oid × Value)
-  pub edges : NewEdges
+  pub objects_gone : List Oid
+  pub objects_come : List (Oid × Value)
+  pub edges_gone : List Edge
+  pub edges_come : List Edge
 
--- the edges that are there once the new ones have come
-abbrev pub edges_after : List Edge → NewEdges → List Edge
-edges_after kept (Behind edges) = kept ++ edges
-edges_after kept (Merged edges) = edges
+-- the objects that stay where these go
+abbrev pub staying : List Oid → List (Oid × Value) → List (Oid × Value)
+staying gone objects = filter (λ object. not (list_any (λ oid. oid.0 == object.0.0) gone)) objects
 
--- the graph that a plan makes of a graph
-abbrev pub graph_after : OemGraph → PlannedChange → OemGraph
-graph_after graph plan = record {
-  names = plan.names;
-  objects = graph.objects ++ plan.made;
-  edges = edges_after graph.edges plan.edges;
-  next = graph.next + length plan.made;
-}
+-- the objects that there are then
+abbrev pub objects_then : OemGraph → PlannedChange → List (Oid × Value)
+objects_then before plan = staying plan.objects_gone before.objects ++ plan.objects_come
 
--- the plan leads from the graph: what it makes of it is in order
-abbrev pub LeadsFrom : OemGraph → PlannedChange → Type 0
-LeadsFrom graph plan = IsOrdered (graph_after graph plan)
+-- the number that the next object gets then
+abbrev pub next_then : OemGraph → PlannedChange → ℕ
+next_then before plan = before.next + length plan.objects_come
 
--- how many edges come behind those that are there
-abbrev pub edges_behind : NewEdges → ℕ
-edges_behind (Behind edges) = length edges
-edges_behind (Merged edges) = 0
+-- the plan leads from one graph to the other
+pub record LeadsTo (before : OemGraph) (plan : PlannedChange) (after : OemGraph) : Type 0 where
+  pub names : after.names ≡ plan.names
+  pub objects : after.objects ≡ objects_then before plan
+  pub edges_ascend : AreAscendingEdges after.edges
+  pub edges : (edge : Edge) → Contains after.edges edge
+      ↔ ((Contains before.edges edge × (¬ Contains plan.edges_gone edge)) ⊎ Contains plan.edges_come edge)
+  pub few_edges : length after.edges ≤ length before.edges + length plan.edges_come
+  pub next : after.next ≡ next_then before plan
+
+-- the plan leads from the graph: its names, and the objects that there are then, are in order
+pub record LeadsFrom (before : OemGraph) (plan : PlannedChange) : Type 0 where
+  pub names_ascend : IsNameTable plan.names
+  pub objects_ascend : AreAscendingObjects (objects_then before plan)
+  pub objects_numbered :
+      All (λ object. (1 ≤ object.0.0) × (object.0.0 < next_then before plan)) (objects_then before plan)
+  pub next_numbered : (1 ≤ next_then before plan) × (next_then before plan ≤ NEXT_NUMBER)
 
 -- the graph keeps the room free that the plan needs
 pub record HasRoom (kept : RoomyGraph) (plan : PlannedChange) : Type 0 where
-  pub objects : length plan.made ≤ kept.object_room
-  pub edges : edges_behind plan.edges ≤ kept.edge_room
+  pub objects : length plan.objects_come ≤ kept.object_room
+  pub edges : length plan.edges_come ≤ kept.edge_room

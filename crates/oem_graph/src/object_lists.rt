@@ -1,6 +1,6 @@
 ghost use Rattle.std.specs.Prelude.{◌≡◌, Contains, IfSome, IfNone, IfOk};
 ghost use Rattle.std.specs.Option.{option_copied};
-ghost use Rattle.lore_base.specs.declared.values.Value.{Value as TheValue};
+ghost use Rattle.oem_graph.specs.Types.{Value as TheValue};
 ghost use Rattle.lore_base.specs.Databases.{AreAscendingObjects, IsLive};
 
 use lore_base::{NoMemory, ObjectList, Oid, TryCopy, Value};
@@ -20,7 +20,8 @@ pub(crate) fn copied_objects(
     Ok(copy)
 }
 
-// The value of the object among ascending objects, found by binary search; None exactly where it isn't there.
+// The value of the object among ascending objects, found by binary search; None exactly where it
+// isn't there.
 pub(crate) fn value_in(objects: &[(Oid, Value)], oid: Oid) -> Option<&Value>
     requires { AreAscendingObjects objects.now }
     ensures found { IfSome result (λ value. Contains objects.now (oid, value.now)) }

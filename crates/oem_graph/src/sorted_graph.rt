@@ -1,42 +1,50 @@
-ghost use Rattle.std.specs.Prelude.{◌≡◌, ◌+◌, ◌<◌, ◌≤◌, ◌^◌, [], ◌++◌, length, Contains, IfSome, IfNone, IfOk, OnOk, OnErr};
+ghost use Rattle.std.specs.Prelude.{◌≡◌, ◌+◌, ◌<◌, ◌≤◌, ◌^◌, [], ◌++◌, length, Contains, IfSome};
+ghost use Rattle.std.specs.Prelude.{IfNone, IfOk, OnOk, OnErr};
 ghost use Rattle.std.specs.Option.{option_copied};
-ghost use Rattle.lore_base.specs.declared.values.Value.{Value as TheValue};
+ghost use Rattle.oem_graph.specs.Types.{Edge as TheEdge, Value as TheValue};
 ghost use Rattle.lore_base.specs.Lists.{Extends};
 ghost use Rattle.lore_base.specs.Names.{object_of};
 ghost use Rattle.lore_base.specs.Walks.{out_of};
-ghost use Rattle.lore_base.specs.Databases.{IsLive};
-ghost use Rattle.lore_base.specs.ChangeSets.{Fits, OnlyAdds, IsAfter};
-ghost use Rattle.oem_graph.specs.Graphs.{new_graph, IsSound};
-ghost use Rattle.oem_graph.specs.Plans.{graph_after, LeadsFrom, HasRoom};
+ghost use Rattle.lore_base.specs.Databases.{OemGraph, new_graph, IsLive};
+ghost use Rattle.lore_base.specs.ChangeSets.{Fits, OnlyAdds, IsGraphThen, AreDead};
+ghost use Rattle.oem_graph.specs.Graphs.{IsSound};
+ghost use Rattle.oem_graph.specs.Plans.{LeadsFrom, LeadsTo, HasRoom};
 
-use crate::change_plan::{EdgePlan, GraphPlan, plan_edges};
 use crate::edge_runs::run_of;
+use crate::edge_sets::{add_edges, fresh_edges};
+use crate::graph_plan::GraphPlan;
 use crate::object_lists::{copied_objects, value_in};
-use lore_base::{Changes, Edge, EdgeBuf, Names, NoMemory, OemText, Oid, OidBuf, Steps, Value};
+use lore_base::{
+    Changes, Edge, EdgeBuf, Names, NoMemory, OemText, Oid, OidBuf, RoomyList, Steps, Value,
+};
 use std::alloc::Global;
 use std::marker::Model;
 use std::sync::ledger::Ledger;
 
-/// The graph of a database: names, objects and edges in ascending order, and the number that the next object gets.
+/// The graph of a database: names, objects and edges in ascending order, and the number that the
+/// next object gets.
 #[derive(Drop)]
 pub struct Graph {
     names: Names,
-    objects: Vec<(Oid, Value)>,
-    edges: Vec<Edge>,
+    objects: RoomyList<(Oid, Value)>,
+    edges: RoomyList<Edge>,
     next: u64,
 }
 
 impl Model for Graph {
-    ghost use Rattle.std.specs.Prelude.{◌-◌};
-    ghost use Rattle.std.specs.Vec.{vec_len, vec_capacity};
     ghost use Rattle.oem_graph.specs.Graphs.{RoomyGraph, IsSound};
 
     ghost Value = { RoomyGraph };
 
     ghost view = { λ g. record {
-      graph = record { names = g.names; objects = g.objects.items; edges = g.edges.items; next = g.next };
-      object_room = vec_capacity g.objects - vec_len g.objects;
-      edge_room = vec_capacity g.edges - vec_len g.edges;
+      graph = record {
+        names = g.names;
+        objects = g.objects.items;
+        edges = g.edges.items;
+        next = g.next;
+      };
+      object_room = g.objects.room;
+      edge_room = g.edges.room;
     } };
 
     ghost invariant = { λ g. IsSound (record {
@@ -54,8 +62,8 @@ impl Graph {
     {
         Graph {
             names: Names::new(alloc),
-            objects: Vec::new(alloc),
-            edges: Vec::new(alloc),
+            objects: RoomyList::new(alloc),
+            edges: RoomyList::new(alloc),
             next: 1,
         }
     }
@@ -108,8 +116,8 @@ impl Graph {
         self.next
     }
 
-    /// Appends the edges that leave the object to `buf`, ascending by label and child. Counts one step, and one more
-    /// for each edge. A number that isn't live has no edges.
+    /// Appends the edges that leave the object to `buf`, ascending by label and child. Counts one
+    /// step, and one more for each edge. A number that isn't live has no edges.
     pub fn out_edges<L: Ledger>(
         &self,
         oid: Oid,
@@ -117,7 +125,8 @@ impl Graph {
         steps: &mut Steps<L>,
     ) -> Result<(), NoMemory>
         ensures edges { OnOk result (buf.new ≡ buf.old ++ out_of oid self.now.graph.edges) }
-        ensures steps { OnOk result (steps.new ≡ steps.old + 1 + length (out_of oid self.now.graph.edges)) }
+        ensures steps { OnOk result
+            (steps.new ≡ steps.old + 1 + length (out_of oid self.now.graph.edges)) }
         ensures err { OnErr result (Extends buf.old buf.new) }
         ensures unticked { OnErr result (steps.new ≡ steps.old) }
     {
@@ -127,42 +136,40 @@ impl Graph {
         Ok(())
     }
 
-    /// Works out what comes with these changes, which only make, add and bind. `dead` lists the objects that vanish, so
-    /// it is empty. The graph stays as it is.
+    /// Works out what goes and what comes with these changes, which only make, add and bind. `dead`
+    /// lists the objects that no name walks to once they are made, and is empty. The graph stays as
+    /// it is.
     ///
-    /// It sorts the added edges, and copies the names and the made objects. Kept edges are copied only where an added
-    /// one doesn't come behind all of them.
-    pub fn prepare(
-        &self,
-        alloc: Global,
-        changes: &Changes,
-        dead: &OidBuf,
-    ) -> Result<GraphPlan, NoMemory>
+    /// It sorts the added edges, and copies the names and the made objects.
+    pub fn prepare(&self, changes: &Changes, dead: &OidBuf) -> Result<GraphPlan, NoMemory>
         requires fits { Fits self.now.graph changes.now }
         requires only_adds { OnlyAdds changes.now }
+        requires dead { AreDead self.now.graph changes.now dead.now }
         requires none_dead { dead.now ≡ [] }
         ensures leads { IfOk result (λ plan. LeadsFrom self.now.graph plan) }
-        ensures after { IfOk result (λ plan. IsAfter self.now.graph changes.now (graph_after self.now.graph plan)) }
-        ensures few { IfOk result (λ plan.
-            length (graph_after self.now.graph plan).edges ≤ length self.now.graph.edges + length changes.now.added) }
+        ensures after { IfOk result (λ plan. (after : OemGraph)
+            → LeadsTo self.now.graph plan after → IsGraphThen self.now.graph changes.now after) }
+        ensures fresh { IfOk result (λ plan. (edge : TheEdge)
+            → Contains plan.edges_come edge → ¬ Contains self.now.graph.edges edge) }
+        ensures few { IfOk result (λ plan. length plan.edges_come ≤ length changes.now.added) }
     {
         prove!(dead.is_empty());
+        let alloc = self.objects.allocator();
         Ok(GraphPlan {
             names: self.names.joined(alloc, &changes.named)?,
             made: copied_objects(alloc, &changes.made)?,
-            edges: plan_edges(alloc, self.edges.as_slice(), changes.added.as_slice())?,
+            fresh: fresh_edges(alloc, self.edges.as_slice(), changes.added.as_slice())?,
         })
     }
 
-    /// Takes the memory that `commit` needs for this plan. The graph stays equal, whatever the answer.
+    /// Takes the memory that `commit` needs for this plan. The graph stays equal, whatever the
+    /// answer.
     pub fn reserve(&mut self, plan: &GraphPlan) -> Result<(), NoMemory>
         ensures room { OnOk result (HasRoom self.new plan.now) }
         ensures same { self.new.graph ≡ self.old.graph }
     {
         self.objects.reserve(plan.made.len())?;
-        if let EdgePlan::Behind(edges) = &plan.edges {
-            self.edges.reserve(edges.len())?;
-        }
+        self.edges.reserve(plan.fresh.len())?;
         Ok(())
     }
 
@@ -170,26 +177,14 @@ impl Graph {
     pub fn commit(&mut self, plan: GraphPlan)
         requires leads { LeadsFrom self.old.graph plan }
         requires room { HasRoom self.old plan }
-        requires few { length (graph_after self.old.graph plan).edges < 2 ^ 32 }
-        ensures { self.new.graph ≡ graph_after self.old.graph plan }
+        requires few { (after : OemGraph)
+            → LeadsTo self.old.graph plan after → length after.edges < 2 ^ 32 }
+        ensures { LeadsTo self.old.graph plan self.new.graph }
     {
-        let GraphPlan {
-            names,
-            mut made,
-            edges,
-        } = plan;
+        let GraphPlan { names, made, fresh } = plan;
         self.names = names;
         self.next += made.len() as u64;
-        let Ok(()) = self.objects.append(&mut made) else {
-            unreachable!();
-        };
-        match edges {
-            EdgePlan::Behind(more) => {
-                let Ok(()) = self.edges.extend_from_slice(more.as_slice()) else {
-                    unreachable!();
-                };
-            }
-            EdgePlan::Merged(all) => self.edges = all,
-        }
+        self.objects.take_reserved(made);
+        add_edges(&mut self.edges, fresh.as_slice());
     }
 }

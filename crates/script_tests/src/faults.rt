@@ -1,143 +1,207 @@
-use crate::runs::{Outside, PIECES, Part, check_run, ends, joined, run, sink, sound, source};
-use lore_base::{Failed, OemText, Sink, Source, SureSink, SureSource};
-use lore_run::Status;
+use crate::runs::{
+    LOADED, LOADS, Outside, SELECTED, SELECTS, check_run, ends, run, sink, sound, source,
+};
+use lore_base::{NoMemory, Sink, Source};
+use lore_run::{Outcome, Status};
 use std::alloc::Global;
 use std::process::Abort;
 use std::test::Fail;
 
-const LOADS: &[u8] = b"load A := 1; load B := 2; load C := 3;";
+// The replies to no statement, the first, the first two and all three.
+const REPLIES: [&[u8]; 4] = [
+    b"",
+    b"ok objects 1 edges 0\n",
+    b"ok objects 1 edges 0\nok objects 2 edges 0\n",
+    LOADED,
+];
 
-const LOADED: &[u8] = b"ok objects 1 edges 0\nok objects 2 edges 0\nok objects 3 edges 0\n";
+// Runs the loads with a read that fails, or would fail if it were made.
+fn check_read(
+    rt: &impl Abort,
+    alloc: Global,
+    read_piece: u32,
+    failing_read: u64,
+    reads: u64,
+    done: u8,
+) -> Result<(), Fail> {
+    let outside = Outside {
+        failing_read,
+        ..sound(read_piece, 13)
+    };
+    let status = if failing_read <= reads {
+        Status::ReadFault
+    } else {
+        Status::Done
+    };
+    let written = REPLIES.get(done as usize).copied().unwrap_or(b"");
+    check_run(
+        rt,
+        alloc,
+        LOADS,
+        outside,
+        ends(status, done as u64, 0),
+        written,
+    )
+}
 
-// The script has 38 bytes, and one more read finds its end.
+// The script has 38 bytes, whose `;` are the 12th, 25th and 38th, and one more read finds its end.
 #[test]
-fn a_read_fault_ends_a_run_before_its_first_statement(rt: HostRuntime) -> Result<(), Fail> {
-    for (read_piece, reads) in [(1, 39), (2, 20), (13, 4)] {
-        for failing_read in [1, 2, 3, 4, 5, 6, 7, 8, 20, 21, 39, 40] {
-            let (outcome, written) = if failing_read <= reads {
-                (ends(Status::ReadFault, 0, 0), b"".as_slice())
-            } else {
-                (ends(Status::Done, 3, 0), LOADED)
-            };
-            let outside = Outside {
-                failing_read,
-                ..sound(read_piece, 13)
-            };
-            check_run(
-                &rt,
-                rt.alloc(),
-                "a read that fails",
-                LOADS,
-                outside,
-                outcome,
-                written,
-            )?;
+fn a_read_fault_ends_a_run_behind_the_replies_to_what_was_read(
+    rt: HostRuntime,
+) -> Result<(), Fail> {
+    // The piece of a read; the reads; the statements replied to, where the first, second .. eighth
+    // fails.
+    for (read_piece, reads, table) in [
+        (1, 39, [0, 0, 0, 0, 0, 0, 0, 0]),
+        (2, 20, [0, 0, 0, 0, 0, 0, 1, 1]),
+        (13, 4, [0, 1, 2, 3, 3, 3, 3, 3]),
+        (65_536, 2, [0, 3, 3, 3, 3, 3, 3, 3]),
+    ] {
+        for (failing_read, done) in (1..).zip(table) {
+            check_read(&rt, rt.alloc(), read_piece, failing_read, reads, done)?;
         }
     }
     Ok(())
 }
 
-const SELECTS: &[u8] = b"select A; load A := 1; select A;";
+// Reads of one byte, at which the number of replies changes.
+#[test]
+fn a_late_read_fault_finds_each_reply_written(rt: HostRuntime) -> Result<(), Fail> {
+    for (failing_read, done) in [
+        (12, 0),
+        (13, 1),
+        (25, 1),
+        (26, 2),
+        (38, 2),
+        (39, 3),
+        (40, 3),
+    ] {
+        check_read(&rt, rt.alloc(), 1, failing_read, 39, done)?;
+    }
+    Ok(())
+}
 
-// Replies of 22, 21 and 12 bytes.
-const SELECTED: &[u8] = b"refused 7 UnknownName\nok objects 1 edges 0\n&1 1\nrows 1\n";
-
-// A run of `SELECTS` whose write of this number fails writes the first `count` bytes and replies to `done` statements.
-fn check_break(
+// Runs a script with a write that fails where `count` bytes are written, of all that it would
+// write.
+fn check_write(
     rt: &impl Abort,
     alloc: Global,
-    write_piece: u32,
-    failing_write: u64,
+    script: &[u8],
+    outside: Outside,
+    outcome: Outcome,
+    all: &[u8],
     count: usize,
-    done: u64,
 ) -> Result<(), Fail> {
-    assert!(rt; count <= SELECTED.len());
-    let outside = Outside {
-        failing_write,
-        ..sound(13, write_piece)
-    };
-    let outcome = ends(Status::WriteFault, done, 1);
-    check_run(
-        rt,
-        alloc,
-        "a write that fails",
-        SELECTS,
-        outside,
-        outcome,
-        &SELECTED[..count],
-    )
+    assert!(rt; count <= all.len());
+    check_run(rt, alloc, script, outside, outcome, &all[..count])
 }
 
-// Each reply is handed over by itself, though a piece has room for all.
-fn check_second_write(rt: &impl Abort, alloc: Global) -> Result<(), Fail> {
-    let outside = Outside {
-        read_piece: 65_536,
-        failing_read: 0,
-        write_piece: 4_096,
-        failing_write: 2,
-        room: 1_024,
-    };
-    let outcome = ends(Status::WriteFault, 2, 0);
-    check_run(
-        rt,
-        alloc,
-        "the second write",
-        LOADS,
-        outside,
-        outcome,
-        b"ok objects 1 edges 0\n",
-    )
+// Three replies of 21 bytes, in one write each where the piece has room for it.
+#[test]
+fn a_write_fault_ends_a_run_in_a_reply(rt: HostRuntime) -> Result<(), Fail> {
+    // The piece of a write; the bytes written and the statements replied to, where the first,
+    // second .. eighth fails.
+    for (write_piece, table) in [
+        (
+            1,
+            [
+                (0, 1),
+                (1, 1),
+                (2, 1),
+                (3, 1),
+                (4, 1),
+                (5, 1),
+                (6, 1),
+                (7, 1),
+            ],
+        ),
+        (
+            5,
+            [
+                (0, 1),
+                (5, 1),
+                (10, 1),
+                (15, 1),
+                (20, 1),
+                (21, 2),
+                (26, 2),
+                (31, 2),
+            ],
+        ),
+        (
+            4_096,
+            [
+                (0, 1),
+                (21, 2),
+                (42, 3),
+                (63, 3),
+                (63, 3),
+                (63, 3),
+                (63, 3),
+                (63, 3),
+            ],
+        ),
+    ] {
+        for (failing_write, (count, done)) in (1..).zip(table) {
+            let outside = Outside {
+                failing_write,
+                ..sound(13, write_piece)
+            };
+            let status = if count < 63 {
+                Status::WriteFault
+            } else {
+                Status::Done
+            };
+            let outcome = ends(status, done, 0);
+            check_write(&rt, rt.alloc(), LOADS, outside, outcome, LOADED, count)?;
+        }
+    }
+    Ok(())
 }
 
-// A reply goes through a buffer of 4,096 bytes, and the second one has 4,109.
-fn check_long_reply(rt: &impl Abort, alloc: Global) -> Result<(), Fail> {
-    let script = joined(
-        alloc,
-        &[
-            Part(b"load A := \"", 1),
-            Part(b"x", 4_096),
-            Part(b"\"; select A;", 1),
-        ],
-    )?;
-    let written = joined(
-        alloc,
-        &[Part(b"ok objects 1 edges 0\n&1 \"", 1), Part(b"x", 4_092)],
-    )?;
-    let outside = Outside {
-        failing_write: 3,
-        ..sound(65_536, 65_536)
-    };
-    let outcome = ends(Status::WriteFault, 2, 0);
-    check_run(
-        rt,
-        alloc,
-        "a long reply",
-        script.as_slice(),
-        outside,
-        outcome,
-        written.as_slice(),
-    )
+// A refused statement whose reply breaks off is counted among the refused.
+#[test]
+fn a_refused_statement_is_counted_where_its_reply_breaks_off(rt: HostRuntime) -> Result<(), Fail> {
+    for (write_piece, failing_write, count, done) in [
+        (1, 22, 21, 1),
+        (1, 23, 22, 2),
+        (1, 43, 42, 2),
+        (1, 44, 43, 3),
+        (1, 55, 54, 3),
+        (13, 2, 13, 1),
+        (13, 3, 22, 2),
+        (13, 4, 35, 2),
+        (13, 5, 43, 3),
+    ] {
+        let outside = Outside {
+            failing_write,
+            ..sound(13, write_piece)
+        };
+        let outcome = ends(Status::WriteFault, done, 1);
+        check_write(&rt, rt.alloc(), SELECTS, outside, outcome, SELECTED, count)?;
+    }
+    for (write_piece, failing_write) in [(1, 56), (2, 29), (13, 6), (13, 7), (13, 8)] {
+        let outside = Outside {
+            failing_write,
+            ..sound(13, write_piece)
+        };
+        let outcome = ends(Status::DoneRefused, 3, 1);
+        check_run(&rt, rt.alloc(), SELECTS, outside, outcome, SELECTED)?;
+    }
+    Ok(())
 }
 
-fn check_room(rt: &impl Abort, alloc: Global) -> Result<(), Fail> {
-    // Room, which is written to the full, and statements replied to.
+// Room, which is written to the full, and statements replied to.
+#[test]
+fn a_sink_that_is_full_ends_a_run(rt: HostRuntime) -> Result<(), Fail> {
     for (room, done) in [(0, 1), (1, 1), (21, 2), (22, 2), (30, 2), (62, 3)] {
         for piece in [1, 2, 13, 65_536] {
-            assert!(rt; room <= LOADED.len());
             let outside = Outside {
                 room,
                 ..sound(65_536, piece)
             };
             let outcome = ends(Status::WriteFault, done, 0);
-            check_run(
-                rt,
-                alloc,
-                "too little room",
-                LOADS,
-                outside,
-                outcome,
-                &LOADED[..room],
-            )?;
+            check_write(&rt, rt.alloc(), LOADS, outside, outcome, LOADED, room)?;
         }
     }
     let enough = Outside {
@@ -145,9 +209,8 @@ fn check_room(rt: &impl Abort, alloc: Global) -> Result<(), Fail> {
         ..sound(65_536, 13)
     };
     check_run(
-        rt,
-        alloc,
-        "enough room",
+        &rt,
+        rt.alloc(),
         LOADS,
         enough,
         ends(Status::Done, 3, 0),
@@ -157,123 +220,69 @@ fn check_room(rt: &impl Abort, alloc: Global) -> Result<(), Fail> {
         room: 0,
         ..sound(65_536, 13)
     };
+    check_run(&rt, rt.alloc(), b"", none, ends(Status::Done, 0, 0), b"")
+}
+
+fn push_many(bytes: &mut Vec<u8>, byte: u8, count: u32) -> Result<(), Fail> {
+    for _ in 0..count {
+        bytes.push(byte)?;
+    }
+    Ok(())
+}
+
+// So many bytes `x` between the bytes in front and behind.
+fn framed(alloc: Global, front: &[u8], count: u32, behind: &[u8]) -> Result<Vec<u8>, Fail> {
+    let mut bytes = Vec::from_slice(alloc, front)?;
+    push_many(&mut bytes, b'x', count)?;
+    bytes.extend_from_slice(behind)?;
+    Ok(bytes)
+}
+
+// A reply goes through a buffer of 4,096 bytes, and the second one has 4,109.
+#[test]
+fn a_long_reply_breaks_off_where_its_buffer_is_full(rt: HostRuntime) -> Result<(), Fail> {
+    let script = framed(rt.alloc(), b"load A := \"", 4_096, b"\"; select A;")?;
+    let written = framed(rt.alloc(), b"ok objects 1 edges 0\n&1 \"", 4_092, b"")?;
+    let outside = Outside {
+        failing_write: 3,
+        ..sound(65_536, 65_536)
+    };
+    let outcome = ends(Status::WriteFault, 2, 0);
     check_run(
-        rt,
-        alloc,
-        "no room needed",
-        b"",
-        none,
-        ends(Status::Done, 0, 0),
-        b"",
+        &rt,
+        rt.alloc(),
+        script.as_slice(),
+        outside,
+        outcome,
+        written.as_slice(),
     )
 }
 
-#[test]
-fn a_write_fault_ends_a_run_in_a_reply(rt: HostRuntime) -> Result<(), Fail> {
-    // The piece of a write, the first write that fails, the bytes written where that one fails, where the next one does
-    // and so on, and the statements replied to.
-    let table = [
-        (1, 1, [0, 1, 2, 3, 4, 5, 6, 7].as_slice(), 1),
-        (1, 22, &[21], 1),
-        (1, 23, &[22, 23], 2),
-        (1, 43, &[42], 2),
-        (1, 44, &[43, 44], 3),
-        (1, 55, &[54], 3),
-        (2, 1, &[0, 2, 4, 6, 8, 10, 12, 14, 16, 18, 20], 1),
-        (2, 12, &[22, 24, 26, 28, 30, 32, 34, 36, 38, 40, 42], 2),
-        (2, 23, &[43, 45, 47, 49, 51, 53], 3),
-        (13, 1, &[0, 13], 1),
-        (13, 3, &[22, 35], 2),
-        (13, 5, &[43], 3),
-    ];
-    for (piece, first, written, done) in table {
-        for (fault, count) in (first..).zip(written) {
-            check_break(&rt, rt.alloc(), piece, fault, *count, done)?;
-        }
-    }
-    for (write_piece, failing_write) in [(1, 56), (2, 29), (13, 6), (13, 7), (13, 8)] {
-        let outside = Outside {
-            failing_write,
-            ..sound(13, write_piece)
-        };
-        let outcome = ends(Status::DoneRefused, 3, 1);
-        check_run(
-            &rt,
-            rt.alloc(),
-            "a write too late",
-            SELECTS,
-            outside,
-            outcome,
-            SELECTED,
-        )?;
-    }
-    check_second_write(&rt, rt.alloc())?;
-    check_long_reply(&rt, rt.alloc())?;
-    check_room(&rt, rt.alloc())
-}
-
-// Source and sink fail at their first call, so that a run that made it would show.
-#[test]
-fn words_end_a_run_before_it_reads(rt: HostRuntime) -> Result<(), Fail> {
+// Runs the loads with a word, over a source and a sink that fail at their first call, so that a run
+// that made it would show. Gives how it ended, what two reads find behind it, and how many bytes
+// are written.
+fn run_with_word(alloc: Global, word: &str) -> Result<(Outcome, [usize; 3]), NoMemory> {
     let outside = Outside {
         failing_read: 1,
         failing_write: 1,
         ..sound(65_536, 65_536)
     };
-    for word in ["x", "--help", ""] {
-        let words = [String::from_str(rt.alloc(), word)?];
-        let mut source = source(&rt, rt.alloc(), LOADS, outside)?;
-        let mut sink = sink(&rt, rt.alloc(), outside)?;
-        let outcome = run(rt.alloc(), &words, &mut source, &mut sink)?;
-        assert_eq!(rt; outcome, ends(Status::Usage, 0, 0), "at the word {word}");
-        let mut bytes = [0; 38];
-        assert_eq!(rt; source.read(&mut bytes), Err(Failed));
-        assert_eq!(rt; source.read(&mut bytes), Ok(38));
-        assert_eq!(rt; bytes.as_slice(), LOADS);
-        assert_eq!(rt; sink.write(b"x"), Err(Failed));
-        assert_eq!(rt; sink.bytes(), b"".as_slice());
-    }
-    Ok(())
-}
-
-fn check_sure_source(rt: &impl Abort, alloc: Global, piece: u32) -> Result<(), Fail> {
-    assert!(rt; 1 <= piece);
-    let mut source = SureSource::new(OemText::from_bytes(alloc, SELECTS)?, piece);
-    let mut sink = sink(rt, alloc, sound(piece, piece))?;
-    let outcome = run(alloc, &[], &mut source, &mut sink)?;
-    assert_eq!(rt; outcome, ends(Status::DoneRefused, 3, 1), "read by {piece}");
-    assert_eq!(rt; sink.bytes(), SELECTED, "read by {piece}");
-    assert_eq!(rt;
-        source.read(&mut [0]),
-        Ok(0),
-        "the script is read to its end"
-    );
-    Ok(())
-}
-
-fn check_sure_sink(rt: &impl Abort, alloc: Global, piece: u32) -> Result<(), Fail> {
-    assert!(rt; 1 <= piece);
-    let mut source = source(rt, alloc, SELECTS, sound(piece, piece))?;
-    let mut sink = SureSink::new(piece);
-    let outcome = run(alloc, &[], &mut source, &mut sink)?;
-    assert_eq!(rt;
-        outcome,
-        ends(Status::DoneRefused, 3, 1),
-        "written by {piece}"
-    );
-    assert_eq!(rt;
-        source.read(&mut [0]),
-        Ok(0),
-        "the script is read to its end"
-    );
-    Ok(())
+    let words = [String::from_str(alloc, word)?];
+    let mut source = source(alloc, LOADS, outside)?;
+    let mut sink = sink(alloc, outside)?;
+    let outcome = run(alloc, &words, &mut source, &mut sink)?;
+    let mut bytes = [0; 38];
+    let first = source.read(&mut bytes).unwrap_or(99);
+    let second = source.read(&mut bytes).unwrap_or(99);
+    Ok((outcome, [first, second, sink.bytes().len()]))
 }
 
 #[test]
-fn sources_and_sinks_that_never_fail_are_taken(rt: HostRuntime) -> Result<(), Fail> {
-    for piece in PIECES {
-        check_sure_source(&rt, rt.alloc(), piece)?;
-        check_sure_sink(&rt, rt.alloc(), piece)?;
+fn words_end_a_run_before_it_reads(rt: HostRuntime) -> Result<(), Fail> {
+    for word in ["x", "--help", ""] {
+        let found = run_with_word(rt.alloc(), word)?;
+        let wanted = (ends(Status::Usage, 0, 0), [99, 38, 0]);
+        assert_eq!(rt; found, wanted, "at the word {word}");
     }
     Ok(())
 }

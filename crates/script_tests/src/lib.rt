@@ -1,12 +1,11 @@
-//! Tests of whole scripts over sources and sinks in memory: how a run ends, what it counts and what it writes, with values
-//! from outside the program.
+//! Tests of runs whose source or sink fails, and over sources and sinks of the system, with values
+//! from outside the program. Cases of whole scripts in which nothing fails are data of
+//! `script_cases`.
 #![tactic(auto)]
 
 #[cfg(test)]
 mod faults;
 #[cfg(test)]
-mod limits;
-#[cfg(test)]
 mod runs;
 #[cfg(test)]
-mod scripts;
+mod standard_ends;

@@ -8,15 +8,21 @@ use std::process::Abort;
 use std::sync::ledger::{Blank, Ledger};
 use std::test::Fail;
 
-/// The most bytes of one read and of one write.
-pub(crate) const PIECES: [u32; 4] = [1, 2, 13, 65_536];
+/// Three loads, whose `;` are the bytes 12, 25 and 38.
+pub(crate) const LOADS: &[u8] = b"load A := 1; load B := 2; load C := 3;";
+
+/// Their replies, of 21 bytes each.
+pub(crate) const LOADED: &[u8] =
+    b"ok objects 1 edges 0\nok objects 2 edges 0\nok objects 3 edges 0\n";
+
+/// Three statements, of which the first is refused.
+pub(crate) const SELECTS: &[u8] = b"select A; load A := 1; select A;";
+
+/// Their replies, of 22, 21 and 12 bytes.
+pub(crate) const SELECTED: &[u8] = b"refused 7 UnknownName\nok objects 1 edges 0\n&1 1\nrows 1\n";
 
 /// Bytes that any reply of these tests finds room for.
 const ROOM: usize = 65_536;
-
-/// Bytes, and how often they stand behind one another.
-#[derive(Clone, Copy)]
-pub(crate) struct Part(pub(crate) &'static [u8], pub(crate) usize);
 
 /// Where a run reads and writes.
 #[derive(Clone, Copy)]
@@ -61,22 +67,19 @@ fn only(alloc: Global, call: u64) -> Result<CallList, NoMemory> {
 
 /// The source of a script.
 pub(crate) fn source(
-    rt: &impl Abort,
     alloc: Global,
     script: &[u8],
     outside: Outside,
-) -> Result<MemSource, Fail> {
-    assert!(rt; 1 <= outside.read_piece);
+) -> Result<MemSource, NoMemory> {
     let bytes = OemText::from_bytes(alloc, script)?;
     let fails = only(alloc, outside.failing_read)?;
-    Ok(MemSource::new(bytes, outside.read_piece, fails))
+    Ok(MemSource::new(bytes, outside.read_piece.max(1), fails))
 }
 
 /// The sink of a run.
-pub(crate) fn sink(rt: &impl Abort, alloc: Global, outside: Outside) -> Result<MemSink, Fail> {
-    assert!(rt; 1 <= outside.write_piece);
+pub(crate) fn sink(alloc: Global, outside: Outside) -> Result<MemSink, NoMemory> {
     let fails = only(alloc, outside.failing_write)?;
-    Ok(MemSink::new(alloc, outside.room, outside.write_piece, fails)?)
+    MemSink::new(alloc, outside.room, outside.write_piece.max(1), fails)
 }
 
 fn run_counted<S: Source, K: Sink, L: Ledger>(
@@ -109,67 +112,22 @@ pub(crate) fn run<S: Source, K: Sink>(
 pub(crate) fn check_run(
     rt: &impl Abort,
     alloc: Global,
-    case: &str,
     script: &[u8],
     outside: Outside,
     outcome: Outcome,
     written: &[u8],
 ) -> Result<(), Fail> {
-    let mut source = source(rt, alloc, script, outside)?;
-    let mut sink = sink(rt, alloc, outside)?;
+    let mut source = source(alloc, script, outside)?;
+    let mut sink = sink(alloc, outside)?;
     let found = run(alloc, &[], &mut source, &mut sink)?;
     let reads = outside.read_piece;
+    let failing_read = outside.failing_read;
     let writes = outside.write_piece;
+    let failing_write = outside.failing_write;
     assert_eq!(rt;
-        found,
-        outcome,
-        "{case}, read by {reads}, written by {writes}"
-    );
-    assert_eq!(rt;
-        sink.bytes(),
-        written,
-        "{case}, read by {reads}, written by {writes}"
+        (found, sink.bytes()),
+        (outcome, written),
+        "read by {reads}, failing at {failing_read}; written by {writes}, at {failing_write}"
     );
     Ok(())
-}
-
-/// Runs a script in pieces of each size, and asserts the same of every run.
-pub(crate) fn check_script(
-    rt: &impl Abort,
-    alloc: Global,
-    case: &str,
-    script: &[u8],
-    outcome: Outcome,
-    written: &[u8],
-) -> Result<(), Fail> {
-    for read_piece in PIECES {
-        for write_piece in PIECES {
-            check_run(
-                rt,
-                alloc,
-                case,
-                script,
-                sound(read_piece, write_piece),
-                outcome,
-                written,
-            )?;
-        }
-    }
-    Ok(())
-}
-
-fn push_part(bytes: &mut Vec<u8>, part: &Part) -> Result<(), Fail> {
-    for _ in 0..part.1 {
-        bytes.extend_from_slice(part.0)?;
-    }
-    Ok(())
-}
-
-/// The bytes of all parts.
-pub(crate) fn joined(alloc: Global, parts: &[Part]) -> Result<Vec<u8>, Fail> {
-    let mut bytes = Vec::new(alloc);
-    for part in parts {
-        push_part(&mut bytes, part)?;
-    }
-    Ok(bytes)
 }

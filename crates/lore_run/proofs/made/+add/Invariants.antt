@@ -1,17 +1,20 @@
-use Rattle.std.proofs.Common.{◌≡◌, ◌+◌, ◌≤◌, ◌^◌, length, map, drop}
+use Rattle.std.proofs.Common.{◌≡◌, ◌+◌, ◌≤◌, ◌^◌, false, length, map, drop}
+use Rattle.lorel_ast.specs.Trees.{member_tree, member_trees, members_from}
 use Rattle.lore_run.specs.declared.made.Part.{Part}
-use Rattle.lore_run.specs.Trees.{branches_of, branches_from, branch_of}
-use Rattle.lore_run.specs.Made.{branches_size, branch_bodies, branch_arcs}
-use Rattle.lore_run.specs.Parts.{Grows}
+use Rattle.lore_run.specs.Built.{have_local}
+use Rattle.lore_run.specs.Made.{members_size, member_bodies, member_arcs}
+use Rattle.lore_run.specs.inside.Parts.{Grows}
 use Rattle.lore_run.proofs.made.+add.Given as goal
 
 abbrev pub invariant-add_members-members : goal.invariant-add_members-members
 invariant-add_members-members l =
-    let left = branches_from (map branch_of (drop l.member-index l.member-items)) in
+    let left = members_from (map member_tree (drop l.member-index l.member-items)) in
+    let all = members_from (member_trees l.members) in
     record {
-      after : l.next + branches_size left ≡ l.fn.first + branches_size (branches_of l.list);
-      numbers : l.next + branches_size left ≤ 2 ^ 32;
-      room : length l.labels.texts + length l.part.labels.texts + branches_size left ≤ 2 ^ 32;
-      grows : (new : Part) → Grows l.labels.texts (branch_bodies l.next left) (branch_arcs l.parent.0 l.next left) l.part new
-          → Grows l.labels.texts (branch_bodies l.fn.first (branches_of l.list)) (branch_arcs l.parent.0 l.fn.first (branches_of l.list)) l.fn.part new;
+      plain : have_local left ≡ false;
+      after : l.next + members_size left ≡ l.fn.first + members_size all;
+      numbers : l.next + members_size left ≤ 2 ^ 32;
+      room : length l.labels.texts + length l.part.labels.texts + members_size left ≤ 2 ^ 32;
+      grows : (new : Part) → Grows l.labels.texts (member_bodies l.next left) (member_arcs l.parent.0 l.next left) l.part new
+          → Grows l.labels.texts (member_bodies l.fn.first all) (member_arcs l.parent.0 l.fn.first all) l.fn.part new;
     }

@@ -3,32 +3,32 @@ use Rattle.std.proofs.lemmas.Option.{slice_get_within}
 use Rattle.lore_run.proofs.NumberLaws.{slice_get-append_left, slice_get-append_right, old_text_left, old_text_right, new_text, new_text_place}
 use Rattle.lore_run.proofs.made.number_label.Goals as goal
 
+pub overflow_add-result : goal.overflow_add-result
+overflow_add-result c =
+    omega (arith, slice_get_within c.args.new.now.texts c.in-Some.label.0 c.args.text.now c.in-Some.ensures.found, c.len-known.ensures.count)
+
 pub returns-in-Some-clause-texts : goal.returns-in-Some-clause-texts
 returns-in-Some-clause-texts c =
-    old_text_left c.args.labels.now.texts c.args.new.now.texts c.args.text.now c.in-Some.label.0 c.in-Some.ensures.found
+    old_text_right c.args.labels.now.texts c.args.new.now.texts c.args.text.now c.in-Some.label.0 c.in-Some.ensures.found
 
 pub returns-in-Some-clause-label : goal.returns-in-Some-clause-label
 returns-in-Some-clause-label c =
-    slice_get-append_left c.args.labels.now.texts c.args.new.now.texts c.in-Some.label.0 c.args.text.now c.in-Some.ensures.found
-
-pub overflow_add-result : goal.overflow_add-result
-overflow_add-result c =
-    omega (arith, slice_get_within c.args.new.now.texts c.in-Some-find.label.0 c.args.text.now c.in-Some-find.ensures.found, c.len-known.ensures.count)
+    ap (λ n. slice_get (c.args.labels.now.texts ++ c.args.new.now.texts) (n + c.in-Some.label.0)) c.len-known.ensures.count
+    ∙ slice_get-append_right c.args.labels.now.texts c.args.new.now.texts c.in-Some.label.0 c.args.text.now c.in-Some.ensures.found
 
 pub returns-in-Some-find-clause-texts : goal.returns-in-Some-find-clause-texts
 returns-in-Some-find-clause-texts c =
-    old_text_right c.args.labels.now.texts c.args.new.now.texts c.args.text.now c.in-Some-find.label.0 c.in-Some-find.ensures.found
+    old_text_left c.args.labels.now.texts c.args.new.now.texts c.args.text.now c.in-Some-find.label.0 c.in-Some-find.ensures.found
 
 pub returns-in-Some-find-clause-label : goal.returns-in-Some-find-clause-label
 returns-in-Some-find-clause-label c =
-    ap (λ n. slice_get (c.args.labels.now.texts ++ c.args.new.now.texts) (n + c.in-Some-find.label.0)) c.len-known.ensures.count
-    ∙ slice_get-append_right c.args.labels.now.texts c.args.new.now.texts c.in-Some-find.label.0 c.args.text.now c.in-Some-find.ensures.found
+    slice_get-append_left c.args.labels.now.texts c.args.new.now.texts c.in-Some-find.label.0 c.args.text.now c.in-Some-find.ensures.found
 
 pub returns-clause-texts : goal.returns-clause-texts
 returns-clause-texts c =
     c.in_ok-push.ensures.ok
     ∙ new_text c.args.labels.now.texts c.args.new.now.texts c.args.text.now
-    (λ i. c.in_default.ensures.none (record { 0 = i })) (λ i. c.in_default-find.ensures.none (record { 0 = i }))
+    (λ i. c.in_default-find.ensures.none (record { 0 = i })) (λ i. c.in_default.ensures.none (record { 0 = i }))
 
 pub returns-clause-label : goal.returns-clause-label
 returns-clause-label c =

@@ -1,8 +1,8 @@
 use Rattle.std.proofs.Common.{◌≡◌, ℕ, ◌+◌, ◌≤◌, List, ◌++◌, length, drop, ap, subst, ◌∙◌, arith}
 use Rattle.std.proofs.Math.Seq.{take-length}
 use Rattle.std.specs.List.{flat_map, between}
-use Rattle.lore_run.specs.Replies.{escaped}
-use Rattle.lore_run.proofs.DeliveryLaws.{BreaksOff-early, BreaksOff-late, BreaksOff-same, Puts-broken, Puts-same, Puts-then, Takes-same, Takes-then}
+use Rattle.lore_base.specs.Quotes.{escape}
+use Rattle.lore_run.proofs.DeliveryLaws.{Breaks-early, Breaks-late, Breaks-same, Puts-broken, Puts-same, Puts-then, Takes-same, Takes-then}
 use Rattle.lore_run.proofs.RenderingLaws.{printed_around, printed_next, printed_rest, printed_run, plain_more, plain_none}
 use Rattle.lore_run.proofs.rendering.put_escaped.Goals as goal
 use Rattle.lore_run.proofs.rendering.put_escaped.Goals.{in-Some+in_ok-put+in_ok-put-2, in_default}
@@ -12,21 +12,21 @@ returns-in_err-put g c =
     let text = c.args.text.now in
     let start = c.bytes.start in
     let place = c.bytes.place in
-    let run = printed_run escaped text start place c.bytes.invariant.ordered c.bytes.invariant.plain in
-    let parts = ap (λ (l : List ℕ). l ++ flat_map escaped (drop place text)) run ∙ printed_rest escaped text place in
+    let run = printed_run (escape 34) text start place c.bytes.invariant.ordered c.bytes.invariant.plain in
+    let parts = ap (λ (l : List ℕ). l ++ flat_map (escape 34) (drop place text)) run ∙ printed_rest (escape 34) text place in
     Puts-broken c.from_residual.result c.from_residual.ensures.0
-    (BreaksOff-same parts (BreaksOff-early (flat_map escaped (drop place text)) (BreaksOff-late c.bytes.invariant.taken c.in_err-put.ensures)))
+    (Breaks-same parts (Breaks-early (flat_map (escape 34) (drop place text)) (Breaks-late c.bytes.invariant.taken c.in_err-put.ensures)))
 
 pub returns-in_err-put-2 : goal.returns-in_err-put-2
 returns-in_err-put-2 g c =
     let text = c.args.text.now in
     let start = c.bytes.start in
     let place = c.bytes.place in
-    let run = printed_run escaped text start place c.bytes.invariant.ordered c.bytes.invariant.plain in
-    let parts = printed_around escaped text place 0 c.bytes-test.true in
+    let run = printed_run (escape 34) text start place c.bytes.invariant.ordered c.bytes.invariant.plain in
+    let parts = printed_around (escape 34) text place 0 c.bytes-test.true in
     Puts-broken c.from_residual-in_err-put-2.result c.from_residual-in_err-put-2.ensures.0
-    (BreaksOff-same parts (BreaksOff-early (flat_map escaped (drop (place + 1) text))
-    (BreaksOff-late (Takes-same run (Takes-then c.bytes.invariant.taken c.in_ok-put.ensures)) (BreaksOff-same c.in-Some.ensures.some c.in_err-put-2.ensures))))
+    (Breaks-same parts (Breaks-early (flat_map (escape 34) (drop (place + 1) text))
+    (Breaks-late (Takes-same run (Takes-then c.bytes.invariant.taken c.in_ok-put.ensures)) (Breaks-same c.in-Some.ensures.some c.in_err-put-2.ensures))))
 
 pub bytes-preserved : goal.bytes-preserved
 bytes-preserved g c =
@@ -35,18 +35,18 @@ bytes-preserved g c =
     let place = c.bytes.place in
     elim c.match-escape_of.branch [
       | in-Some+in_ok-put+in_ok-put-2 w ↦
-          let run = printed_run escaped text start place c.bytes.invariant.ordered c.bytes.invariant.plain in
+          let run = printed_run (escape 34) text start place c.bytes.invariant.ordered c.bytes.invariant.plain in
           let before = Takes-same run (Takes-then c.bytes.invariant.taken w.in_ok-put.ensures) in
-          rw (w.buffer-is, w.sink-is, w.start-is) (record {
+          rw (w.out-is, w.start-is) (record {
             ordered = omega arith;
-            plain = plain_none escaped text (place + 1);
-            taken = Takes-same (printed_next escaped text place 0 c.bytes-test.true)
+            plain = plain_none (escape 34) text (place + 1);
+            taken = Takes-same (printed_next (escape 34) text place 0 c.bytes-test.true)
                 (Takes-then before (Takes-same w.in-Some.ensures.some w.in_ok-put-2.ensures));
           })
       | in_default w ↦
-          rw (w.buffer-is, w.sink-is, w.start-is) (record {
+          rw (w.out-is, w.start-is) (record {
             ordered = omega arith;
-            plain = plain_more escaped text start place 0 c.bytes.invariant.ordered c.bytes-test.true c.bytes.invariant.plain w.in_default.ensures.none;
+            plain = plain_more (escape 34) text start place 0 c.bytes.invariant.ordered c.bytes-test.true c.bytes.invariant.plain w.in_default.ensures.none;
             taken = c.bytes.invariant.taken;
           })
     ]
@@ -57,6 +57,6 @@ returns g c =
     let start = c.bytes.start in
     let last : c.bytes.place ≡ length text = omega arith in
     let ordered : start ≤ length text = omega arith in
-    let plain = subst (λ (n : ℕ). flat_map escaped (between start n text) ≡ between start n text) last c.bytes.invariant.plain in
-    let run = printed_run escaped text start (length text) ordered plain ∙ ap (flat_map escaped) (take-length text) in
+    let plain = subst (λ (n : ℕ). flat_map (escape 34) (between start n text) ≡ between start n text) last c.bytes.invariant.plain in
+    let run = printed_run (escape 34) text start (length text) ordered plain ∙ ap (flat_map (escape 34)) (take-length text) in
     Puts-same _ _ _ _ c.put-2.result run (Puts-then _ (between start (length text) text) c.put-2.result c.bytes.invariant.taken c.put-2.ensures)

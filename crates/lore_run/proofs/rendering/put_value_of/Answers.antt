@@ -1,5 +1,5 @@
 use Rattle.std.proofs.Common.{Bor, ap, refl, ◌∙◌}
-use Rattle.lore_base.specs.declared.values.Value.{Value}
+use Rattle.lore_run.specs.Types.{Value}
 use Rattle.lore_run.specs.Replies.{printed}
 use Rattle.lore_run.proofs.DeliveryLaws.{Puts-same}
 use Rattle.lore_run.proofs.ValueLaws.{value_of-found}

@@ -1,5 +1,5 @@
 use Rattle.std.proofs.Common.{[], take}
-use Rattle.lore_run.specs.Targets.{Gains, IsChild}
+use Rattle.lore_run.specs.inside.Targets.{Gains, IsChild}
 use Rattle.lore_run.proofs.walk.children.Given as goal
 
 abbrev pub invariant-parents : goal.invariant-parents

@@ -1,5 +1,5 @@
 use Rattle.std.proofs.Common.{List, ◌++◌, ap, ◌∙◌}
-use Rattle.lore_base.specs.declared.edges.Edge.{Edge}
+use Rattle.lore_run.specs.Types.{Edge}
 use Rattle.lore_base.specs.Walks.{out_of}
 use Rattle.lore_run.proofs.GainLaws.{Extends-push, Extends-same}
 use Rattle.lore_run.proofs.WalkLaws.{label_same, label_other, led-more, other-more, led-all}

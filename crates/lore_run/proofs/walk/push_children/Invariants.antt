@@ -1,6 +1,6 @@
 use Rattle.std.proofs.Common.{take}
 use Rattle.lore_base.specs.Lists.{Extends}
-use Rattle.lore_run.specs.Targets.{Gains}
+use Rattle.lore_run.specs.inside.Targets.{Gains}
 use Rattle.lore_run.proofs.WalkLaws.{IsLedTo}
 use Rattle.lore_run.proofs.walk.push_children.Given as goal
 

@@ -1,7 +1,8 @@
 use Rattle.std.proofs.Common.{List, [], ◌∷◌, ◌++◌, sym, ap, ◌∙◌, subst}
-use Rattle.lore_base.specs.declared.edges.Oid.{Oid}
-use Rattle.lore_run.specs.Targets.{ListsInOrder, IsTarget}
-use Rattle.lore_run.proofs.WalkLaws.{texts-more, texts-all, target-start}
+use Rattle.lore_run.specs.Types.{Oid}
+use Rattle.lore_base.specs.TargetSets.{ListsInOrder, IsTarget}
+use Rattle.lore_base.proofs.TargetLaws.{target-start}
+use Rattle.lore_run.proofs.WalkLaws.{texts-more, texts-all}
 use Rattle.lore_run.proofs.walk.targets.Goals as goal
 
 pub texts-init : goal.texts-init

@@ -1,5 +1,5 @@
 use Rattle.std.proofs.Common.{take}
-use Rattle.lore_run.specs.Targets.{ListsInOrder, IsTarget}
+use Rattle.lore_base.specs.TargetSets.{ListsInOrder, IsTarget}
 use Rattle.lore_run.proofs.walk.targets.Given as goal
 
 abbrev pub invariant-texts : goal.invariant-texts

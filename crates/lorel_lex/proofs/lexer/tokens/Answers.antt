@@ -1,6 +1,6 @@
 use Rattle.std.proofs.Common.{Ok, Option, Some, None, ◌++◌, [], drop, sym, subst, inr, arith}
-use Rattle.lorel_lex.specs.declared.token_types.Token.{Token}
-use Rattle.lorel_lex.specs.Lexing.{ReadsNext}
+use Rattle.lorel_lex.specs.Types.{Token}
+use Rattle.lorel_lex.specs.inside.Lexing.{ReadsNext}
 use Rattle.lorel_lex.specs.Tokens.{AreTokens}
 use Rattle.lorel_lex.proofs.TokenLaws.{GoesOnFrom, GoesOnFrom-more, next_leaves, blank_behind, all_found, fault_found, formed}
 use Rattle.lorel_lex.proofs.lexer.tokens.Goals as goal

@@ -1,6 +1,6 @@
 use Rattle.std.proofs.Common.{◌<◌, ◌+◌, ◌-◌, ◌^◌, List, ℕ, length, take, drop, refl, sym, subst, arith}
 use Rattle.std.specs.Str.Parse.{AllDigits, digits_value}
-use Rattle.lorel_lex.specs.declared.token_types.Kind.TheVariants.{Local}
+use Rattle.lorel_lex.specs.Types.{Local}
 use Rattle.lorel_lex.proofs.FaultLaws.{kept, reads_bad, reads_range}
 use Rattle.lorel_lex.proofs.NumberLaws.{AllDigits-from_run, local_shape, no_local, byte_behind, between}
 use Rattle.lorel_lex.proofs.numbers.local.Goals as goal

@@ -1,7 +1,7 @@
 use Rattle.std.proofs.Common.{◌≡◌, ◌+◌, ◌-◌, true, false, List, ℕ, length, take, drop, refl, sym, ◌∙◌, subst, arith}
 use Rattle.std.specs.Prelude.{pos, neg_ℤ}
 use Rattle.std.specs.Str.Parse.{AllDigits, digits_value}
-use Rattle.lorel_lex.specs.declared.token_types.Kind.TheVariants.{Number}
+use Rattle.lorel_lex.specs.Types.{Number}
 use Rattle.lorel_lex.proofs.FaultLaws.{kept, reads_real, reads_range}
 use Rattle.lorel_lex.proofs.NumberLaws.{AllDigits-from_run, signed_shape, read_back, byte_behind, between, fraction_is, second_some}
 use Rattle.lorel_lex.proofs.numbers.signed.Goals as goal

@@ -1,7 +1,7 @@
 use Rattle.std.proofs.Common.{◌≡◌, true, false, take, drop, ◌∙◌, refl, sym}
 use Rattle.std.specs.Prelude.{pos}
 use Rattle.std.specs.Str.Parse.{digits_value}
-use Rattle.lorel_lex.specs.declared.token_types.Kind.TheVariants.{Number}
+use Rattle.lorel_lex.specs.Types.{Number}
 use Rattle.lorel_lex.proofs.FaultLaws.{kept, reads_real, reads_range}
 use Rattle.lorel_lex.proofs.NumberLaws.{AllDigits-from_run, unsigned_shape, read_back, fraction_is}
 use Rattle.lorel_lex.proofs.numbers.unsigned.Goals as goal

@@ -1,6 +1,6 @@
 use Rattle.std.proofs.Common.{◌≡◌, List, ℕ, Bool, false, Some, get_or, subst, ap, ◌∙◌, sym}
 use Rattle.std.proofs.lemmas.List.{take_all}
-use Rattle.lorel_lex.specs.Lexing.{escaped_after}
+use Rattle.lorel_lex.specs.inside.Lexing.{escaped_after}
 use Rattle.lorel_lex.proofs.ContentsLaws.{no_quote, escaped-more, escaped_by, unescaped_by}
 use Rattle.lorel_lex.proofs.quoted_texts.closing_quote.Goals as goal
 use Rattle.lorel_lex.proofs.quoted_texts.closing_quote.Goals.{then-escaped, else-escaped+else-byte-quote}

@@ -1,5 +1,5 @@
 use Rattle.std.proofs.Common.{◌≡◌, false, Some, take}
-use Rattle.lorel_lex.specs.Lexing.{escaped_after}
+use Rattle.lorel_lex.specs.inside.Lexing.{escaped_after}
 use Rattle.lorel_lex.proofs.quoted_texts.closing_quote.Given as goal
 
 abbrev pub invariant-bytes : goal.invariant-bytes

@@ -1,5 +1,5 @@
 use Rattle.std.proofs.Common.{List, ℕ, false, subst, ◌∙◌, sym}
-use Rattle.lorel_lex.specs.Shapes.{IsContents}
+use Rattle.lore_base.specs.Quotes.{IsContents}
 use Rattle.lorel_lex.proofs.ContentsLaws.{plain_contents}
 use Rattle.lorel_lex.proofs.quoted_texts.contents.Goals as goal
 

@@ -1,5 +1,5 @@
 use Rattle.std.proofs.Common.{◌≤◌, drop, length, ap, arith, inl}
-use Rattle.lorel_lex.specs.declared.token_types.Kind.TheVariants.{Quoted}
+use Rattle.lorel_lex.specs.Types.{Quoted}
 use Rattle.lorel_lex.proofs.FaultLaws.{kept, reads_bad, reads_long}
 use Rattle.lorel_lex.proofs.QuotedLaws.{label_shape, no_label, empty_label}
 use Rattle.lorel_lex.proofs.quoted_texts.label.Goals as goal

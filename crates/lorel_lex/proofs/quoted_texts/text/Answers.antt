@@ -1,5 +1,5 @@
 use Rattle.std.proofs.Common.{drop, length, ap, arith, inl}
-use Rattle.lorel_lex.specs.declared.token_types.Kind.TheVariants.{Chars}
+use Rattle.lorel_lex.specs.Types.{Chars}
 use Rattle.lorel_lex.proofs.FaultLaws.{kept, reads_long}
 use Rattle.lorel_lex.proofs.QuotedLaws.{text_shape, no_text}
 use Rattle.lorel_lex.proofs.quoted_texts.text.Goals as goal

@@ -1,9 +1,9 @@
-use Rattle.std.proofs.Common.{◌≡◌, take}
-use Rattle.lorel_lex.specs.Scan.{scanned, GoesOn}
+use Rattle.std.proofs.Common.{◌-◌, length}
+use Rattle.lorel_lex.proofs.ScanLaws.{ScansTo}
 use Rattle.lorel_lex.proofs.scan.scan.Given as goal
 
 abbrev pub invariant-bytes : goal.invariant-bytes
-invariant-bytes l = record {
-  unended : GoesOn l.fn.from (take l.i l.bytes);
-  reached : l.state ≡ scanned l.fn.from (take l.i l.bytes);
-}
+invariant-bytes l = ScansTo l.fn.from l.state l.bytes l.at
+
+abbrev pub decreases-bytes : goal.decreases-bytes
+decreases-bytes l = length l.bytes - l.at

@@ -1,5 +1,5 @@
 use Rattle.std.proofs.Common.{drop, sym}
-use Rattle.lorel_lex.specs.declared.token_types.Kind.TheVariants.{Symbol}
+use Rattle.lorel_lex.specs.Types.{Symbol}
 use Rattle.lorel_lex.proofs.FaultLaws.{kept, reads_bad}
 use Rattle.lorel_lex.proofs.SignLaws.{pair_shape, single_shape, no_symbol, no_pair}
 use Rattle.lorel_lex.proofs.symbols.symbol.Goals as goal

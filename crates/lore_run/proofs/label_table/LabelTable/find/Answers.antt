@@ -1,14 +1,14 @@
 use Rattle.std.proofs.Common.{slice_get, sym, ap, ◌∙◌}
-use Rattle.lore_run.specs.LabelTables.{Table}
+use Rattle.lore_run.specs.inside.LabelTables.{Table}
 use Rattle.lore_run.proofs.TextSetLaws.{text_at, text_nowhere}
 use Rattle.lore_run.proofs.label_table.LabelTable.find.Goals as goal
 
 pub returns-in-Some-clause-found : goal.returns-in-Some-clause-found
 returns-in-Some-clause-found c =
     ap (λ (t : Table). slice_get t.texts c.in-Some.place) (sym c.self.view_is)
-    ∙ text_at (λ k. k.items) c.args.text.now c.self.inside.texts.keys c.in-Some.place (sym c.in-Some.ensures.index)
+    ∙ text_at c.args.text.now c.self.inside.texts.keys c.in-Some.place (sym c.in-Some.ensures.index)
 
 pub returns-in-None-clause-none : goal.returns-in-None-clause-none
 returns-in-None-clause-none c =
-    λ label there. text_nowhere (λ k. k.items) c.args.text.now c.self.inside.texts.keys label.0 (sym c.in-None.ensures.found)
+    λ label there. text_nowhere c.args.text.now c.self.inside.texts.keys label.0 (sym c.in-None.ensures.found)
     (ap (λ (t : Table). slice_get t.texts label.0) c.self.view_is ∙ there)

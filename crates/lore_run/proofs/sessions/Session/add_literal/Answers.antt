@@ -1,35 +1,45 @@
-use Rattle.std.proofs.Common.{◌≡◌, ◌≢◌, ◌<◌, ◌^◌, None, ◌++◌, length, AllPairs, sym, ap, subst, ◌∙◌, arith}
+use Rattle.std.proofs.Common.{◌≡◌, ◌≢◌, ◌≤◌, ◌+◌, None, ◌++◌, length, AllPairs, sym, ap, subst, ◌∙◌, arith}
 use Rattle.lore_base.specs.Names.{object_of}
 use Rattle.lore_base.specs.Databases.{Database, OemGraph}
-use Rattle.oem_graph.specs.Plans.{graph_after}
-use Rattle.lore_run.specs.Trees.{tree_of}
+use Rattle.lore_base.specs.ChangeSets.{AreDead}
+use Rattle.oem_graph.specs.Plans.{LeadsTo}
+use Rattle.oem_graph.proofs.PlanLaws.{ordered-led}
+use Rattle.lorel_ast.specs.Trees.{literal_tree}
 use Rattle.lore_run.specs.Statements.{Loads}
 use Rattle.lore_run.specs.Sessions.{database_of, IsKept}
-use Rattle.lore_run.proofs.SessionLaws.{part_fits, part_distinct, part_loads, part_few_edges, part_kept}
+use Rattle.lore_run.proofs.SessionLaws.{part_fits, part_dead, part_distinct, part_loads, part_few_edges, part_kept}
 use Rattle.lore_run.proofs.sessions.Session.add_literal.Goals as goal
 
 pub prepare-requires-clause-fits : goal.prepare-requires-clause-fits
 prepare-requires-clause-fits c =
     let given = c.in_ok-changes.ensures in
-    let same = ap (λ (d : Database). length d.objects) c.self.view_is in
-    part_fits c.self.inside.labels.texts c.self.inside.graph.graph c.args.name.now (tree_of c.args.literal.now) c.next.result c.in_ok-made.field-0 c.in_ok-changes.changes
+    let same = ap (λ (d : Database). length d.graph.objects) c.self.view_is in
+    part_fits c.self.inside.labels.texts c.self.inside.graph.graph c.args.name.now (literal_tree c.args.literal.now) c.requires.plain c.next.result c.in_ok-made.field-0 c.in_ok-changes.changes
     c.next.ensures.number c.in_ok-made.ensures given.made given.added given.named
     c.self.invariant (omega (arith, same, c.requires.few)) c.requires.name c.requires.literal
+
+pub prepare-requires-clause-dead : goal.prepare-requires-clause-dead
+prepare-requires-clause-dead c =
+    let given = c.in_ok-changes.ensures in
+    let unbound = ap (λ (d : Database). object_of d.graph.names c.args.name.now) c.self.view_is ∙ c.requires.unbound in
+    let none = part_dead c.self.inside.labels.texts c.self.inside.graph.graph c.args.name.now (literal_tree c.args.literal.now) c.requires.plain c.next.result c.in_ok-made.field-0 c.in_ok-changes.changes
+    c.next.ensures.number c.in_ok-made.ensures given.made given.added given.named
+    c.self.invariant unbound in
+    subst (λ l. AreDead c.self.inside.graph.graph c.in_ok-changes.changes l) (sym c.new.ensures) none
 
 pub commit-requires-clause-few : goal.commit-requires-clause-few
 commit-requires-clause-few c =
     let given = c.in_ok-changes.ensures in
-    let graph = c.self.inside.graph.graph in
-    let same = ap (λ (d : Database). length d.objects) c.self.view_is in
-    let few = part_few_edges c.self.inside.labels.texts graph c.args.name.now (tree_of c.args.literal.now) c.next.result c.in_ok-made.field-0 c.in_ok-changes.changes
+    let same = ap (λ (d : Database). length d.graph.objects) c.self.view_is in
+    let edges = ap (λ (g : OemGraph). length g.edges) c.in-Ok.ensures.same in
+    λ after leads. part_few_edges c.self.inside.labels.texts c.self.inside.graph.graph c.args.name.now (literal_tree c.args.literal.now) c.requires.plain c.next.result c.in_ok-made.field-0 c.in_ok-changes.changes
     c.next.ensures.number c.in_ok-made.ensures given.made given.added given.named
-    c.self.invariant (omega (arith, same, c.requires.few)) (graph_after graph c.in_ok-plan.plan) c.in_ok-plan.ensures.few in
-    subst (λ (g : OemGraph). length (graph_after g c.in_ok-plan.plan).edges < 2 ^ 32) (sym c.in-Ok.ensures.same) few
+    c.self.invariant (omega (arith, same, c.requires.few)) after (omega (arith, edges, leads.few_edges, c.in_ok-plan.ensures.few))
 
 pub append-requires-clause-distinct : goal.append-requires-clause-distinct
 append-requires-clause-distinct c =
     let given = c.in_ok-changes.ensures in
-    let apart = part_distinct c.self.inside.labels.texts c.self.inside.graph.graph c.args.name.now (tree_of c.args.literal.now) c.next.result c.in_ok-made.field-0 c.in_ok-changes.changes
+    let apart = part_distinct c.self.inside.labels.texts c.self.inside.graph.graph c.args.name.now (literal_tree c.args.literal.now) c.requires.plain c.next.result c.in_ok-made.field-0 c.in_ok-changes.changes
     c.next.ensures.number c.in_ok-made.ensures given.made given.added given.named c.self.invariant.valid.labels_distinct in
     subst (λ l. AllPairs (λ a b. a ≢ b) (l ++ c.in_ok-made.field-0.labels.texts)) (sym c.in-Ok-reserve.ensures.same) apart
 
@@ -37,28 +47,28 @@ pub invariant_of-self-2 : goal.invariant_of-self-2
 invariant_of-self-2 c =
     let given = c.in_ok-changes.ensures in
     let graph = c.self.inside.graph.graph in
-    let after = graph_after graph c.in_ok-plan.plan in
-    let same = ap (λ (d : Database). length d.objects) c.self.view_is in
-    let unbound : object_of graph.names c.args.name.now ≡ None = ap (λ (d : Database). object_of d.names c.args.name.now) c.self.view_is ∙ c.requires.unbound in
-    let kept = part_kept c.self.inside.labels.texts graph c.args.name.now (tree_of c.args.literal.now) c.next.result c.in_ok-made.field-0 c.in_ok-changes.changes
+    let after = c.commit.new.self.graph in
+    let plan = c.in_ok-plan.plan in
+    let same = ap (λ (d : Database). length d.graph.objects) c.self.view_is in
+    let unbound : object_of graph.names c.args.name.now ≡ None = ap (λ (d : Database). object_of d.graph.names c.args.name.now) c.self.view_is ∙ c.requires.unbound in
+    let leads : LeadsTo graph plan after = subst (λ (g : OemGraph). LeadsTo g plan after) c.in-Ok.ensures.same c.commit.ensures in
+    let kept = part_kept c.self.inside.labels.texts c.self.inside.graph.graph c.args.name.now (literal_tree c.args.literal.now) c.requires.plain c.next.result c.in_ok-made.field-0 c.in_ok-changes.changes
     c.next.ensures.number c.in_ok-made.ensures given.made given.added given.named
-    c.self.invariant (omega (arith, same, c.requires.few)) after c.in_ok-plan.ensures.few c.in_ok-plan.ensures.after c.in_ok-plan.ensures.leads unbound c.requires.name c.requires.literal in
+    c.self.invariant (omega (arith, same, c.requires.few)) after (omega (arith, leads.few_edges, c.in_ok-plan.ensures.few))
+    (c.in_ok-plan.ensures.after after leads) (ordered-led graph after plan c.in_ok-plan.ensures.leads leads) unbound c.requires.name c.requires.literal in
     let texts = c.append.ensures ∙ ap (λ l. l ++ c.in_ok-made.field-0.labels.texts) c.in-Ok-reserve.ensures.same in
-    let graphs = c.commit.ensures ∙ ap (λ (g : OemGraph). graph_after g c.in_ok-plan.plan) c.in-Ok.ensures.same in
-    subst (λ l. IsKept (database_of l c.commit.new.self.graph)) (sym texts)
-    (subst (λ (g : OemGraph). IsKept (database_of (c.self.inside.labels.texts ++ c.in_ok-made.field-0.labels.texts) g)) (sym graphs) kept)
+    subst (λ l. IsKept (database_of l after)) (sym texts) kept
 
 pub returns-clause-ok : goal.returns-clause-ok
 returns-clause-ok c =
     let given = c.in_ok-changes.ensures in
     let graph = c.self.inside.graph.graph in
-    let after = graph_after graph c.in_ok-plan.plan in
-    let loads = part_loads c.self.inside.labels.texts graph c.args.name.now (tree_of c.args.literal.now) c.next.result c.in_ok-made.field-0 c.in_ok-changes.changes
+    let after = c.commit.new.self.graph in
+    let plan = c.in_ok-plan.plan in
+    let leads : LeadsTo graph plan after = subst (λ (g : OemGraph). LeadsTo g plan after) c.in-Ok.ensures.same c.commit.ensures in
+    let loads = part_loads c.self.inside.labels.texts c.self.inside.graph.graph c.args.name.now (literal_tree c.args.literal.now) c.requires.plain c.next.result c.in_ok-made.field-0 c.in_ok-changes.changes
     c.next.ensures.number c.in_ok-made.ensures given.made given.added given.named
-    after c.self.invariant.valid.labels_distinct c.in_ok-plan.ensures.after in
+    after c.self.invariant.valid.labels_distinct (c.in_ok-plan.ensures.after after leads) in
     let texts = c.append.ensures ∙ ap (λ l. l ++ c.in_ok-made.field-0.labels.texts) c.in-Ok-reserve.ensures.same in
-    let graphs = c.commit.ensures ∙ ap (λ (g : OemGraph). graph_after g c.in_ok-plan.plan) c.in-Ok.ensures.same in
-    subst (λ (before : Database). Loads before c.args.name.now (tree_of c.args.literal.now) (database_of c.append.new.self.texts c.commit.new.self.graph)) c.self.view_is
-    (subst (λ l. Loads (database_of c.self.inside.labels.texts graph) c.args.name.now (tree_of c.args.literal.now) (database_of l c.commit.new.self.graph)) (sym texts)
-    (subst (λ (g : OemGraph). Loads (database_of c.self.inside.labels.texts graph) c.args.name.now (tree_of c.args.literal.now)
-    (database_of (c.self.inside.labels.texts ++ c.in_ok-made.field-0.labels.texts) g)) (sym graphs) loads))
+    subst (λ (before : Database). Loads before c.args.name.now (literal_tree c.args.literal.now) (database_of c.append.new.self.texts after)) c.self.view_is
+    (subst (λ l. Loads (database_of c.self.inside.labels.texts graph) c.args.name.now (literal_tree c.args.literal.now) (database_of l after)) (sym texts) loads)

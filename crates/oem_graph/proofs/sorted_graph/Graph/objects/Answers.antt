@@ -6,4 +6,4 @@ pub overflow_cast-result : goal.overflow_cast-result
 overflow_cast-result c =
     let ordered = c.self.invariant.ordered in
     let fewer = length-objects _ _ ordered.objects_ascend ordered.objects_numbered ordered.next_numbered.0 in
-    omega (arith, fewer, ordered.next_numbered.1, c.len.ensures, c.self.inside.objects.ok.0)
+    omega (arith, fewer, ordered.next_numbered.1, c.len.ensures)

@@ -1,0 +1,98 @@
+#!/usr/bin/env python3
+"""Runs the built program on scripts that are large or stand just at a limit. What it has to write is worked out here.
+
+The prover can't refuse a program that gives up with want of memory, nor one whose limits are other numbers than the
+documents name; these cases do.
+"""
+import hashlib
+import os
+import subprocess
+import sys
+
+PROGRAM = os.path.join(os.path.dirname(os.path.abspath(__file__)), "..", "crates", "lore", "out", "lore")
+CHUNK = 67_108_864
+SCRIPT = 1_073_741_824
+
+
+def run(pieces):
+    """The status and the bytes that the program writes for a script in pieces, which a thread hands it."""
+    process = subprocess.Popen([PROGRAM], stdin=subprocess.PIPE, stdout=subprocess.PIPE)
+    writer = os.fork()
+    if writer == 0:
+        try:
+            process.stdout.close()
+            for piece in pieces:
+                process.stdin.write(piece)
+            process.stdin.close()
+        except BrokenPipeError:
+            pass
+        os._exit(0)
+    process.stdin.close()
+    written = process.stdout.read()
+    os.waitpid(writer, 0)
+    return process.wait(), written
+
+
+def braces(name, members):
+    return f"load {name} := {{ {', '.join(members)} }};".encode()
+
+
+def repeated(byte, count):
+    """So many equal bytes, in pieces."""
+    block = byte * 1_048_576
+    for _ in range(count // len(block)):
+        yield block
+    yield byte * (count % len(block))
+
+
+def long_script(count):
+    """A script of so many bytes: chunks of 64,000,000 bytes with their `;`, and blanks behind them. And its replies."""
+    size = 64_000_000
+    chunks = (count - 1) // size
+
+    def pieces():
+        for _ in range(chunks):
+            yield from repeated(b" ", size - 1)
+            yield b";"
+        yield from repeated(b" ", count - chunks * size)
+
+    return pieces(), b"refused 5 Syntax\n" * chunks
+
+
+def cases():
+    many = 65_535
+    rows = "".join(f"&{i + 2} {i}\n" for i in range(many))
+    yield ("as many rows as objects", [braces("A", (f"a {i}" for i in range(many))), b"select A.a;"], 0,
+           f"ok objects {many + 1} edges {many}\n{rows}rows {many}\n".encode())
+    script, replies = [], []
+    for i in range(1_000):
+        script.append(f"load n{i} := {i}; select n{i};\n".encode())
+        replies.append(f"ok objects {i + 1} edges 0\n&{i + 1} {i}\nrows 1\n".encode())
+    yield "two thousand statements and a thousand names", script, 0, b"".join(replies)
+    yield ("four thousand labels", [braces("L", (f"l{i} {i}" for i in range(4_096))), b"select L.l4095;"], 0,
+           b"ok objects 4097 edges 4096\n&4097 4095\nrows 1\n")
+    text = "street " * 500
+    yield ("a statement of many megabytes", [braces("T", (f't "{text}{i}"' for i in range(2_000)))], 0,
+           b"ok objects 2001 edges 2000\n")
+    yield "a statement as long as one may be", [*repeated(b" ", CHUNK), b";"], 1, b"refused 5 Syntax\n"
+    yield "a statement of one byte more", [*repeated(b" ", CHUNK + 1), b";"], 5, b""
+    yield "a rest as long as one may be", repeated(b" ", CHUNK), 0, b""
+    yield "a rest of one byte more", [b"load A := 1;", *repeated(b" ", CHUNK + 1)], 5, b"ok objects 1 edges 0\n"
+    script, replies = long_script(SCRIPT)
+    yield "a script as long as one may be", script, 1, replies
+    script, replies = long_script(SCRIPT + 1)
+    yield "a script of one byte more", script, 7, replies
+
+
+def main():
+    failed = 0
+    for name, pieces, status, replies in cases():
+        got, written = run(pieces)
+        if (got, written) != (status, replies):
+            failed += 1
+            print(f"{name}: status {got} in place of {status}, {len(written)} bytes in place of {len(replies)}, "
+                  f"{hashlib.sha256(written).hexdigest()[:8]} in place of {hashlib.sha256(replies).hexdigest()[:8]}")
+    sys.exit(1 if failed else 0)
+
+
+main()

@@ -1,0 +1,209 @@
+-- Ascending lists: one has these members, and one exists for the members of any list.
+use Rattle.std.proofs.Common.{◌≡◌, ℕ, suc, ◌+◌, ◌<◌, ◌≤◌, ◌⊎◌, inl, inr, ◌↔◌, List, [], ◌∷◌, length, refl, sym, ap, subst, ◌∙◌, arith, Less, Equal, Greater}
+use Rattle.std.specs.declared.cmp.Ordering.{Ordering}
+use Rattle.std.specs.Cmp.{IsTotalOrder}
+use Rattle.std.specs.Ordering.{ordering_reverse}
+use Rattle.std.specs.List.{All, AllPairs, Contains}
+use Rattle.std.proofs.lemmas.Bool.{cases_lt}
+use Rattle.std.proofs.lemmas.Bool.Decides.{nat_tests}
+use Rattle.std.proofs.lemmas.List.Elements.{All-nil, All-cons, All-contains_itself, All-contains, All-weaker}
+use Rattle.std.proofs.lemmas.List.Kept.{AllPairs-cons}
+use Rattle.lore_run.specs.Types.{Oid, Edge}
+use Rattle.lore_base.specs.Walks.{edge_cmp}
+use Rattle.oem_graph.proofs.EdgeLaws.{edge_cmp_total}
+use Rattle.lore_base.proofs.MemberLaws.{Contains-none, Contains-tail, Contains-head, Contains-cases, Contains-same}
+
+-- an order in which of two items one is before the other, or they are one
+pub record IsOrder {X : Type 0} (R : X → X → Type 0) : Type 0 where
+  pub apart : (a : X) → R a a → ⊥
+  pub trans : (a b c : X) → R a b → R b c → R a c
+  pub either : (a b : X) → R a b ⊎ ((a ≡ b) ⊎ R b a)
+
+-- what comes behind the first item, and the rest
+AllPairs-head : {X : Type 0} (R : X → X → Type 0) (x : X) (xs : List X) → AllPairs R (x ∷ xs) → All (R x) xs
+AllPairs-head R x xs pairs = λ k d low. pairs 0 (suc k) d (omega arith) (omega (arith, low))
+
+AllPairs-tail : {X : Type 0} (R : X → X → Type 0) (x : X) (xs : List X) → AllPairs R (x ∷ xs) → AllPairs R xs
+AllPairs-tail R x xs pairs = λ i j d low within. pairs (suc i) (suc j) d (omega (arith, low)) (omega (arith, within))
+
+AllPairs-nil : {X : Type 0} (R : X → X → Type 0) → AllPairs R []
+AllPairs-nil R = λ i j d low within. absurd (omega (arith, within))
+
+-- two ascending lists with the same members are one
+module _ {X : Type 0} (R : X → X → Type 0) (order : IsOrder R) where
+  -- the first of one list is the first of the other
+  same_first : (x : X) (xs : List X) (y : X) (ys : List X) → AllPairs R (x ∷ xs) → AllPairs R (y ∷ ys)
+      → Contains (y ∷ ys) x → Contains (x ∷ xs) y → x ≡ y
+  same_first x xs y ys ascend_xs ascend_ys left right =
+      elim (Contains-cases y ys x left) [
+        | inl same ↦ sym same
+        | inr x_later ↦ elim (Contains-cases x xs y right) [
+          | inl same ↦ same
+          | inr y_later ↦ (
+              let above = All-contains (R x) xs y (AllPairs-head R x xs ascend_xs) y_later in
+              let below = All-contains (R y) ys x (AllPairs-head R y ys ascend_ys) x_later in
+              absurd (order.apart x (order.trans x y x above below)))
+        ]
+      ]
+
+  -- what stands behind the first of one list stands behind that of the other
+  same_later : (x : X) (xs ys : List X) → AllPairs R (x ∷ xs) → (z : X) → Contains xs z → Contains (x ∷ ys) z → Contains ys z
+  same_later x xs ys ascend z here there =
+      elim (Contains-cases x ys z there) [
+        | inl same ↦ absurd (order.apart z (subst (λ a. R a z) same (All-contains (R x) xs z (AllPairs-head R x xs ascend) here)))
+        | inr later ↦ later
+      ]
+
+  pub one_ascending : (xs ys : List X) → AllPairs R xs → AllPairs R ys → ((z : X) → Contains xs z → Contains ys z)
+      → ((z : X) → Contains ys z → Contains xs z) → xs ≡ ys
+  one_ascending [] [] ascend_xs ascend_ys into back = refl
+  one_ascending [] (y ∷ ys) ascend_xs ascend_ys into back = absurd (Contains-none y (back y (Contains-head y ys)))
+  one_ascending (x ∷ xs) [] ascend_xs ascend_ys into back = absurd (Contains-none x (into x (Contains-head x xs)))
+  one_ascending (x ∷ xs) (y ∷ ys) ascend_xs ascend_ys into back =
+      let same = same_first x xs y ys ascend_xs ascend_ys (into x (Contains-head x xs)) (back y (Contains-head y ys)) in
+      let ascend : AllPairs R (x ∷ ys) = subst (λ a. AllPairs R (a ∷ ys)) (sym same) ascend_ys in
+      let rest = one_ascending xs ys (AllPairs-tail R x xs ascend_xs) (AllPairs-tail R y ys ascend_ys)
+      (λ z h. same_later x xs ys ascend_xs z h (subst (λ a. Contains (a ∷ ys) z) (sym same) (into z (Contains-tail x xs z h))))
+      (λ z h. same_later x ys xs ascend z h (back z (Contains-tail y ys z h))) in
+      cc
+
+-- one item more, at its place
+pub record IsInserted {X : Type 0} (R : X → X → Type 0) (old : List X) (item : X) (new : List X) : Type 0 where
+  pub ascend : AllPairs R new
+  pub kept : (z : X) → Contains old z → Contains new z
+  pub here : Contains new item
+  pub only : (z : X) → Contains new z → Contains old z ⊎ (item ≡ z)
+  pub few : length new ≤ length old + 1
+
+-- the members of a list in ascending order
+pub record IsSetOf {X : Type 0} (R : X → X → Type 0) (old : List X) (new : List X) : Type 0 where
+  pub ascend : AllPairs R new
+  pub kept : (z : X) → Contains old z → Contains new z
+  pub only : (z : X) → Contains new z → Contains old z
+  pub few : length new ≤ length old
+
+module _ {X : Type 0} (R : X → X → Type 0) (order : IsOrder R) where
+  inserted_first : (item y : X) (ys : List X) → AllPairs R (y ∷ ys) → R item y → IsInserted R (y ∷ ys) item (item ∷ y ∷ ys)
+  inserted_first item y ys ascend before = record {
+    ascend = AllPairs-cons R item (y ∷ ys)
+        (All-cons (R item) y ys before (All-weaker (R y) (R item) (λ z. order.trans item y z before) ys (AllPairs-head R y ys ascend))) ascend;
+    kept = λ z h. Contains-tail item (y ∷ ys) z h;
+    here = Contains-head item (y ∷ ys);
+    only = λ z h. elim (Contains-cases item (y ∷ ys) z h) [ inl same ↦ inr same | inr later ↦ inl later ];
+    few = omega arith;
+  }
+
+  inserted_same : (item y : X) (ys : List X) → AllPairs R (y ∷ ys) → item ≡ y → IsInserted R (y ∷ ys) item (y ∷ ys)
+  inserted_same item y ys ascend same = record {
+    ascend = ascend;
+    kept = λ z h. h;
+    here = subst (Contains (y ∷ ys)) (sym same) (Contains-head y ys);
+    only = λ z h. inl h;
+    few = omega arith;
+  }
+
+  inserted_later : (item y : X) (ys new : List X) → AllPairs R (y ∷ ys) → R y item → IsInserted R ys item new
+      → IsInserted R (y ∷ ys) item (y ∷ new)
+  inserted_later item y ys new ascend before rest = record {
+    ascend = AllPairs-cons R y new
+        (All-weaker (Contains new) (R y)
+        (λ z h. elim (rest.only z h) [
+          | inl old ↦ All-contains (R y) ys z (AllPairs-head R y ys ascend) old
+          | inr same ↦ subst (R y) same before
+        ])
+        new (All-contains_itself new))
+        rest.ascend;
+    kept = λ z h. elim (Contains-cases y ys z h) [
+      | inl same ↦ Contains-same (y ∷ new) y z same (Contains-head y new)
+      | inr later ↦ Contains-tail y new z (rest.kept z later)
+    ];
+    here = Contains-tail y new item rest.here;
+    only = λ z h. elim (Contains-cases y new z h) [
+      | inl same ↦ inl (Contains-same (y ∷ ys) y z same (Contains-head y ys))
+      | inr later ↦ elim (rest.only z later) [ inl old ↦ inl (Contains-tail y ys z old) | inr same ↦ inr same ]
+    ];
+    few = omega (arith, rest.few);
+  }
+
+  pub some_inserted : (item : X) (old : List X) → AllPairs R old → (new : List X) × IsInserted R old item new
+  some_inserted item [] ascend = (
+    item ∷ [],
+    record {
+      ascend = AllPairs-cons R item [] (All-nil (R item)) ascend;
+      kept = λ z h. absurd (Contains-none z h);
+      here = Contains-head item [];
+      only = λ z h. elim (Contains-cases item [] z h) [ inl same ↦ inr same | inr none ↦ inl none ];
+      few = omega arith;
+    },
+  )
+  some_inserted item (y ∷ ys) ascend =
+      elim (order.either item y) [
+        | inl before ↦ (item ∷ y ∷ ys, inserted_first item y ys ascend before)
+        | inr not_before ↦ elim not_before [
+          | inl same ↦ (y ∷ ys, inserted_same item y ys ascend same)
+          | inr after ↦ (
+              let rest = some_inserted item ys (AllPairs-tail R y ys ascend) in
+              (y ∷ rest.0, inserted_later item y ys rest.0 ascend after rest.1))
+        ]
+      ]
+
+  pub some_ordered : (old : List X) → (new : List X) × IsSetOf R old new
+  some_ordered [] = ([], record { ascend = AllPairs-nil R; kept = λ z h. h; only = λ z h. h; few = omega arith })
+  some_ordered (x ∷ xs) =
+      let rest = some_ordered xs in
+      let whole = some_inserted x rest.0 rest.1.ascend in (
+        whole.0,
+        record {
+          ascend = whole.1.ascend;
+          kept = λ z h. elim (Contains-cases x xs z h) [
+            | inl same ↦ Contains-same whole.0 x z same whole.1.here
+            | inr later ↦ whole.1.kept z (rest.1.kept z later)
+          ];
+          only = λ z h. elim (whole.1.only z h) [
+            | inl old ↦ Contains-tail x xs z (rest.1.only z old)
+            | inr same ↦ Contains-same (x ∷ xs) x z same (Contains-head x xs)
+          ];
+          few = omega (arith, whole.1.few, rest.1.few);
+        },
+      )
+
+-- ---- objects by their numbers, and items by a total order that tells them apart
+pub oids_ordered : IsOrder (λ (a b : Oid). a.0 < b.0)
+oids_ordered = record {
+  apart = λ a h. omega (arith, h);
+  trans = λ a b c h k. omega (arith, h, k);
+  either = λ a b. elim (cases_lt a.0 b.0) [
+    | inl low ↦ inl low
+    | inr up ↦ elim (cases_lt b.0 a.0) [
+      | inl high ↦ inr (inr high)
+      | inr level ↦ (let same : a.0 ≡ b.0 = omega (arith, up, level) in inr (inl (λ i. record { 0 = same i })))
+    ]
+  ];
+}
+
+not_less : (o : Ordering) → o ≡ ordering_reverse o → o ≡ Less → ⊥
+not_less Less mirrored h = cc
+not_less Equal mirrored h = cc
+not_less Greater mirrored h = cc
+
+pub total_ordered : {X : Type 0} (cmp : X → X → Ordering) → IsTotalOrder cmp → ((a b : X) → cmp a b ≡ Equal → a ≡ b) → IsOrder (λ a b. cmp a b ≡ Less)
+total_ordered {X} cmp total exact = record {
+  apart = λ a h. not_less (cmp a a) (total.antisymm a a) h;
+  trans = λ a b c h k. total.trans a b c h k;
+  either = λ a b. elim (cmp a b) as (λ o. cmp a b ≡ o → (cmp a b ≡ Less) ⊎ ((a ≡ b) ⊎ (cmp b a ≡ Less))) [
+    | Less ↦ λ is. inl is
+    | Equal ↦ λ is. inr (inl (exact a b is))
+    | Greater ↦ λ is. inr (inr (total.antisymm b a ∙ ap ordering_reverse is))
+  ] refl;
+}
+
+-- edges that compare equal are one
+edge_exact : (a b : Edge) → edge_cmp a b ≡ Equal → a ≡ b
+edge_exact a b level =
+    let parent : a.parent.0 ≡ b.parent.0 = grind (arith, nat_tests) in
+    let label : a.label.0 ≡ b.label.0 = grind (arith, nat_tests) in
+    let child : a.child.0 ≡ b.child.0 = grind (arith, nat_tests) in
+    λ i. record { parent = record { 0 = parent i }; label = record { 0 = label i }; child = record { 0 = child i } }
+
+pub edges_ordered : IsOrder (λ a b. edge_cmp a b ≡ Less)
+edges_ordered = total_ordered edge_cmp edge_cmp_total edge_exact

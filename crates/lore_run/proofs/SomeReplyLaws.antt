@@ -1,0 +1,255 @@
+-- From each database that a session can have, a sound statement has a reply, and leaves such a database.
+use Rattle.std.proofs.Common.{◌≡◌, ℕ, ◌+◌, ◌≤◌, ◌⊎◌, inl, inr, Bool, true, false, if◌then◌else◌, List, [], ◌∷◌, ◌++◌, length, Option, Some, None, is_some, Less, refl, sym, ap, subst, ◌∙◌, arith, length-append}
+use Rattle.std.specs.Prelude.{◌<◌, ◌^◌, nat_lt, option_map, is_none}
+use Rattle.std.specs.List.{All, AllZip, Contains}
+use Rattle.std.specs.List.Sorted.{IsStrictlySortedBy}
+use Rattle.std.specs.BTreeMap.{insert_entry}
+use Rattle.std.proofs.lemmas.Bool.{ltb-false}
+use Rattle.std.proofs.lemmas.List.Elements.{All-nil, All-head, All-tail, Contains-append_left, Contains-append_right, Contains-append_cases}
+use Rattle.lore_run.specs.Types.{Oid, Edge, Value, Changes, Refusal, Syntax, UnknownName, TooManyObjects, OBJECTS, LEAVES, Reply, Changed, Rows, Refused}
+use Rattle.lore_base.specs.Bytes.{bytes_cmp}
+use Rattle.lore_base.specs.Names.{IsName, object_of}
+use Rattle.lore_base.specs.Walks.{oid_of, edge_of, edge_cmp}
+use Rattle.lore_base.specs.Databases.{OemGraph, Database, IsOrdered, new_database}
+use Rattle.lore_base.specs.ChangeSets.{IsGraphThen}
+use Rattle.lorel_lex.specs.declared.token_types.Kind.{Kind}
+use Rattle.lorel_lex.specs.Tokens.{HasForm}
+use Rattle.lorel_ast.specs.Tokens.{HasTokens}
+use Rattle.lorel_ast.specs.Trees as t
+use Rattle.lorel_ast.specs.Trees.{LiteralTree, RootedTree, StatementTree}
+use Rattle.lorel_ast.specs.Formed.{IsFormedLiteral}
+use Rattle.lorel_ast.specs.Sound.{IsSound}
+use Rattle.lorel_ast.proofs.CanonStatementLaws.{keeps_forms}
+use Rattle.oem_graph.proofs.NameLaws.{IsNameTable-names_after}
+use Rattle.oem_graph.proofs.ObjectLaws.{ascend-made, numbered-made}
+use Rattle.lore_run.specs.Built.{Built, load, select, built, built_path, only_path, plain_labels, has_local}
+use Rattle.lore_run.specs.Made.{Arc, size, bodies, arcs, labels_of, first_uses, IsNumbered}
+use Rattle.lore_run.specs.Statements.{refusal_of, Loads, Performs, ExecutesBuilt, Executes}
+use Rattle.lore_run.specs.Sessions.{IsKept}
+use Rattle.lore_run.specs.SessionLaws.{SomeReply, ExecutesAlways}
+use Rattle.lore_run.proofs.MadeLaws.{length-bodies, bodies_numbered}
+use Rattle.lore_run.proofs.LabelLaws.{either, first_uses_distinct, first_uses_cover}
+use Rattle.lore_run.proofs.NumberLaws.{place_from_Contains}
+use Rattle.lore_run.proofs.LoadLaws.{after_loads}
+use Rattle.lore_run.proofs.KeptLaws.{kept_after}
+use Rattle.lore_run.proofs.SessionLaws.{length-along}
+use Rattle.lore_run.proofs.AscentLaws.{IsSetOf, some_ordered, edges_ordered}
+use Rattle.lore_run.proofs.SomeTargetLaws.{some_targets}
+
+-- ---- what a load makes
+numbered_edges : (labels : List (List ℕ)) (arcs : List Arc) → All (Contains labels) (labels_of arcs)
+    → (edges : List Edge) × AllZip (IsNumbered labels) arcs edges
+numbered_edges labels [] there = ([], tt)
+numbered_edges labels (arc ∷ arcs) there =
+    let place = place_from_Contains labels arc.label (All-head (Contains labels) arc.label (labels_of arcs) there) in
+    let rest = numbered_edges labels arcs (All-tail (Contains labels) arc.label (labels_of arcs) there) in
+    (edge_of arc.parent (record { 0 = place.0 }) arc.child ∷ rest.0, (record { parent = refl; label = place.1; child = refl }, rest.1))
+
+module _ (db : Database) (name : List ℕ) (literal : LiteralTree) (plain : has_local literal ≡ false) (edges all : List Edge) where
+  abbrev texts : List (List ℕ)
+  texts = db.labels ++ first_uses db.labels (labels_of (arcs db.graph.next literal))
+
+  abbrev changes : Changes
+  changes = record {
+    made = bodies db.graph.next literal;
+    values = [];
+    added = edges;
+    removed = [];
+    named = (name, oid_of db.graph.next) ∷ [];
+    unnamed = [];
+    labels = [];
+  }
+
+  abbrev graph : OemGraph
+  graph = record {
+    names = insert_entry bytes_cmp db.graph.names name (oid_of db.graph.next);
+    objects = db.graph.objects ++ bodies db.graph.next literal;
+    edges = all;
+    next = db.graph.next + size literal;
+  }
+
+  abbrev after : Database
+  after = record { labels = texts; graph = graph; nodes = db.nodes; mode = db.mode }
+
+  module _ (set : IsSetOf (λ a b. edge_cmp a b ≡ Less) (db.graph.edges ++ edges) all) where
+    graph_comes : IsGraphThen db.graph changes graph
+    graph_comes = record {
+      names = refl;
+      objects = refl;
+      edges_ascend = set.ascend;
+      edges = λ edge. (
+        λ h. Contains-append_cases db.graph.edges edges edge (set.only edge h),
+        λ h. set.kept edge (elim h [
+          | inl old ↦ Contains-append_left db.graph.edges edges edge old
+          | inr new ↦ Contains-append_right db.graph.edges edges edge new
+        ]),
+      );
+      next = ap (λ n. db.graph.next + n) (sym (length-bodies db.graph.next literal));
+    }
+
+    graph_ordered : IsOrdered db.graph → db.graph.next + size literal ≤ 2 ^ 32 → IsOrdered graph
+    graph_ordered ordered room =
+        let made = bodies db.graph.next literal in
+        let count = length-bodies db.graph.next literal in
+        let from_next = bodies_numbered db.graph.next literal in
+        record {
+          names_ascend = IsNameTable-names_after db.graph.names ((name, oid_of db.graph.next) ∷ []) ordered.names_ascend;
+          objects_ascend = ascend-made db.graph.objects made db.graph.next ordered.objects_ascend ordered.objects_numbered from_next;
+          objects_numbered = subst (λ n. All (λ (o : Oid × Value). (1 ≤ o.0.0) × (o.0.0 < db.graph.next + n)) (db.graph.objects ++ made)) count
+              (numbered-made db.graph.objects made db.graph.next ordered.next_numbered.0 ordered.objects_numbered from_next);
+          edges_ascend = set.ascend;
+          next_numbered = (omega (arith, ordered.next_numbered.0), omega (arith, room));
+        }
+
+    after_is_load : IsKept db → AllZip (IsNumbered texts) (arcs db.graph.next literal) edges → Loads db name literal after
+    after_is_load kept numbered =
+        let apart = first_uses_distinct db.labels (labels_of (arcs db.graph.next literal)) kept.valid.labels_distinct in
+        let loads = after_loads db.graph name literal plain texts changes refl refl numbered db.labels graph refl apart graph_comes in
+        record {
+          labels = refl;
+          names = refl;
+          objects = refl;
+          edges_ascend = set.ascend;
+          edges = loads.edges;
+          next = refl;
+          nodes = refl;
+          mode = refl;
+        }
+
+-- ---- a reply of a form that is built
+record SomeBuilt (before : Database) (form : Built) : Type 0 where
+  reply : Reply
+  after : Database
+  executed : ExecutesBuilt before form reply after
+  kept : IsKept after
+
+some_refused : (db : Database) (form : Built) (refusal : Refusal) → refusal_of db form ≡ Some refusal → IsKept db → SomeBuilt db form
+some_refused db form refusal e kept = record { reply = Refused refusal; after = db; executed = rw e (refl, refl); kept = kept }
+
+some_performed : (db : Database) (form : Built) (reply : Reply) (after : Database) → refusal_of db form ≡ None → Performs db form reply after → IsKept after
+    → SomeBuilt db form
+some_performed db form reply after e performed kept = record { reply = reply; after = after; executed = rw e performed; kept = kept }
+
+none_there : {X : Type 0} (o : Option X) → is_some o ≡ false → o ≡ None
+none_there None e = refl
+none_there (Some x) e = cc
+
+some_loaded : (db : Database) (name : List ℕ) (literal : LiteralTree) → IsKept db → IsName name → IsFormedLiteral literal → has_local literal ≡ false
+    → object_of db.graph.names name ≡ None → length db.graph.objects + size literal ≤ OBJECTS → refusal_of db (load name literal) ≡ None
+    → SomeBuilt db (load name literal)
+some_loaded db name literal kept word formed plain unbound few unrefused =
+    let list = arcs db.graph.next literal in
+    let edges = numbered_edges (db.labels ++ first_uses db.labels (labels_of list)) list (first_uses_cover db.labels (labels_of list)) in
+    let all = some_ordered (λ a b. edge_cmp a b ≡ Less) edges_ordered (db.graph.edges ++ edges.0) in
+    let loads = after_is_load db name literal plain edges.0 all.0 all.1 kept edges.1 in
+    let room : db.graph.next + size literal ≤ 2 ^ 32 = omega (arith, kept.dense, few) in
+    let ordered = graph_ordered db name literal plain edges.0 all.0 all.1 kept.valid.well_formed.ordered room in
+    let count : length all.0 ≤ length db.graph.edges + length list =
+    omega (arith, all.1.few, length-append db.graph.edges edges.0, length-along (IsNumbered (db.labels ++ first_uses db.labels (labels_of list))) list edges.0 edges.1) in
+    let later = after db name literal plain edges.0 all.0 in
+    some_performed db (load name literal) (Changed (length later.graph.objects) (length later.graph.edges)) later unrefused (loads, refl)
+    (kept_after db name literal plain later loads kept unbound word formed few ordered count)
+
+some_load : (db : Database) (name : List ℕ) (literal : LiteralTree) → IsKept db → IsName name → IsFormedLiteral literal → has_local literal ≡ false
+    → SomeBuilt db (load name literal)
+some_load db name literal kept word formed plain =
+    let large = nat_lt OBJECTS (length db.graph.objects + size literal) in
+    let behind : Bool → Option Refusal = λ b. if b then Some TooManyObjects else None in
+    let whole : Bool → Option Refusal = λ b. if b then Some Syntax else behind large in
+    elim (either (is_some (object_of db.graph.names name))) [
+      | inl bound ↦ some_refused db (load name literal) Syntax (ap whole bound) kept
+      | inr unbound ↦ elim (either large) [
+        | inl passed ↦ some_refused db (load name literal) TooManyObjects (ap whole unbound ∙ ap behind passed) kept
+        | inr kept_limit ↦ some_loaded db name literal kept word formed plain (none_there (object_of db.graph.names name) unbound)
+            (ltb-false OBJECTS (length db.graph.objects + size literal) kept_limit) (ap whole unbound ∙ ap behind kept_limit)
+      ]
+    ]
+
+some_select : (db : Database) (start : List ℕ) (labels : List (List ℕ)) → IsKept db → SomeBuilt db (select start labels)
+some_select db start labels kept =
+    let refused : Option Oid → Option Refusal = λ o. if is_none o then Some UnknownName else None in
+    elim (object_of db.graph.names start) as (λ o. object_of db.graph.names start ≡ o → SomeBuilt db (select start labels)) [
+      | None ↦ λ e. some_refused db (select start labels) UnknownName (ap refused e) kept
+      | Some oid ↦ λ e. (
+          let found = some_targets db.labels db.graph.edges oid labels in
+          some_performed db (select start labels) (Rows found.0) db (ap refused e)
+          (refl, (found.0, refl, record { start = oid; named = e; found = found.1 })) kept)
+    ] refl
+
+-- ---- a reply of a statement
+unbuilt : (db : Database) (statement : StatementTree) → built statement ≡ None → IsKept db → SomeReply db statement
+unbuilt db statement e kept = record { reply = Refused Syntax; after = db; executed = rw e (refl, refl); kept = kept }
+
+from_built : (db : Database) (statement : StatementTree) (form : Built) → built statement ≡ Some form → SomeBuilt db form → SomeReply db statement
+from_built db statement form e some = record { reply = some.reply; after = some.after; executed = rw e some.executed; kept = some.kept }
+
+-- a path is no form that is built, or a select
+path_built : (path : Option RootedTree) → (built_path path ≡ None) ⊎ ((start : List ℕ) × (labels : List (List ℕ)) × (built_path path ≡ Some (select start labels)))
+path_built None = inl refl
+path_built (Some path) =
+    let made : Option (List (List ℕ)) → Option Built = λ o. option_map (λ labels. select path.start labels) o in
+    let whole : Bool → Option Built = λ b. if b then None else made (plain_labels path.parts) in
+    elim (either (nat_lt LEAVES (length path.parts))) [
+      | inl many ↦ inl (ap whole many)
+      | inr few ↦ elim (plain_labels path.parts) as (λ o. plain_labels path.parts ≡ o
+          → (built_path (Some path) ≡ None) ⊎ ((start : List ℕ) × (labels : List (List ℕ)) × (built_path (Some path) ≡ Some (select start labels)))) [
+            | None ↦ λ e. inl (ap whole few ∙ ap made e)
+            | Some labels ↦ λ e. inr (path.start, labels, ap whole few ∙ ap made e)
+          ] refl
+    ]
+
+pub executes_always : ExecutesAlways
+executes_always db (t.load name literal) kept sound =
+    let formed = keeps_forms.statement (t.load name literal) sound in
+    let whole : Bool → Option Built = λ b. if b then None else Some (load name literal) in
+    elim (either (has_local literal)) [
+      | inl marked ↦ unbuilt db (t.load name literal) (ap whole marked) kept
+      | inr plain ↦ from_built db (t.load name literal) (load name literal) (ap whole plain)
+          (some_load db name literal kept formed.0 formed.1 plain)
+    ]
+executes_always db (t.select query) kept sound =
+    elim (path_built (only_path query.items query.tail.ranges query.tail.cond)) [
+      | inl other ↦ unbuilt db (t.select query) other kept
+      | inr plain ↦ from_built db (t.select query) (select plain.0 plain.1) plain.2 (some_select db plain.0 plain.1 kept)
+    ]
+executes_always db statement kept sound = unbuilt db statement refl kept
+
+pub some_execution : (before : Database) (statement : StatementTree) → IsKept before → IsSound statement
+    → (reply : Reply) × (after : Database) × Executes before statement reply after × IsKept after
+some_execution before statement kept sound =
+    let some = executes_always before statement kept sound in
+    (some.reply, some.after, some.executed, some.kept)
+
+-- a statement is sound by any tokens of it that have their form
+pub formed_sound : (statement : StatementTree) (kinds : List Kind) → HasTokens statement kinds → All HasForm kinds → IsSound statement
+formed_sound statement kinds has formed = record { kinds = kinds; spelled = has; formed = formed }
+
+pub begins_kept : IsKept new_database
+unfolding IsStrictlySortedBy
+begins_kept = record {
+  valid = record {
+    labels_distinct = λ i j d low within. absurd (omega (arith, within));
+    labels_formed = λ k d low. absurd (omega (arith, low));
+    well_formed = record {
+      ordered = record {
+        names_ascend = tt;
+        objects_ascend = λ i j d low within. absurd (omega (arith, within));
+        objects_numbered = λ k d low. absurd (omega (arith, low));
+        edges_ascend = λ i j d low within. absurd (omega (arith, within));
+        next_numbered = (omega arith, omega arith);
+      };
+      names_formed = λ k d low. absurd (omega (arith, low));
+      names_live = λ k d low. absurd (omega (arith, low));
+      objects_sized = λ k d low. absurd (omega (arith, low));
+      edges_linked = λ k d low. absurd (omega (arith, low));
+    };
+    labelled = λ k d low. absurd (omega (arith, low));
+    reached = λ k d low. absurd (omega (arith, low));
+    few_objects = omega arith;
+    few_edges = omega arith;
+    nodes_limited = (omega arith, omega arith);
+  };
+  dense = refl;
+  few_labels = omega arith;
+  few_edges = omega arith;
+}

@@ -1,0 +1,83 @@
+-- From each database that a session can have, each list of parts has a run.
+use Rattle.std.proofs.Common.{◌≡◌, ℕ, ◌+◌, ◌⊎◌, inl, inr, List, [], ◌∷◌, ◌++◌, map, Some, Result, Ok, Err, refl}
+use Rattle.std.specs.Prelude.{All}
+use Rattle.std.proofs.lemmas.List.Elements.{All-map}
+use Rattle.lore_base.specs.Databases.{Database}
+use Rattle.lorel_lex.specs.declared.token_types.Kind.{Kind}
+use Rattle.lorel_lex.specs.declared.token_types.Token.{Token}
+use Rattle.lorel_lex.specs.declared.token_types.LexFault.{LexFault}
+use Rattle.lorel_lex.specs.declared.token_types.LexFault.TheVariants as lex
+use Rattle.lorel_lex.specs.Tokens.{AreTokens, HasFault, IsFaultBehind, IsOutcome, HasForm}
+use Rattle.lorel_lex.proofs.OutcomeLaws.{some_outcome}
+use Rattle.lorel_lex.proofs.TokenLaws.{formed}
+use Rattle.lorel_lex.specs.Faults.{refusal_of}
+use Rattle.lore_run.specs.Types.{Refusal, BadToken, RealRefused, NumberRange, TextTooLong, Syntax, Unfinished, Reply, Refused}
+use Rattle.lorel_ast.specs.Trees.{StatementTree}
+use Rattle.lorel_ast.specs.Sound.{IsSound}
+use Rattle.lorel_ast.specs.Tokens.{HasTokens}
+use Rattle.lore_run.specs.Sessions.{IsKept}
+use Rattle.lore_run.specs.Statements.{Executes}
+use Rattle.lore_run.specs.Replies.{rendered}
+use Rattle.lore_run.specs.Runs.{ScriptPart, chunk, rest, Yields, refusals, HasSomeRun}
+
+abbrev pub SomeExecution : Type 0
+SomeExecution = (before : Database) (statement : StatementTree) → IsKept before → IsSound statement
+    → (reply : Reply) × (after : Database) × Executes before statement reply after × IsKept after
+
+abbrev pub SomeStatement : Type 0
+SomeStatement = (kinds : List Kind) → ((statement : StatementTree) × HasTokens statement kinds) ⊎ ((statement : StatementTree) → HasTokens statement kinds → ⊥)
+
+abbrev pub FormedSound : Type 0
+FormedSound = (statement : StatementTree) (kinds : List Kind) → HasTokens statement kinds → All HasForm kinds → IsSound statement
+
+-- want of memory is no fault of a text
+not_memory : (at : ℕ) (bytes : List ℕ) (tokens : List Token) → IsFaultBehind at bytes tokens lex.NoMemory → ⊥
+not_memory at bytes [] (gap, place, stands, inl none) = cc (none.0)
+not_memory at bytes [] (gap, place, stands, inr breaks) = breaks.broken tt
+not_memory at bytes (token ∷ tokens) (left, next, behind) = not_memory token.end left tokens behind
+
+-- each fault of a text has its refusal
+some_refusal : (text : List ℕ) (fault : LexFault) → HasFault text fault → (refusal : Refusal) × (refusal_of fault ≡ Some refusal)
+some_refusal text lex.BadToken has = (BadToken, refl)
+some_refusal text lex.RealRefused has = (RealRefused, refl)
+some_refusal text lex.NumberRange has = (NumberRange, refl)
+some_refusal text lex.TextTooLong has = (TextTooLong, refl)
+some_refusal text lex.NoMemory (inl bad) = absurd (cc (bad.0))
+some_refusal text lex.NoMemory (inr (utf8, tokens, behind)) = absurd (not_memory 0 text tokens behind)
+
+abbrev pub HasYield : Database → ScriptPart → Type 0
+HasYield before part = (reply : Reply) × (after : Database) × Yields before part reply after × IsKept after
+
+yield_statement : FormedSound → SomeExecution → (before : Database) (text : List ℕ) (tokens : List Token) → IsKept before → AreTokens text tokens
+    → ((statement : StatementTree) × HasTokens statement (map (λ token. token.kind) tokens)) ⊎ ((statement : StatementTree) → HasTokens statement (map (λ token. token.kind) tokens) → ⊥)
+    → HasYield before (chunk text)
+yield_statement sound executions before text tokens kept lexed (inl (statement, parsed)) =
+    let forms = All-map HasForm (λ (token : Token). token.kind) tokens (formed text tokens lexed) in
+    let (reply, after, executed, kept_after) = executions before statement kept (sound statement (map (λ token. token.kind) tokens) parsed forms) in
+    (reply, after, inr (inr (record { tokens = tokens; lexed = lexed; statement = statement; parsed = parsed; executed = executed })), kept_after)
+yield_statement sound executions before text tokens kept lexed (inr none) =
+    (Refused Syntax, before, inr (inl (record { tokens = tokens; lexed = lexed; none = none; refused = refl; same = refl })), kept)
+
+yield_outcome : SomeStatement → FormedSound → SomeExecution → (before : Database) (text : List ℕ) (outcome : Result (List Token) LexFault) → IsKept before → IsOutcome text outcome
+    → HasYield before (chunk text)
+yield_outcome statements sound executions before text (Ok tokens) kept lexed =
+    yield_statement sound executions before text tokens kept lexed (statements (map (λ token. token.kind) tokens))
+yield_outcome statements sound executions before text (Err fault) kept broken =
+    let (refusal, named) = some_refusal text fault broken in
+    (Refused refusal, before, inl (record { fault = fault; broken = broken; refusal = refusal; named = named; refused = refl; same = refl }), kept)
+
+some_yield : SomeStatement → FormedSound → SomeExecution → (before : Database) (part : ScriptPart) → IsKept before → HasYield before part
+some_yield statements sound executions before (chunk text) kept =
+    let (outcome, is) = some_outcome text in yield_outcome statements sound executions before text outcome kept is
+some_yield statements sound executions before rest kept = (Refused Unfinished, before, (refl, refl), kept)
+
+pub some_run : SomeStatement → FormedSound → SomeExecution → HasSomeRun
+some_run statements sound executions before [] kept = ([], 0, before, (refl, refl, refl))
+some_run statements sound executions before (part ∷ parts) kept =
+    let (reply, middle, yielded, kept_middle) = some_yield statements sound executions before part kept in
+    let (bytes, refused, after, ran) = some_run statements sound executions middle parts kept_middle in (
+      rendered middle.graph.objects reply ++ bytes,
+      refusals reply + refused,
+      after,
+      (reply, middle, bytes, refused, yielded, ran, refl, refl),
+    )

@@ -1,0 +1,18 @@
+use Rattle.std.proofs.Common.{◌≡◌, false, ◌-◌, ◌≤◌, length, take}
+use Rattle.lore_run.specs.inside.Turns.{standing, IsRest, Advances}
+use Rattle.lore_run.proofs.pieces.run_piece.Given as goal
+
+abbrev pub decreases-chunks : goal.decreases-chunks
+decreases-chunks g l = length l.piece - l.at
+
+abbrev pub invariant-chunks : goal.invariant-chunks
+invariant-chunks g l = record {
+  within : l.at ≤ length l.piece;
+  whole : l.reader.whole ≡ false;
+  failed : l.reader.failed ≡ false;
+  rest : IsRest l.reader.held;
+  advanced : Advances (standing l.fn.reader.held l.fn.tally (g.K.Sink.written l.fn.sink) l.fn.session) (take l.at l.piece)
+      (standing l.reader.held l.tally (g.K.Sink.written l.sink) l.session);
+  fewer : l.tally.refused ≤ l.tally.done;
+  faults : g.K.Sink.faults l.sink ≡ g.K.Sink.faults l.fn.sink;
+}

@@ -1,0 +1,30 @@
+use Rattle.std.proofs.Common.{◌≡◌, ℕ, ◌+◌, List, [], ◌++◌, length, take, drop, sym, ap, ◌∙◌, arith, length-drop}
+use Rattle.std.proofs.lemmas.List.{append-nil, take-append-drop, take_rest}
+use Rattle.std.proofs.Math.Seq.{take-add}
+use Rattle.lore_run.proofs.DeliveryLaws.{Breaks-early, Breaks-late, Breaks-same, Puts-broken, Takes-held, Takes-same, Takes-then}
+use Rattle.lore_run.proofs.reply_writer.ReplyWriterOut.put.Goals as goal
+
+pub returns-in_err-make_room : goal.returns-in_err-make_room
+returns-in_err-make_room g c =
+    let piece = c.args.piece.now in
+    let done = c.parts.done in
+    let parts = ap (λ (l : List ℕ). l ++ drop done piece) (append-nil (take done piece)) ∙ take-append-drop done piece in
+    Puts-broken c.from_residual.result c.from_residual.ensures.0
+    (Breaks-same parts (Breaks-early (drop done piece) (Breaks-late c.parts.invariant.taken c.in_err-make_room.ensures.handed)))
+
+pub parts-preserved : goal.parts-preserved
+parts-preserved g c =
+    let piece = c.args.piece.now in
+    let done = c.parts.done in
+    let count = c.fill-done.result in
+    let more = take count (drop done piece) in
+    let before = c.make_room.new.self.buffer in
+    let held : c.fill-done.new.self ≡ before ++ more =
+    c.fill-done.ensures.held ∙ ap (λ (l : List ℕ). before ++ take count l) (take_rest piece done) in
+    let parts : (take done piece ++ []) ++ more ≡ take (done + count) piece =
+    ap (λ (l : List ℕ). l ++ more) (append-nil (take done piece)) ∙ sym (take-add done count piece) in
+    let taken = Takes-then c.parts.invariant.taken c.in_ok-make_room.ensures.handed in
+    record {
+      within = omega (arith, c.fill-done.ensures.within, length-drop done piece, ap length (take_rest piece done));
+      taken = rw held (Takes-same parts (Takes-then taken (Takes-held _ before more _ _)));
+    }

@@ -1,0 +1,94 @@
+use Rattle.std.proofs.Common.{◌≡◌, ℕ, ◌+◌, ◌≤◌, List, [], ◌∷◌, length, take, refl, sym, ◌∙◌, ap, subst, arith, length-take}
+use Rattle.std.specs.Io.KnownBytes.{Consumes}
+use Rattle.lore_base.specs.declared.limits.TheConstants.{SCRIPT_BYTES}
+use Rattle.lorel_lex.specs.Progress.{Progress}
+use Rattle.lore_run.specs.declared.pieces.TheConstants.{PIECE_BYTES}
+use Rattle.lore_run.specs.Endings.{outside}
+use Rattle.lore_run.specs.inside.Turns.{standing, RunsSoFar}
+use Rattle.lore_run.proofs.RunLaws.{few_done, so_far_start, so_far_more}
+use Rattle.lore_run.proofs.EndLaws.{ends_finished, ends_read_fault, ends_stopped, ends_too_long}
+use Rattle.lore_run.proofs.run.run_pieces.Goals as goal
+
+no_bytes : (n : ℕ) (xs : List ℕ) → n ≡ 0 → take n xs ≡ []
+no_bytes n [] e = grind arith
+no_bytes n (x ∷ xs) e = rw e refl
+
+pub pieces-init : goal.pieces-init
+pieces-init g c = record {
+  whole = ap (λ (p : Progress). p.whole) c.new-reader.ensures;
+  failed = ap (λ (p : Progress). p.failed) c.new-reader.ensures;
+  so_far = rw (c.new-reader.ensures, c.new-tally.ensures, c.requires.new) (so_far_start _ _);
+  fewer = rw c.new-tally.ensures (omega arith);
+  source_faults = refl;
+  sink_faults = refl;
+}
+
+pub end_script-status-requires-clause-room : goal.end_script-status-requires-clause-room
+end_script-status-requires-clause-room g c =
+    let so_far = c.pieces.invariant.so_far in
+    let few = few_done so_far.advanced in
+    (omega (arith, few, so_far.counted, so_far.within), omega (arith, few, so_far.counted, so_far.within, c.pieces.invariant.fewer))
+
+pub returns-in-Ok-eq0-clause-ends : goal.returns-in-Ok-eq0-clause-ends
+returns-in-Ok-eq0-clause-ends g c =
+    let zero : c.in-Ok-eq0.field-0 ≡ 0 = omega arith in
+    let L = g.S.Source.left c.pieces.source in
+    let M = g.S.Source.left c.read_piece.new.source in
+    let none : Consumes L M [] = subst (λ (l : List ℕ). Consumes L M l) (no_bytes c.in-Ok-eq0.field-0 c.read_piece.new.piece zero) c.in-Ok-eq0.ensures.bytes in
+    rw c.outcome.ensures (ends_finished c.end_script-status.result _ c.pieces.taken (g.S.Source.left c.pieces.source) (g.S.Source.left c.read_piece.new.source)
+    (standing c.pieces.reader.held c.pieces.tally (g.K.Sink.written c.pieces.sink) c.pieces.session)
+    (standing c.pieces.reader.held c.end_script-status.new.tally (g.K.Sink.written c.end_script-status.new.sink) c.pieces.session)
+    c.pieces.invariant.so_far none (c.in-Ok-eq0.ensures.end zero) c.end_script-status.ensures.finished)
+
+pub returns-in-Err-clause-ends : goal.returns-in-Err-clause-ends
+returns-in-Err-clause-ends g c =
+    rw c.outcome-in-Err.ensures (ends_read_fault _ c.pieces.taken (g.S.Source.left c.pieces.source) (g.S.Source.left c.read_piece.new.source)
+    (standing c.pieces.reader.held c.pieces.tally (g.K.Sink.written c.pieces.sink) c.pieces.session)
+    c.pieces.invariant.so_far c.in-Err.ensures.kept)
+
+pub returns-then-taken-eq-SCRIPT_BYTES-clause-ends : goal.returns-then-taken-eq-SCRIPT_BYTES-clause-ends
+returns-then-taken-eq-SCRIPT_BYTES-clause-ends g c =
+    let piece = take c.in-Ok.count c.read_piece.new.piece in
+    let full : c.pieces.taken ≡ SCRIPT_BYTES = c.if-taken-eq-SCRIPT_BYTES.true in
+    let one : length piece ≡ 1 = omega (arith, length-take c.in-Ok.count c.read_piece.new.piece, c.in-Ok.ensures.bound, c.in-Ok.ensures.one full, c.requires.room) in
+    rw c.outcome-then-taken-eq-SCRIPT_BYTES.ensures (ends_too_long _ c.pieces.taken (g.S.Source.left c.pieces.source) (g.S.Source.left c.read_piece.new.source)
+    (standing c.pieces.reader.held c.pieces.tally (g.K.Sink.written c.pieces.sink) c.pieces.session)
+    piece c.pieces.invariant.so_far full c.in-Ok.ensures.bytes one)
+
+pub run_piece-requires-clause-room : goal.run_piece-requires-clause-room
+run_piece-requires-clause-room g c =
+    let so_far = c.pieces.invariant.so_far in
+    omega (arith, few_done so_far.advanced, so_far.counted, so_far.within, so_far.rest.sized, length-take c.in-Ok.count c.read_piece.new.piece, c.in-Ok.ensures.bound)
+
+pub pieces-preserved : goal.pieces-preserved
+pieces-preserved g c =
+    let piece = take c.in-Ok.count c.read_piece.new.piece in
+    let so_far = c.pieces.invariant.so_far in
+    let ran = c.in-Ok-run_piece.ensures in
+    let len : length piece ≡ c.in-Ok.count = omega (arith, length-take c.in-Ok.count c.read_piece.new.piece, c.in-Ok.ensures.bound, c.requires.room) in
+    let few : c.pieces.taken + length piece ≤ SCRIPT_BYTES =
+    omega (arith, length-take c.in-Ok.count c.read_piece.new.piece, so_far.within, c.in-Ok.ensures.within, c.if-taken-eq-SCRIPT_BYTES.false) in
+    let now = standing c.pieces.reader.held c.pieces.tally (g.K.Sink.written c.pieces.sink) c.pieces.session in
+    let next = standing c.run_piece.new.reader.held c.run_piece.new.tally (g.K.Sink.written c.run_piece.new.sink) c.run_piece.new.session in
+    let before = outside (g.S.Source.left c.args.source.now) (g.K.Sink.written c.args.sink.now) in
+    record {
+      whole = ran.unfailed.0;
+      failed = ran.unfailed.1;
+      so_far = subst (λ (n : ℕ). RunsSoFar before (c.pieces.taken + n) (g.S.Source.left c.read_piece.new.source) next) len
+          (so_far_more before c.pieces.taken (g.S.Source.left c.pieces.source) (g.S.Source.left c.read_piece.new.source) now next piece so_far c.in-Ok.ensures.bytes few ran.rest ran.ok);
+      fewer = ran.fewer;
+      source_faults = c.in-Ok.ensures.cause.ok ∙ c.pieces.invariant.source_faults;
+      sink_faults = ran.faultless ∙ c.pieces.invariant.sink_faults;
+    }
+
+pub returns-in-Err-run_piece-clause-ends : goal.returns-in-Err-run_piece-clause-ends
+returns-in-Err-run_piece-clause-ends g c =
+    let piece = take c.in-Ok.count c.read_piece.new.piece in
+    let so_far = c.pieces.invariant.so_far in
+    let few : c.pieces.taken + length piece ≤ SCRIPT_BYTES =
+    omega (arith, length-take c.in-Ok.count c.read_piece.new.piece, so_far.within, c.in-Ok.ensures.within, c.if-taken-eq-SCRIPT_BYTES.false) in
+    let at_hand : length piece ≤ PIECE_BYTES = omega (arith, length-take c.in-Ok.count c.read_piece.new.piece, c.in-Ok.ensures.bound) in
+    rw c.outcome-in-Err-run_piece.ensures (ends_stopped c.in-Err-run_piece.status _ c.pieces.taken (g.S.Source.left c.pieces.source) (g.S.Source.left c.read_piece.new.source)
+    (standing c.pieces.reader.held c.pieces.tally (g.K.Sink.written c.pieces.sink) c.pieces.session)
+    (standing c.run_piece.new.reader.held c.run_piece.new.tally (g.K.Sink.written c.run_piece.new.sink) c.run_piece.new.session)
+    piece so_far c.in-Ok.ensures.bytes few at_hand c.in-Err-run_piece.ensures.stopped)

@@ -1,0 +1,31 @@
+-- Laws that make the meaning of one statement whole: its reply and the database after it are determined, and they exist
+-- from each database that a session can have.
+use Rattle.std.specs.Prelude.{◌≡◌}
+use Rattle.lore_base.specs.Databases.{Database, new_database}
+use Rattle.lorel_ast.specs.Trees.{StatementTree}
+use Rattle.lorel_ast.specs.Sound.{IsSound}
+use Rattle.lore_run.specs.Types.{Reply}
+use Rattle.lore_run.specs.Sessions.{IsKept}
+use Rattle.lore_run.specs.Statements.{Executes}
+
+-- a statement has one reply, and leaves one database
+abbrev pub ExecutesOnce : Type 0
+ExecutesOnce = (before : Database) (statement : StatementTree) (reply other : Reply) (after later : Database)
+    → Executes before statement reply after → Executes before statement other later
+    → (reply ≡ other) × (after ≡ later)
+
+-- what a statement answers and leaves, where the database stays one that a session can have
+pub record SomeReply (before : Database) (statement : StatementTree) : Type 0 where
+  pub reply : Reply
+  pub after : Database
+  pub executed : Executes before statement reply after
+  pub kept : IsKept after
+
+-- each sound statement has a reply
+abbrev pub ExecutesAlways : Type 0
+ExecutesAlways =
+    (before : Database) (statement : StatementTree) → IsKept before → IsSound statement → SomeReply before statement
+
+-- the new database is one that a session can have
+abbrev pub BeginsKept : Type 0
+BeginsKept = IsKept new_database

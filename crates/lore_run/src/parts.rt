@@ -1,0 +1,121 @@
+ghost use Rattle.std.specs.Prelude.{◌≡◌, ◌+◌, ◌<◌, ◌≤◌, ◌^◌, [], length, IfOk, IfErr, OnOk, OnErr};
+ghost use Rattle.std.specs.Io.KnownBytes.{Appends};
+ghost use Rattle.lore_base.specs.Causes.{HasCause};
+ghost use Rattle.lore_base.specs.declared.limits.TheConstants.{CHUNK_BYTES};
+ghost use Rattle.lore_run.specs.Runs.{chunk, rest, Yields, refusals};
+ghost use Rattle.lore_run.specs.Endings.{IsCausedBySink};
+ghost use Rattle.lore_run.specs.Replies.{rendered};
+ghost use Rattle.lore_run.specs.inside.Deliveries.{AppendsProperFront};
+ghost use Rattle.lore_run.specs.inside.Turns.{standing, IsRefusalOf, Replied, RepliedInPart};
+ghost use Rattle.lore_run.specs.inside.Turns.{StopsReplying};
+
+use crate::rendering::write_reply;
+use crate::replies::Reply;
+use crate::sessions::Session;
+use crate::status::Status;
+use crate::tally::Tally;
+use lore_base::{Fault, NoMemory, Refusal, Sink, Steps};
+use lorel_lex::tokens;
+use lorel_parse::{ParseFault, parse};
+use std::alloc::Global;
+use std::sync::ledger::Ledger;
+
+/// Executes a chunk and writes its reply.
+pub(crate) fn run_chunk<K: Sink, L: Ledger>(
+    alloc: Global,
+    text: &[u8],
+    session: &mut Session,
+    sink: &mut K,
+    tally: &mut Tally,
+    steps: &mut Steps<L>,
+) -> Result<(), Status>
+    requires sized { length text.now ≤ CHUNK_BYTES }
+    requires room { (tally.old.done + 1 < 2 ^ 64) × (tally.old.refused + 1 < 2 ^ 64) }
+    ensures ok { OnOk result (Replied (standing [] tally.old (K.written sink.old) session.old)
+        (chunk text.now) (standing [] tally.new (K.written sink.new) session.new)) }
+    ensures stopped { IfErr result (λ status. StopsReplying status
+        (standing [] tally.old (K.written sink.old) session.old)
+        (chunk text.now) (standing [] tally.new (K.written sink.new) session.new)) }
+    ensures faultless { OnOk result (K.faults sink.new ≡ K.faults sink.old) }
+    ensures cause { IfErr result
+        (λ status. IsCausedBySink status (K.faults sink.old) (K.faults sink.new)) }
+{
+    let Ok(reply) = answer(alloc, text, session, steps) else {
+        return Err(Status::NoMemory);
+    };
+    respond(&reply, session, sink, tally)
+}
+
+/// Refuses what stands behind the last chunk.
+pub(crate) fn run_rest<K: Sink>(
+    session: &Session,
+    sink: &mut K,
+    tally: &mut Tally,
+) -> Result<(), Status>
+    requires room { (tally.old.done + 1 < 2 ^ 64) × (tally.old.refused + 1 < 2 ^ 64) }
+    ensures ok { OnOk result (Replied (standing [] tally.old (K.written sink.old) session.now)
+        rest (standing [] tally.new (K.written sink.new) session.now)) }
+    ensures err { OnErr result (RepliedInPart
+        (standing [] tally.old (K.written sink.old) session.now)
+        rest (standing [] tally.new (K.written sink.new) session.now)) }
+    ensures only { IfErr result (λ status. status ≡ Status.WriteFault) }
+    ensures cause { HasCause (K.faults sink.old) (K.faults sink.new) result }
+{
+    respond(&Reply::Refused(Refusal::Unfinished), session, sink, tally)
+}
+
+// Executes a chunk and gives its reply.
+fn answer<L: Ledger>(
+    alloc: Global,
+    text: &[u8],
+    session: &mut Session,
+    steps: &mut Steps<L>,
+) -> Result<Reply, NoMemory>
+    requires { length text.now ≤ CHUNK_BYTES }
+    ensures ok { IfOk result (λ reply. Yields session.old (chunk text.now) reply session.new) }
+    ensures err { OnErr result (session.new ≡ session.old) }
+{
+    let tokens = match tokens(alloc, text) {
+        Ok(tokens) => tokens,
+        Err(fault) => return refused(&fault),
+    };
+    match parse(alloc, &tokens) {
+        Ok(statement) => session.execute(alloc, &statement, steps),
+        Err(ParseFault::Syntax) => Ok(Reply::Refused(Refusal::Syntax)),
+        Err(ParseFault::NoMemory) => Err(NoMemory),
+    }
+}
+
+// The reply to a fault, unless it is want of memory.
+fn refused<F: Fault>(fault: &F) -> Result<Reply, NoMemory>
+    ensures { IfOk result (λ reply. IsRefusalOf (F.refusal_of fault.now) reply) }
+{
+    match fault.refusal() {
+        Some(refusal) => Ok(Reply::Refused(refusal)),
+        None => Err(NoMemory),
+    }
+}
+
+// Counts a part that was executed and writes its reply.
+fn respond<K: Sink>(
+    reply: &Reply,
+    session: &Session,
+    sink: &mut K,
+    tally: &mut Tally,
+) -> Result<(), Status>
+    requires room { (tally.old.done + 1 < 2 ^ 64) × (tally.old.refused + 1 < 2 ^ 64) }
+    ensures done { tally.new.done ≡ tally.old.done + 1 }
+    ensures refused { tally.new.refused ≡ tally.old.refused + refusals reply.now }
+    ensures ok { OnOk result (Appends (K.written sink.old) (K.written sink.new)
+        (rendered session.now.graph.objects reply.now)) }
+    ensures err { OnErr result (AppendsProperFront (K.written sink.old) (K.written sink.new)
+        (rendered session.now.graph.objects reply.now)) }
+    ensures only { IfErr result (λ status. status ≡ Status.WriteFault) }
+    ensures cause { HasCause (K.faults sink.old) (K.faults sink.new) result }
+{
+    tally.count(reply);
+    match write_reply(reply, session.graph(), sink) {
+        Ok(()) => Ok(()),
+        Err(_failed) => Err(Status::WriteFault),
+    }
+}

@@ -1,5 +1,0 @@
-use Rattle.lorel_lex.proofs.TokenLaws.{one_outcome}
-use Rattle.lorel_lex.proofs.lexer.one_outcome.Goals as goal
-
-pub returns : goal.returns
-returns c = one_outcome

@@ -1,5 +1,0 @@
-use Rattle.lorel_lex.proofs.OutcomeLaws.{some_outcome}
-use Rattle.lorel_lex.proofs.lexer.some_outcome.Goals as goal
-
-pub returns : goal.returns
-returns c = some_outcome

@@ -1,0 +1,5 @@
+pub mod Reader
+pub mod Scanning
+pub mod Skipping
+pub mod Lexing
+pub mod Counting

@@ -1,0 +1,8 @@
+use Rattle.std.proofs.Common.{◌≡◌, ◌-◌, [], codes}
+use Rattle.lorel_parse.specs.inside.Outcomes.{sees_word}
+use Rattle.lorel_parse.specs.inside.Repetitions.{each_in}
+use Rattle.lorel_parse.specs.inside.Statements as spec
+use Rattle.lorel_parse.proofs.dump_texts.dump_edges.Given as goal
+
+abbrev pub invariant-turns : goal.invariant-turns
+invariant-turns l = spec.dump_edges [] l.fn.tokens ≡ each_in (sees_word (codes "edge")) spec.dump_edge (l._turn-end - l._turn) l.edges l.tokens

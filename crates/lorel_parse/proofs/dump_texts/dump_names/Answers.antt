@@ -1,0 +1,19 @@
+use Rattle.std.proofs.Common.{codes, rules, arith}
+use Rattle.std.proofs.lemmas.Grind.{common_steps}
+use Rattle.lorel_parse.specs.inside.Outcomes.{sees_word}
+use Rattle.lorel_parse.specs.inside.Repetitions.{each_in}
+use Rattle.lorel_parse.specs.inside.Statements as spec
+use Rattle.lorel_parse.proofs.TurnLaws.{one_more}
+use Rattle.lorel_parse.proofs.dump_texts.dump_names.Goals as goal
+
+pub returns-then-not-eat_word : goal.returns-then-not-eat_word
+unfolding each_in
+returns-then-not-eat_word c =
+    let turn = one_more (λ n. each_in (sees_word (codes "name")) spec.dump_name n c.turns.names c.turns.tokens) _ c.turns._turn c.turns-test.true c.turns.invariant in
+    first_of (search rules, grind (arith, common_steps))
+
+pub turns-preserved : goal.turns-preserved
+unfolding each_in
+turns-preserved c =
+    let turn = one_more (λ n. each_in (sees_word (codes "name")) spec.dump_name n c.turns.names c.turns.tokens) _ c.turns._turn c.turns-test.true c.turns.invariant in
+    first_of (search rules, grind (arith, common_steps))

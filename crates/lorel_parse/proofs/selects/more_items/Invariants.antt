@@ -1,0 +1,12 @@
+use Rattle.std.proofs.Common.{◌≡◌, ◌-◌, map}
+use Rattle.lorel_lex.specs.declared.token_types.Sign.TheVariants as s
+use Rattle.lorel_ast.specs.Trees.{item_tree}
+use Rattle.lorel_parse.specs.inside.Outcomes.{sees}
+use Rattle.lorel_parse.specs.inside.Repetitions.{each, each_in}
+use Rattle.lorel_parse.specs.inside.Selects as spec
+use Rattle.lorel_parse.proofs.selects.more_items.Given as goal
+
+abbrev pub invariant-turns : goal.invariant-turns
+invariant-turns l =
+    each (sees s.Comma) spec.item (map item_tree l.fn.found) l.fn.tokens
+    ≡ each_in (sees s.Comma) spec.item (l._turn-end - l._turn) (map item_tree l.found) l.tokens

@@ -1,0 +1,21 @@
+use Rattle.std.proofs.Common.{codes, rules, arith}
+use Rattle.std.proofs.lemmas.Grind.{common_steps}
+use Rattle.lorel_lex.specs.declared.token_types.Sign.TheVariants as s
+use Rattle.lorel_parse.specs.inside.Outcomes.{sees}
+use Rattle.lorel_parse.specs.inside.Names.{label}
+use Rattle.lorel_parse.specs.inside.Repetitions.{each_in}
+use Rattle.lorel_parse.specs.inside.Statements as spec
+use Rattle.lorel_parse.proofs.TurnLaws.{one_more}
+use Rattle.lorel_parse.proofs.statements.labels.Goals as goal
+
+pub returns-then-not-eat : goal.returns-then-not-eat
+unfolding each_in
+returns-then-not-eat c =
+    let turn = one_more (λ n. each_in (sees s.Dot) label n c.turns.labels c.turns.tokens) _ c.turns._turn c.turns-test.true c.turns.invariant in
+    first_of (search rules, grind (arith, common_steps))
+
+pub turns-preserved : goal.turns-preserved
+unfolding each_in
+turns-preserved c =
+    let turn = one_more (λ n. each_in (sees s.Dot) label n c.turns.labels c.turns.tokens) _ c.turns._turn c.turns-test.true c.turns.invariant in
+    first_of (search rules, grind (arith, common_steps))
