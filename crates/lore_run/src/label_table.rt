@@ -56,6 +56,22 @@ impl LabelTable {
         }
     }
 
+    /// The same, with one place looked at first, or place 0 where there are not so many.
+    pub(crate) fn find_at(&self, likely: usize, text: &OemText) -> Option<Label>
+        requires few { length self.now.texts ≤ 2 ^ 32 }
+        ensures found { IfSome result (λ label. slice_get self.now.texts label.0 ≡ Some text.now) }
+        ensures none { IfNone result ((label : TheLabel)
+            → slice_get self.now.texts label.0 ≢ Some text.now) }
+    {
+        let first = if likely < self.texts.len() { likely } else { 0 };
+        if let Some(there) = self.texts.get_index(first) {
+            if there == text {
+                return Some(Label(first as u32));
+            }
+        }
+        self.find(text)
+    }
+
     /// Gives a text that no label has the next number.
     pub(crate) fn push(&mut self, alloc: Global, text: &OemText) -> Result<(), NoMemory>
         requires new { (label : TheLabel) → slice_get self.old.texts label.0 ≢ Some text.now }

@@ -164,7 +164,8 @@ fn add_edge(
         (record { parent = parent; label = text.now; child = child } ∷ []) part.old part.new) }
     ensures few { OnOk result (length part.new.labels.texts ≤ length part.old.labels.texts + 1) }
 {
-    let label = number_label(alloc, text, labels, &mut part.labels)?;
+    let likely = label_behind(&part.added);
+    let label = number_label(alloc, text, labels, &mut part.labels, likely)?;
     part.added.push(Edge {
         parent,
         label,
@@ -173,12 +174,22 @@ fn add_edge(
     Ok(())
 }
 
-// The label of the text, which is the next new one where neither table has it.
+// The number behind the last edge's label. Members that repeat their labels in order have it next.
+fn label_behind(edges: &EdgeBuf) -> usize {
+    match edges.as_slice().last() {
+        Some(edge) => edge.label.0 as usize + 1,
+        None => 0,
+    }
+}
+
+// The label of the text, which is the next new one where neither table has it. The likely label is
+// looked at first, so that most texts need no look-up.
 fn number_label(
     alloc: Global,
     text: &OemText,
     labels: &LabelTable,
     new: &mut LabelTable,
+    likely: usize,
 ) -> Result<Label, NoMemory>
     requires { length labels.now.texts + length new.old.texts + 1 ≤ 2 ^ 32 }
     ensures texts { let known = labels.now.texts ++ new.old.texts in
@@ -187,10 +198,10 @@ fn number_label(
         slice_get (labels.now.texts ++ new.new.texts) label.0 ≡ Some text.now) }
 {
     let known = labels.len();
-    if let Some(label) = new.find(text) {
+    if let Some(label) = new.find_at(likely.saturating_sub(known), text) {
         return Ok(Label(known as u32 + label.0));
     }
-    if let Some(label) = labels.find(text) {
+    if let Some(label) = labels.find_at(likely, text) {
         return Ok(label);
     }
     let place = known + new.len();

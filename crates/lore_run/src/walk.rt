@@ -46,8 +46,9 @@ fn text_children<L: Ledger>(
     steps: &mut Steps<L>,
 ) -> Result<OidBuf, NoMemory>
     requires few_labels { length labels.now.texts ≤ 2 ^ 32 }
-    ensures { let passes = IsTextChild labels.now.texts graph.now.graph.edges text.now parents.now in
-        IfOk result (λ found. ListsInOrder passes found) }
+    ensures { let edges = graph.now.graph.edges in
+        IfOk result (λ found.
+        ListsInOrder (IsTextChild labels.now.texts edges text.now parents.now) found) }
 {
     match labels.find(text) {
         Some(label) => children(alloc, graph, label, parents, edges, steps),

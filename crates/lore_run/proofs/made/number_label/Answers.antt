@@ -16,19 +16,19 @@ returns-in-Some-clause-label c =
     ap (λ n. slice_get (c.args.labels.now.texts ++ c.args.new.now.texts) (n + c.in-Some.label.0)) c.len-known.ensures.count
     ∙ slice_get-append_right c.args.labels.now.texts c.args.new.now.texts c.in-Some.label.0 c.args.text.now c.in-Some.ensures.found
 
-pub returns-in-Some-find-clause-texts : goal.returns-in-Some-find-clause-texts
-returns-in-Some-find-clause-texts c =
-    old_text_left c.args.labels.now.texts c.args.new.now.texts c.args.text.now c.in-Some-find.label.0 c.in-Some-find.ensures.found
+pub returns-in-Some-find_at-clause-texts : goal.returns-in-Some-find_at-clause-texts
+returns-in-Some-find_at-clause-texts c =
+    old_text_left c.args.labels.now.texts c.args.new.now.texts c.args.text.now c.in-Some-find_at.label.0 c.in-Some-find_at.ensures.found
 
-pub returns-in-Some-find-clause-label : goal.returns-in-Some-find-clause-label
-returns-in-Some-find-clause-label c =
-    slice_get-append_left c.args.labels.now.texts c.args.new.now.texts c.in-Some-find.label.0 c.args.text.now c.in-Some-find.ensures.found
+pub returns-in-Some-find_at-clause-label : goal.returns-in-Some-find_at-clause-label
+returns-in-Some-find_at-clause-label c =
+    slice_get-append_left c.args.labels.now.texts c.args.new.now.texts c.in-Some-find_at.label.0 c.args.text.now c.in-Some-find_at.ensures.found
 
 pub returns-clause-texts : goal.returns-clause-texts
 returns-clause-texts c =
     c.in_ok-push.ensures.ok
     ∙ new_text c.args.labels.now.texts c.args.new.now.texts c.args.text.now
-    (λ i. c.in_default-find.ensures.none (record { 0 = i })) (λ i. c.in_default.ensures.none (record { 0 = i }))
+    (λ i. c.in_default-find_at.ensures.none (record { 0 = i })) (λ i. c.in_default.ensures.none (record { 0 = i }))
 
 pub returns-clause-label : goal.returns-clause-label
 returns-clause-label c =
