@@ -64,6 +64,10 @@ def cases():
     rows = "".join(f"&{i + 2} {i}\n" for i in range(many))
     yield ("as many rows as objects", [braces("A", (f"a {i}" for i in range(many))), b"select A.a;"], 0,
            f"ok objects {many + 1} edges {many}\n{rows}rows {many}\n".encode())
+    yield ("any word over as many objects", [braces("A", (f"a {i}" for i in range(many))), b"select A.#; select A.%+;"], 0,
+           f"ok objects {many + 1} edges {many}\n&1 {{}}\n{rows}rows {many + 1}\n{rows}rows {many}\n".encode())
+    yield ("64 leaves over as many objects", [braces("A", (f"a {i}" for i in range(many))), b"select A" + b".#" * 63 + b".a;"], 0,
+           f"ok objects {many + 1} edges {many}\n{rows}rows {many}\n".encode())
     script, replies = [], []
     for i in range(1_000):
         script.append(f"load n{i} := {i}; select n{i};\n".encode())
@@ -71,6 +75,12 @@ def cases():
     yield "two thousand statements and a thousand names", script, 0, b"".join(replies)
     yield ("four thousand labels", [braces("L", (f"l{i} {i}" for i in range(4_096))), b"select L.l4095;"], 0,
            b"ok objects 4097 edges 4096\n&4097 4095\nrows 1\n")
+    yield "a select of a hundred thousand items", [b"select ", b"A, " * 99_999, b"A;"], 1, b"refused 5 Syntax\n"
+    yield ("a literal of a million members", [braces("A", (f"a {i}" for i in range(1_000_000)))], 1,
+           b"refused 20 TooManyObjects\n")
+    entries = CHUNK // len(b"label lost\n") - 100
+    yield ("a dump text of almost the longest statement",
+           [b"restore oem 1 next 1 nodes 4096 plan auto\n", b"label lost\n" * entries, b"end;"], 1, b"refused 5 Syntax\n")
     text = "street " * 500
     yield ("a statement of many megabytes", [braces("T", (f't "{text}{i}"' for i in range(2_000)))], 0,
            b"ok objects 2001 edges 2000\n")

@@ -1,7 +1,7 @@
 use lore_base::{
     Mode, NoMemory, ObjectList, OemText, Oid, Op, Path, PathList, Pattern, TextList, TryCopy, Value,
 };
-use lorel_ast::{
+use lorel_trees::{
     Cond, CondList, DumpEdges, DumpTree, FromItem, FromList, Item, ItemList, LabelPath, Literal,
     Member, MemberList, NamedList, Operand, Rooted, Select, Statement, Tail, rows_form,
 };

@@ -1,6 +1,6 @@
 -- The two changes fit the graphs that they are made for, and leave no object dead.
-use Rattle.std.proofs.Common.{◌≡◌, ℕ, List, [], ◌∷◌, refl, sym, subst, ap, lit≤, arith, inl, inr, All, Contains, ◌∙◌, rules, tests}
-use Rattle.std.proofs.lemmas.List.Elements.{All-nil, All-cons}
+use Rattle.std.proofs.Common.{◌≡◌, ℕ, List, [], ◌∷◌, ◌++◌, refl, sym, subst, ap, lit≤, arith, inl, inr, All, Contains, ◌∙◌, rules, tests}
+use Rattle.std.proofs.lemmas.List.Elements.{All-nil, All-cons, All-append}
 use Rattle.lore_base.specs.declared.edges.Oid.{Oid}
 use Rattle.lore_base.specs.declared.edges.Edge.{Edge}
 use Rattle.lore_base.specs.declared.values.Value.{Value}
@@ -9,10 +9,10 @@ use Rattle.lore_base.specs.declared.change_set.Changes.{Changes}
 use Rattle.lore_base.specs.Walks.{oid_of}
 use Rattle.lore_base.specs.Names.{IsName}
 use Rattle.lore_base.specs.Databases.{OemGraph, new_graph, IsLive, IsComplex, IsSized, IsReached}
-use Rattle.lore_base.specs.ChangeSets.{Fits, IsGraphThen, AreDead, objects_after, names_after}
+use Rattle.lore_base.specs.ChangeSets.{FitsGraph, IsGraphThen, AreDead, objects_after, names_after}
 use Rattle.lore_base.proofs.MemberLaws.{Contains-none, Contains-head, Contains-cases}
 use Rattle.lore_base.proofs.DeadLaws.{none-dead}
-use Rattle.base_tests.specs.Loops.{its_name, its_value, loop, HasObject, MakesObject, AddsEdges}
+use Rattle.base_tests.specs.Loops.{its_name, its_value, loop, IsLoop, HasObject, MakesObject, AddsLoops}
 
 its_name_is_one : IsName (71 ∷ [])
 its_name_is_one = record { identifier = search (rules, tests); unreserved = refl; sized = lit≤ tt }
@@ -32,7 +32,7 @@ one_parent label = All-cons (λ (e : Edge). IsComplex its_value e.parent) (loop 
 one_child : (label : ℕ) → All (λ (e : Edge). IsLive its_value e.child) (loop label ∷ [])
 one_child label = All-cons (λ (e : Edge). IsLive its_value e.child) (loop label) [] live (All-nil (λ (e : Edge). IsLive its_value e.child))
 
-pub first_fits : (changes : Changes) → MakesObject changes → Fits new_graph changes
+pub first_fits : (changes : Changes) → MakesObject changes → FitsGraph new_graph changes
 first_fits changes makes = record {
   numbered = rw makes.made (refl, tt);
   room = rw makes.made (lit≤ tt);
@@ -42,14 +42,14 @@ first_fits changes makes = record {
   children = rw (makes.added, makes.made) (one_child 1);
 }
 
-pub second_fits : (graph : OemGraph) (changes : Changes) → HasObject graph → AddsEdges changes → Fits graph changes
+pub second_fits : (graph : OemGraph) (changes : Changes) → HasObject graph → AddsLoops changes → FitsGraph graph changes
 second_fits graph changes has adds = record {
   numbered = rw adds.made tt;
   room = rw (adds.made, has.next) (lit≤ tt);
   sized = rw adds.made (All-nil _);
   named = rw adds.named (All-nil _);
-  parents = rw (adds.added, adds.made, has.objects) (All-cons (λ (e : Edge). IsComplex its_value e.parent) (loop 1) (loop 0 ∷ []) complex (one_parent 0));
-  children = rw (adds.added, adds.made, has.objects) (All-cons (λ (e : Edge). IsLive its_value e.child) (loop 1) (loop 0 ∷ []) live (one_child 0));
+  parents = rw (adds.made, has.objects) (λ k d lt. subst (λ (o : Oid). IsComplex its_value o) (sym (adds.added k d lt).0) complex);
+  children = rw (adds.made, has.objects) (λ k d lt. subst (λ (o : Oid). IsLive its_value o) (sym (adds.added k d lt).1) live);
 }
 
 reached : (before : OemGraph) (changes : Changes)
@@ -71,8 +71,11 @@ reached before changes objects names after is oid live =
 pub first_dead : (changes : Changes) → MakesObject changes → AreDead new_graph changes []
 first_dead changes makes = none-dead new_graph changes (reached new_graph changes makes.made (ap (λ l. names_after [] l) makes.named))
 
-pub second_dead : (graph : OemGraph) (changes : Changes) → HasObject graph → AddsEdges changes → AreDead graph changes []
+pub second_dead : (graph : OemGraph) (changes : Changes) → HasObject graph → AddsLoops changes → AreDead graph changes []
 second_dead graph changes has adds = none-dead graph changes (reached graph changes (rw (adds.made, has.objects) refl) (rw (adds.named, has.names) refl))
+
+pub one_more_loop : (edges : List Edge) (label : ℕ) → All IsLoop edges → All IsLoop (edges ++ loop label ∷ [])
+one_more_loop edges label loops = All-append IsLoop edges (loop label ∷ []) loops (All-cons IsLoop (loop label) [] (refl, refl) (All-nil IsLoop))
 
 pub first_has : (changes : Changes) (after : OemGraph) → MakesObject changes → IsGraphThen new_graph changes after → HasObject after
 first_has changes after makes is = record {

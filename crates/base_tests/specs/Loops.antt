@@ -1,5 +1,5 @@
 -- A graph with one object, which has a name and edges to itself, and two changes that lead to it.
-use Rattle.std.specs.Prelude.{◌≡◌, ℕ, List, [], ◌∷◌}
+use Rattle.std.specs.Prelude.{◌≡◌, ℕ, List, [], ◌∷◌, All}
 use Rattle.lore_base.specs.declared.edges.Oid.{Oid}
 use Rattle.lore_base.specs.declared.edges.Edge.{Edge}
 use Rattle.lore_base.specs.declared.values.Value.{Value}
@@ -21,6 +21,9 @@ its_value = (oid_of 1, Complex) ∷ []
 abbrev pub loop : ℕ → Edge
 loop label = edge_of (oid_of 1) (record { 0 = label }) (oid_of 1)
 
+abbrev pub IsLoop : Edge → Type 0
+IsLoop edge = (edge.parent ≡ oid_of 1) × (edge.child ≡ oid_of 1)
+
 -- the graph has the object, with its name
 pub record HasObject (graph : OemGraph) : Type 0 where
   pub names : graph.names ≡ its_name
@@ -34,9 +37,9 @@ pub record MakesObject (changes : Changes) : Type 0 where
   pub added : changes.added ≡ loop 1 ∷ []
   pub only : OnlyAdds changes
 
--- the changes add an edge that is there, and one before it
-pub record AddsEdges (changes : Changes) : Type 0 where
+-- the changes add edges from the object to itself
+pub record AddsLoops (changes : Changes) : Type 0 where
   pub made : changes.made ≡ []
   pub named : changes.named ≡ []
-  pub added : changes.added ≡ loop 1 ∷ loop 0 ∷ []
+  pub added : All IsLoop changes.added
   pub only : OnlyAdds changes

@@ -6,4 +6,7 @@ pub mod MemberLaws
 pub mod SetLaws
 pub mod DeadLaws
 pub mod TargetLaws
+pub mod WalkLaws
+pub mod SpellLaws
 pub mod QuoteLaws
+pub mod WildcardLaws

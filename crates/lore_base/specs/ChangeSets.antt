@@ -23,7 +23,7 @@ names_after names (entry ∷ others) = names_after (insert_entry bytes_cmp names
 
 -- the changes, which only add, fit the graph: they number what they make from the next number on, and name
 -- and link what is live
-pub record Fits (graph : OemGraph) (changes : Changes) : Type 0 where
+pub record FitsGraph (graph : OemGraph) (changes : Changes) : Type 0 where
   pub numbered : AreNumberedFrom graph.next changes.made
   pub room : graph.next + length changes.made ≤ NEXT_NUMBER
   pub sized : All (λ object. IsSized object.1) changes.made

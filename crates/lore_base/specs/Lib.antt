@@ -7,8 +7,11 @@ pub mod Lists
 pub mod Causes
 pub mod Refusals
 pub mod Names
-pub mod Paths
 pub mod Walks
+pub mod Wildcards
+pub mod Paths
+pub mod PathLaws
+pub mod Comparisons
 pub mod Databases
 pub mod TargetSets
 pub mod ChangeSets

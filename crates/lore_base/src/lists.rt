@@ -84,6 +84,11 @@ impl<T> Listing<T> {
     {
         self.items.as_slice()
     }
+
+    /// The allocator that the list takes its memory from.
+    pub fn allocator(&self) -> Global {
+        *self.items.allocator()
+    }
 }
 
 impl<T: Drop> Listing<T> {

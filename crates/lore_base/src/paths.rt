@@ -1,9 +1,10 @@
-ghost use Rattle.std.specs.Prelude.{◌≡◌, List, [], ◌∷◌, ◌++◌, length, map, slice_get, IfOk, OnOk};
-ghost use Rattle.std.specs.Prelude.{OnErr, MatchOption};
+ghost use Rattle.std.specs.Prelude.{◌≡◌, ◌↔◌, ℕ, List, [], ◌∷◌, ◌++◌, length, map, slice_get, IfOk};
+ghost use Rattle.std.specs.Prelude.{OnOk, OnErr, MatchOption, IsTrue};
 ghost use Rattle.std.specs.Option.{option_copied};
 ghost use Rattle.lore_base.specs.Types.{Pattern as ThePattern};
-ghost use Rattle.lore_base.specs.Paths.{PathTree, path_tree, path_trees, parts_of};
+ghost use Rattle.lore_base.specs.Paths.{PathTree, path_tree, path_trees, parts_of, Fits};
 
+use crate::edges::Label;
 use crate::lists::TryCopy;
 use crate::no_memory::NoMemory;
 use crate::texts::OemText;
@@ -16,6 +17,17 @@ pub enum Pattern {
     Plain(OemText),
     /// Each label that the text matches, where every `%` stands for zero or more characters.
     Wild(OemText),
+}
+
+/// A table of labels that tells whether a label fits a pattern.
+pub trait LabelTest {
+    /// The texts of the labels, in the order of their numbers.
+    ghost texts: { Self → List (List ℕ) };
+
+    /// Whether the label is in the table and its text is that of the pattern, or is matched by it.
+    /// Takes no memory.
+    fn matches(&self, label: Label, pattern: &Pattern) -> bool
+        ensures { IsTrue result ↔ Fits (texts self.now) pattern.now label };
 }
 
 impl TryCopy for Pattern {
@@ -126,7 +138,8 @@ impl PathList {
     /// Takes the last part away; None exactly where there is none.
     pub fn pop(&mut self) -> Option<Path>
         ensures { let old = path_trees self.old in
-            MatchOption result (old ≡ []) (λ last. old ≡ path_trees self.new ++ path_tree last ∷ []) }
+            MatchOption result ((old ≡ []) × (path_trees self.new ≡ []))
+            (λ last. old ≡ path_trees self.new ++ path_tree last ∷ []) }
     {
         self.items.pop()
     }

@@ -1,16 +1,17 @@
--- Ascending lists: one has these members, and one exists for the members of any list.
-use Rattle.std.proofs.Common.{◌≡◌, ℕ, suc, ◌+◌, ◌<◌, ◌≤◌, ◌⊎◌, inl, inr, ◌↔◌, List, [], ◌∷◌, length, refl, sym, ap, subst, ◌∙◌, arith, Less, Equal, Greater}
+-- Ascending lists: one exists for the members of any list.
+use Rattle.std.proofs.Common.{◌≡◌, ◌+◌, ◌<◌, ◌≤◌, ◌⊎◌, inl, inr, List, [], ◌∷◌, length, refl, sym, ap, subst, ◌∙◌, arith, Less, Equal, Greater}
 use Rattle.std.specs.declared.cmp.Ordering.{Ordering}
 use Rattle.std.specs.Cmp.{IsTotalOrder}
 use Rattle.std.specs.Ordering.{ordering_reverse}
-use Rattle.std.specs.List.{All, AllPairs, Contains}
+use Rattle.std.specs.List.{AllPairs, Contains}
 use Rattle.std.proofs.lemmas.Bool.{cases_lt}
 use Rattle.std.proofs.lemmas.Bool.Decides.{nat_tests}
-use Rattle.std.proofs.lemmas.List.Elements.{All-nil, All-cons, All-contains_itself, All-contains, All-weaker}
+use Rattle.std.proofs.lemmas.List.Elements.{All-nil, All-cons, All-contains_itself, All-weaker}
 use Rattle.std.proofs.lemmas.List.Kept.{AllPairs-cons}
 use Rattle.lore_run.specs.Types.{Oid, Edge}
 use Rattle.lore_base.specs.Walks.{edge_cmp}
 use Rattle.oem_graph.proofs.EdgeLaws.{edge_cmp_total}
+use Rattle.lore_base.proofs.ListLaws.{AllPairs-head, AllPairs-tail}
 use Rattle.lore_base.proofs.MemberLaws.{Contains-none, Contains-tail, Contains-head, Contains-cases, Contains-same}
 
 -- an order in which of two items one is before the other, or they are one
@@ -19,53 +20,8 @@ pub record IsOrder {X : Type 0} (R : X → X → Type 0) : Type 0 where
   pub trans : (a b c : X) → R a b → R b c → R a c
   pub either : (a b : X) → R a b ⊎ ((a ≡ b) ⊎ R b a)
 
--- what comes behind the first item, and the rest
-AllPairs-head : {X : Type 0} (R : X → X → Type 0) (x : X) (xs : List X) → AllPairs R (x ∷ xs) → All (R x) xs
-AllPairs-head R x xs pairs = λ k d low. pairs 0 (suc k) d (omega arith) (omega (arith, low))
-
-AllPairs-tail : {X : Type 0} (R : X → X → Type 0) (x : X) (xs : List X) → AllPairs R (x ∷ xs) → AllPairs R xs
-AllPairs-tail R x xs pairs = λ i j d low within. pairs (suc i) (suc j) d (omega (arith, low)) (omega (arith, within))
-
 AllPairs-nil : {X : Type 0} (R : X → X → Type 0) → AllPairs R []
 AllPairs-nil R = λ i j d low within. absurd (omega (arith, within))
-
--- two ascending lists with the same members are one
-module _ {X : Type 0} (R : X → X → Type 0) (order : IsOrder R) where
-  -- the first of one list is the first of the other
-  same_first : (x : X) (xs : List X) (y : X) (ys : List X) → AllPairs R (x ∷ xs) → AllPairs R (y ∷ ys)
-      → Contains (y ∷ ys) x → Contains (x ∷ xs) y → x ≡ y
-  same_first x xs y ys ascend_xs ascend_ys left right =
-      elim (Contains-cases y ys x left) [
-        | inl same ↦ sym same
-        | inr x_later ↦ elim (Contains-cases x xs y right) [
-          | inl same ↦ same
-          | inr y_later ↦ (
-              let above = All-contains (R x) xs y (AllPairs-head R x xs ascend_xs) y_later in
-              let below = All-contains (R y) ys x (AllPairs-head R y ys ascend_ys) x_later in
-              absurd (order.apart x (order.trans x y x above below)))
-        ]
-      ]
-
-  -- what stands behind the first of one list stands behind that of the other
-  same_later : (x : X) (xs ys : List X) → AllPairs R (x ∷ xs) → (z : X) → Contains xs z → Contains (x ∷ ys) z → Contains ys z
-  same_later x xs ys ascend z here there =
-      elim (Contains-cases x ys z there) [
-        | inl same ↦ absurd (order.apart z (subst (λ a. R a z) same (All-contains (R x) xs z (AllPairs-head R x xs ascend) here)))
-        | inr later ↦ later
-      ]
-
-  pub one_ascending : (xs ys : List X) → AllPairs R xs → AllPairs R ys → ((z : X) → Contains xs z → Contains ys z)
-      → ((z : X) → Contains ys z → Contains xs z) → xs ≡ ys
-  one_ascending [] [] ascend_xs ascend_ys into back = refl
-  one_ascending [] (y ∷ ys) ascend_xs ascend_ys into back = absurd (Contains-none y (back y (Contains-head y ys)))
-  one_ascending (x ∷ xs) [] ascend_xs ascend_ys into back = absurd (Contains-none x (into x (Contains-head x xs)))
-  one_ascending (x ∷ xs) (y ∷ ys) ascend_xs ascend_ys into back =
-      let same = same_first x xs y ys ascend_xs ascend_ys (into x (Contains-head x xs)) (back y (Contains-head y ys)) in
-      let ascend : AllPairs R (x ∷ ys) = subst (λ a. AllPairs R (a ∷ ys)) (sym same) ascend_ys in
-      let rest = one_ascending xs ys (AllPairs-tail R x xs ascend_xs) (AllPairs-tail R y ys ascend_ys)
-      (λ z h. same_later x xs ys ascend_xs z h (subst (λ a. Contains (a ∷ ys) z) (sym same) (into z (Contains-tail x xs z h))))
-      (λ z h. same_later x ys xs ascend z h (back z (Contains-tail y ys z h))) in
-      cc
 
 -- one item more, at its place
 pub record IsInserted {X : Type 0} (R : X → X → Type 0) (old : List X) (item : X) (new : List X) : Type 0 where
@@ -86,7 +42,7 @@ module _ {X : Type 0} (R : X → X → Type 0) (order : IsOrder R) where
   inserted_first : (item y : X) (ys : List X) → AllPairs R (y ∷ ys) → R item y → IsInserted R (y ∷ ys) item (item ∷ y ∷ ys)
   inserted_first item y ys ascend before = record {
     ascend = AllPairs-cons R item (y ∷ ys)
-        (All-cons (R item) y ys before (All-weaker (R y) (R item) (λ z. order.trans item y z before) ys (AllPairs-head R y ys ascend))) ascend;
+        (All-cons (R item) y ys before (All-weaker (Contains ys) (R item) (λ z there. order.trans item y z before (AllPairs-head R y ys ascend z there)) ys (All-contains_itself ys))) ascend;
     kept = λ z h. Contains-tail item (y ∷ ys) z h;
     here = Contains-head item (y ∷ ys);
     only = λ z h. elim (Contains-cases item (y ∷ ys) z h) [ inl same ↦ inr same | inr later ↦ inl later ];
@@ -108,7 +64,7 @@ module _ {X : Type 0} (R : X → X → Type 0) (order : IsOrder R) where
     ascend = AllPairs-cons R y new
         (All-weaker (Contains new) (R y)
         (λ z h. elim (rest.only z h) [
-          | inl old ↦ All-contains (R y) ys z (AllPairs-head R y ys ascend) old
+          | inl old ↦ AllPairs-head R y ys ascend z old
           | inr same ↦ subst (R y) same before
         ])
         new (All-contains_itself new))

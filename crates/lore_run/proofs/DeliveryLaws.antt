@@ -94,22 +94,6 @@ Takes-written {a} {xs} {held} {s} {w} {f} front rest v e g written split same = 
   faultless = same ∙ g.faultless;
 }
 
--- bytes that go to a sink, whatever its name
-pub Puts-named : {A E : Type 0} (name other new_name : ℕ) (w v : Option (List ℕ)) (xs held rest : List ℕ) (f e : ℕ) (result : Result A E) → new_name ≡ name
-    → Puts (delivery other w held f) xs (delivery other v rest e) result → Puts (delivery name w held f) xs (delivery new_name v rest e) result
-Puts-named name other new_name w v xs held rest f e (Ok x) same g =
-    record { same = same; sent = g.sent; written = g.written; whole = g.whole; faultless = g.faultless }
-Puts-named name other new_name w v xs held rest f e (Err x) same g = record {
-  same = same;
-  sent = g.sent;
-  unsent = g.unsent;
-  written = g.written;
-  whole = g.whole;
-  some_unsent = g.some_unsent;
-  later = g.later;
-  counted = g.counted;
-}
-
 -- a fault behind an empty buffer leaves a proper front of the bytes
 pub AppendsProperFront-broken : {a b : Delivery} {xs : List ℕ} → a.held ≡ [] → Breaks a xs b → AppendsProperFront a.written b.written xs
 AppendsProperFront-broken {a} {b} {xs} empty g =

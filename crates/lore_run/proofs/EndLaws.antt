@@ -1,27 +1,27 @@
 -- What a run comes to at each of its ends.
-use Rattle.std.proofs.Common.{◌≡◌, ℕ, ◌+◌, ◌≤◌, ◌<◌, ◌⊎◌, inl, inr, List, [], ◌∷◌, ◌++◌, length, map, take, Option, None, Some, refl, sym, ap, ◌∙◌, subst, append_assoc, append-nil, arith, lit<, lit≤, length-append}
-use Rattle.std.specs.Prelude.{All, IfSome}
+use Rattle.std.proofs.Common.{◌≡◌, ℕ, ◌+◌, ◌≤◌, ◌<◌, ◌⊎◌, inl, inr, List, [], ◌∷◌, ◌++◌, length, map, take, Option, None, Some, refl, sym, ap, ◌∙◌, subst, append_assoc, append-nil, arith, lit<, length-append}
+use Rattle.std.specs.Prelude.{IfSome}
 use Rattle.std.specs.Io.KnownBytes.{Appends, Consumes, Keeps, IsAtEnd}
 use Rattle.std.proofs.lemmas.List.{map-append, length-map}
-use Rattle.std.proofs.lemmas.List.Elements.{All-append, All-nil}
+use Rattle.std.proofs.lemmas.List.Elements.{All-append}
 use Rattle.lore_base.specs.Chunks.{joined_chunks}
-use Rattle.lore_run.specs.Types.{CHUNK_BYTES, SCRIPT_BYTES}
+use Rattle.lore_run.specs.Types.{SCRIPT_BYTES}
 use Rattle.lore_base.specs.Causes.{Rose}
 use Rattle.lore_base.specs.Databases.{Database, new_database}
 use Rattle.lorel_lex.specs.Scan.{IsChunk, IsScript}
 use Rattle.lorel_lex.specs.Gaps.{IsBlank}
 use Rattle.lore_run.specs.Replies.{rendered}
-use Rattle.lore_run.specs.Runs.{refusals, BeginsWith, ScriptPart, chunk, rest, HasParts, EndsInRest, Runs, RunState, RepliesTo, RepliesToAll}
+use Rattle.lore_run.specs.Runs.{refusals, BeginsWith, ScriptPart, chunk, rest, EndsInRest, Runs, RunState, RepliesTo, RepliesToAll}
 use Rattle.lore_run.specs.declared.pieces.TheConstants.{PIECE_BYTES}
 use Rattle.lore_run.specs.declared.status.Outcome.{Outcome}
 use Rattle.lore_run.specs.declared.status.Status.{Status}
 use Rattle.lore_run.specs.declared.status.Status.TheVariants.{Done, DoneRefused, Usage, ReadFault, WriteFault, StatementTooLong, NoMemory, ScriptTooLong}
-use Rattle.lore_run.specs.Endings.{Outside, outside, state_of, KeepsLimits, KeepsLimitsUpTo, HasLongChunk, FailsInReply, Ends, RunEnds, PrintsAll, IsDone, EndsWell, IsCausedBySource, IsCausedBySink}
+use Rattle.lore_run.specs.Endings.{Outside, outside, state_of, KeepsLimits, HasLongChunk, FailsInReply, Ends, RunEnds, EndsWell, IsCausedBySource, IsCausedBySink}
 use Rattle.lore_run.specs.declared.tally.Tally.{Tally}
-use Rattle.lore_run.specs.inside.Turns.{Standing, standing, beginning, IsRest, Replied, RepliedInPart, Unmoved, Advances, StopsIn, FinishesWhole, Finishes, RunsSoFar, outcome_at}
-use Rattle.lore_run.proofs.DeliveryLaws.{Appends-none, Appends-then}
+use Rattle.lore_run.specs.inside.Turns.{Standing, beginning, IsUnended, RepliedInPart, Unmoved, Advances, StopsIn, FinishesWhole, Finishes, RunsSoFar, outcome_at}
+use Rattle.lore_run.proofs.DeliveryLaws.{Appends-then}
 use Rattle.lore_run.proofs.LimitLaws.{IsWithin, keeps_up_to, keeps_limits, long_chunk_more}
-use Rattle.lore_run.proofs.RunLaws.{runs_then, joined-append, joined-one, All-one, Consumes-none, Consumes-then, Consumes-kept, advances_then}
+use Rattle.lore_run.proofs.RunLaws.{runs_then, joined-append, joined-one, All-one, Consumes-then, Consumes-kept, advances_then}
 
 -- from the new database on, these bytes were taken, and what stands behind their chunks is held
 abbrev pub Reaches : Option (List ℕ) → List ℕ → Standing → Type 0
@@ -35,7 +35,7 @@ begins {now = now} back reached = record {
   each = reached.each;
 }
 
-cut : {written : Option (List ℕ)} {taken : List ℕ} {now : Standing} → (reached : Reaches written taken now) → IsRest now.held → IsScript taken reached.chunks now.held
+cut : {written : Option (List ℕ)} {taken : List ℕ} {now : Standing} → (reached : Reaches written taken now) → IsUnended now.held → IsScript taken reached.chunks now.held
 cut reached kept = record { whole = reached.whole; each = reached.each; unended = kept.unended }
 
 -- they were replied to
@@ -62,20 +62,6 @@ ends_read_fault before count left new_left now so_far keeps =
             (omega (arith, so_far.counted, so_far.within)),
       );
     }
-
--- a run that has no memory for its first piece
-pub ends_unstarted : (left written : Option (List ℕ))
-    → RunEnds (record { status = NoMemory; done = 0; refused = 0 }) new_database (outside left written) (outside left written)
-ends_unstarted left written = record {
-  taken = [];
-  written = [];
-  took = Consumes-none left;
-  wrote = Appends-none written;
-  ends = (
-    record { chunks = []; behind = []; begun = record { whole = refl; each = All-nil IsChunk }; replied = record { counted = refl; ran = (refl, refl, refl) } },
-    keeps_up_to [] [] [] 0 (record { whole = refl; each = All-nil IsChunk }) (All-nil IsWithin) refl (lit≤ tt),
-  );
-}
 
 -- one byte more than a script may have
 one_byte : (piece : List ℕ) → length piece ≡ 1 → (byte : ℕ) × (piece ≡ byte ∷ [])
@@ -231,11 +217,11 @@ record AllReplied (written : Option (List ℕ)) (taken : List ℕ) (status : Sta
   pub wrote : Appends written after.written printed
   pub replied : RepliesToAll (state_of (outcome_at status after) taken printed after.database)
 
-with_rest : {written : Option (List ℕ)} {taken : List ℕ} {now : Standing} → (reached : Reaches written taken now) → IsRest now.held → (IsBlank now.held → ⊥)
+with_rest : {written : Option (List ℕ)} {taken : List ℕ} {now : Standing} → (reached : Reaches written taken now) → IsUnended now.held → (IsBlank now.held → ⊥)
     → EndsInRest taken (map chunk reached.chunks ++ rest ∷ [])
 with_rest {now = now} reached kept filled = record { chunks = reached.chunks; behind = now.held; cut = cut reached kept; filled = filled; listed = refl }
 
-all_replied : {written : Option (List ℕ)} {taken : List ℕ} {now after : Standing} (status : Status) → Reaches written taken now → IsRest now.held → FinishesWhole now after
+all_replied : {written : Option (List ℕ)} {taken : List ℕ} {now after : Standing} (status : Status) → Reaches written taken now → IsUnended now.held → FinishesWhole now after
     → AllReplied written taken status after
 all_replied {written} {taken} {now} {after} status reached kept (inl (blank, unmoved)) =
     let there = reaches_unmoved reached unmoved in
@@ -317,41 +303,6 @@ ends_finished ReadFault before count left new_left now after so_far none at_end 
 ends_finished StatementTooLong before count left new_left now after so_far none at_end finishes = absurd finishes
 ends_finished NoMemory before count left new_left now after so_far none at_end finishes = absurd finishes
 ends_finished ScriptTooLong before count left new_left now after so_far none at_end finishes = absurd finishes
-
--- a run that is done replied to all parts, and its source is at its end
-done_ends : (status : Status) (run : RunState) (left : Option (List ℕ)) → IsDone status → Ends status run left → RepliesToAll run × IsAtEnd left
-done_ends Done run left done ends = (ends.0, ends.2)
-done_ends DoneRefused run left done ends = (ends.0, ends.2)
-done_ends Usage run left done ends = absurd done
-done_ends ReadFault run left done ends = absurd done
-done_ends WriteFault run left done ends = absurd done
-done_ends StatementTooLong run left done ends = absurd done
-done_ends NoMemory run left done ends = absurd done
-done_ends ScriptTooLong run left done ends = absurd done
-
--- at the end of a source what was taken is all that it told
-told_all : (left new_left : Option (List ℕ)) (taken : List ℕ) (P : List ℕ → Type 0) → Consumes left new_left taken → IsAtEnd new_left → P taken → IfSome left P
-told_all None new_left taken P took at_end holds = tt
-told_all (Some script) None taken P took at_end holds = absurd took
-told_all (Some script) (Some left) taken P took at_end holds = subst P (sym (took ∙ ap (λ l. taken ++ l) at_end ∙ append-nil taken)) holds
-
-told_end : (left new_left : Option (List ℕ)) (taken : List ℕ) → Consumes left new_left taken → IsAtEnd new_left → IfSome left (λ _. new_left ≡ Some [])
-told_end None new_left taken took at_end = tt
-told_end (Some script) None taken took at_end = absurd took
-told_end (Some script) (Some left) taken took at_end = ap Some at_end
-
-pub ends_printed : (outcome : Outcome) (db : Database) (before after : Outside) → RunEnds outcome db before after → IsDone outcome.status
-    → IfSome before.left (λ script. PrintsAll script outcome db before.written after.written)
-ends_printed outcome db before after run done =
-    let (all, at_end) = done_ends outcome.status (state_of outcome run.taken run.written db) after.left done run.ends in
-    told_all before.left after.left run.taken (λ script. PrintsAll script outcome db before.written after.written) run.took at_end
-    (record { written = run.written; wrote = run.wrote; replied = all })
-
-pub ends_read : (outcome : Outcome) (db : Database) (before after : Outside) → RunEnds outcome db before after → IsDone outcome.status
-    → IfSome before.left (λ _. after.left ≡ Some [])
-ends_read outcome db before after run done =
-    let (all, at_end) = done_ends outcome.status (state_of outcome run.taken run.written db) after.left done run.ends in
-    told_end before.left after.left run.taken run.took at_end
 
 -- within the limits of the script a run ends well
 ends_well : (status : Status) (run : RunState) (left : Option (List ℕ)) (script back : List ℕ) (read_before read_now written_before written_now : ℕ) → Ends status run left

@@ -1,9 +1,9 @@
 -- The members of a literal as plain data, one at a time.
 use Rattle.std.proofs.Common.{◌≡◌, ℕ, ◌+◌, ◌<◌, ◌≤◌, List, ◌∷◌, map, drop, length, get_or, sym, ap, ◌∙◌}
 use Rattle.std.proofs.lemmas.List.{drop_more, drop_all}
-use Rattle.lorel_ast.specs.declared.literals.Literal.TheFolds as folds
-use Rattle.lorel_ast.specs.declared.literals.Member.{Member}
-use Rattle.lorel_ast.specs.Trees.{LiteralTree, none, more, literal_tree, member_tree, members_from, literal_step, member_step, members_step}
+use Rattle.lorel_trees.specs.declared.literals.Literal.TheFolds as folds
+use Rattle.lorel_trees.specs.declared.literals.Member.{Member}
+use Rattle.lorel_trees.specs.Trees.{LiteralTree, none, more, literal_tree, member_tree, members_from, literal_step, member_step, members_step}
 
 pub member_tree-parts : (m : Member) → member_tree m ≡ (m.label, literal_tree m.literal)
 member_tree-parts m =

@@ -1,14 +1,15 @@
--- Parts that grow: nothing more, one step after another, one object, one edge, and one member with what it leads to.
+-- What a load makes, as it grows: nothing more, one step after another, one object, one edge, and one member with what it leads to.
 use Rattle.std.proofs.Common.{◌≡◌, ℕ, ◌+◌, ◌≤◌, List, [], ◌∷◌, ◌++◌, length, refl, sym, ap, subst, ◌∙◌, arith, append_assoc, append-nil, length-append}
 use Rattle.std.specs.List.{AllZip}
 use Rattle.std.proofs.lemmas.List.{map-append, length-map}
 use Rattle.lore_run.specs.Types.{Oid, Edge, Value}
-use Rattle.lore_run.specs.declared.made.Part.{Part}
-use Rattle.lorel_ast.specs.Trees.{LiteralTree, MemberTrees, more}
+use Rattle.lore_run.specs.declared.made.Made.{Made}
+use Rattle.lorel_trees.specs.Trees.{LiteralTree, MemberTrees, more}
 use Rattle.lore_base.specs.Walks.{oid_of}
-use Rattle.lore_run.specs.Made.{Arc, size, bodies, member_bodies, arcs, member_arcs, labels_of, first_uses, IsNumbered}
-use Rattle.lore_run.specs.inside.Parts.{Grows}
-use Rattle.lore_run.proofs.LabelLaws.{first_uses-append, length-first_uses}
+use Rattle.lore_run.specs.Made.{Arc, size, bodies, member_bodies, arcs, member_arcs, labels_of, IsNumbered}
+use Rattle.oem_labels.specs.Labels.{first_uses}
+use Rattle.lore_run.specs.inside.Making.{Grows}
+use Rattle.oem_labels.proofs.LabelLaws.{first_uses-append, length-first_uses}
 use Rattle.lore_run.proofs.NumberLaws.{slice_get-append_left}
 
 pub AllZip-weaker : {A B : Type 0} (R S : A → B → Type 0) → ((a : A) (b : B) → R a b → S a b) → (xs : List A) (ys : List B) → AllZip R xs ys → AllZip S xs ys
@@ -30,43 +31,43 @@ IsNumbered-more labels others arc edge h = record {
   child = h.child;
 }
 
-pub Grows-none : (known : List (List ℕ)) (part : Part) → Grows known [] [] part part
-Grows-none known part = record {
-  made = sym (append-nil part.made);
-  labels = sym (append-nil part.labels.texts);
+pub Grows-none : (known : List (List ℕ)) (whole : Made) → Grows known [] [] whole whole
+Grows-none known whole = record {
+  made = sym (append-nil whole.made);
+  labels = sym (append-nil whole.labels);
   edges = [];
-  added = sym (append-nil part.added);
+  added = sym (append-nil whole.added);
   numbered = tt;
   root = refl;
 }
 
-pub Grows-then : (known : List (List ℕ)) (xs ys : List (Oid × Value)) (us vs : List Arc) (old mid new : Part) → Grows known xs us old mid → Grows known ys vs mid new
+pub Grows-then : (known : List (List ℕ)) (xs ys : List (Oid × Value)) (us vs : List Arc) (old mid new : Made) → Grows known xs us old mid → Grows known ys vs mid new
     → Grows known (xs ++ ys) (us ++ vs) old new
 Grows-then known xs ys us vs old mid new first next =
-    let firsts = first_uses (known ++ old.labels.texts) (labels_of us) in
-    let seen : known ++ mid.labels.texts ≡ (known ++ old.labels.texts) ++ firsts = ap (λ l. known ++ l) first.labels ∙ sym (append_assoc known old.labels.texts firsts) in
-    let nexts : first_uses (known ++ mid.labels.texts) (labels_of vs) ≡ first_uses ((known ++ old.labels.texts) ++ firsts) (labels_of vs) =
+    let firsts = first_uses (known ++ old.labels) (labels_of us) in
+    let seen : known ++ mid.labels ≡ (known ++ old.labels) ++ firsts = ap (λ l. known ++ l) first.labels ∙ sym (append_assoc known old.labels firsts) in
+    let nexts : first_uses (known ++ mid.labels) (labels_of vs) ≡ first_uses ((known ++ old.labels) ++ firsts) (labels_of vs) =
     ap (λ l. first_uses l (labels_of vs)) seen in
-    let latest = first_uses (known ++ mid.labels.texts) (labels_of vs) in
-    let longer : (known ++ mid.labels.texts) ++ latest ≡ known ++ new.labels.texts = append_assoc known mid.labels.texts latest ∙ ap (λ l. known ++ l) (sym next.labels) in
+    let latest = first_uses (known ++ mid.labels) (labels_of vs) in
+    let longer : (known ++ mid.labels) ++ latest ≡ known ++ new.labels = append_assoc known mid.labels latest ∙ ap (λ l. known ++ l) (sym next.labels) in
     record {
       made = next.made ∙ ap (λ l. l ++ ys) first.made ∙ append_assoc old.made xs ys;
-      labels = next.labels ∙ ap (λ l. l ++ latest) first.labels ∙ append_assoc old.labels.texts firsts latest
-          ∙ ap (λ l. old.labels.texts ++ l)
-          (ap (λ l. firsts ++ l) nexts ∙ sym (first_uses-append (known ++ old.labels.texts) (labels_of us) (labels_of vs))
-          ∙ ap (λ l. first_uses (known ++ old.labels.texts) l) (sym (map-append (λ (arc : Arc). arc.label) us vs)));
+      labels = next.labels ∙ ap (λ l. l ++ latest) first.labels ∙ append_assoc old.labels firsts latest
+          ∙ ap (λ l. old.labels ++ l)
+          (ap (λ l. firsts ++ l) nexts ∙ sym (first_uses-append (known ++ old.labels) (labels_of us) (labels_of vs))
+          ∙ ap (λ l. first_uses (known ++ old.labels) l) (sym (map-append (λ (arc : Arc). arc.label) us vs)));
       edges = first.edges ++ next.edges;
       added = next.added ∙ ap (λ l. l ++ next.edges) first.added ∙ append_assoc old.added first.edges next.edges;
-      numbered = AllZip-append (IsNumbered (known ++ new.labels.texts)) us vs first.edges next.edges
+      numbered = AllZip-append (IsNumbered (known ++ new.labels)) us vs first.edges next.edges
           (subst (λ l. AllZip (IsNumbered l) us first.edges) longer
-          (AllZip-weaker (IsNumbered (known ++ mid.labels.texts)) (IsNumbered ((known ++ mid.labels.texts) ++ latest))
-          (λ arc edge h. IsNumbered-more (known ++ mid.labels.texts) latest arc edge h) us first.edges first.numbered))
+          (AllZip-weaker (IsNumbered (known ++ mid.labels)) (IsNumbered ((known ++ mid.labels) ++ latest))
+          (λ arc edge h. IsNumbered-more (known ++ mid.labels) latest arc edge h) us first.edges first.numbered))
           next.numbered;
       root = next.root ∙ first.root;
     }
 
 -- one member: its edge, what it leads to, and the members behind it
-pub Grows-member : (known : List (List ℕ)) (parent n : ℕ) (label : List ℕ) (literal : LiteralTree) (others : MemberTrees) (old edged mid new : Part)
+pub Grows-member : (known : List (List ℕ)) (parent n : ℕ) (label : List ℕ) (literal : LiteralTree) (others : MemberTrees) (old edged mid new : Made)
     → Grows known [] (record { parent = oid_of parent; label = label; child = oid_of n } ∷ []) old edged
     → Grows known (bodies n literal) (arcs n literal) edged mid
     → Grows known (member_bodies (n + size literal) others) (member_arcs parent (n + size literal) others) mid new
@@ -78,19 +79,19 @@ Grows-member known parent n label literal others old edged mid new edge inner ou
     (Grows-then known (bodies n literal) rest (arcs n literal) outer_arcs edged mid new inner outer)
 
 -- no more labels come than edges
-pub labels_grow : (known : List (List ℕ)) (xs : List (Oid × Value)) (us : List Arc) (old new : Part) → Grows known xs us old new
-    → length new.labels.texts ≤ length old.labels.texts + length us
+pub labels_grow : (known : List (List ℕ)) (xs : List (Oid × Value)) (us : List Arc) (old new : Made) → Grows known xs us old new
+    → length new.labels ≤ length old.labels + length us
 labels_grow known xs us old new h =
-    let latest = first_uses (known ++ old.labels.texts) (labels_of us) in
-    omega (arith, ap length h.labels, length-append old.labels.texts latest, length-first_uses (known ++ old.labels.texts) (labels_of us), length-map us (λ (arc : Arc). arc.label))
+    let latest = first_uses (known ++ old.labels) (labels_of us) in
+    omega (arith, ap length h.labels, length-append old.labels latest, length-first_uses (known ++ old.labels) (labels_of us), length-map us (λ (arc : Arc). arc.label))
 
 -- the members that are left, once one of them and what it leads to are there
 pub Grows-left : (known : List (List ℕ)) (parent n after : ℕ) (label : List ℕ) (literal : LiteralTree) (left others : MemberTrees) (whole_objects : List (Oid × Value)) (whole_arcs : List Arc)
-    (start old edged mid : Part) → left ≡ more label literal others → after ≡ n + size literal
+    (start old edged mid : Made) → left ≡ more label literal others → after ≡ n + size literal
     → Grows known [] (record { parent = oid_of parent; label = label; child = oid_of n } ∷ []) old edged
     → Grows known (bodies n literal) (arcs n literal) edged mid
-    → ((new : Part) → Grows known (member_bodies n left) (member_arcs parent n left) old new → Grows known whole_objects whole_arcs start new)
-    → (new : Part) → Grows known (member_bodies after others) (member_arcs parent after others) mid new → Grows known whole_objects whole_arcs start new
+    → ((new : Made) → Grows known (member_bodies n left) (member_arcs parent n left) old new → Grows known whole_objects whole_arcs start new)
+    → (new : Made) → Grows known (member_bodies after others) (member_arcs parent after others) mid new → Grows known whole_objects whole_arcs start new
 Grows-left known parent n after label literal left others whole_objects whole_arcs start old edged mid is behind edge inner finish new outer =
     finish new
     (subst (λ (b : MemberTrees). Grows known (member_bodies n b) (member_arcs parent n b) old new) (sym is)

@@ -9,16 +9,18 @@ use Rattle.lore_base.specs.Names.{IsName, IsLabel, object_of}
 use Rattle.lore_base.specs.Walks.{oid_of, edge_of}
 use Rattle.lore_base.specs.Databases.{Database, IsLive, IsComplex, IsSized, IsReached, IsLinked}
 use Rattle.lore_base.specs.Databases.{IsOrdered}
-use Rattle.lorel_ast.specs.Trees.{LiteralTree}
+use Rattle.lorel_trees.specs.Trees.{LiteralTree}
 use Rattle.lore_run.specs.Built.{has_local}
-use Rattle.lorel_ast.specs.Formed.{IsFormedLiteral}
-use Rattle.lore_run.specs.Made.{Arc, size, bodies, arcs, labels_of, first_uses}
+use Rattle.lorel_trees.specs.Formed.{IsFormedLiteral}
+use Rattle.lore_run.specs.Made.{Arc, size, bodies, arcs, labels_of}
+use Rattle.oem_labels.specs.Labels.{first_uses}
 use Rattle.lore_run.specs.Statements.{Loads}
 use Rattle.lore_run.specs.Sessions.{IsKept}
-use Rattle.lore_run.proofs.MadeLaws.{Within, JoinsObjects, IsWalkedTo, HasEdge, Walk-within, length-bodies, length-arcs, bodies_sized, arcs_sized, arcs_join, first_live, bodies_walked}
-use Rattle.lore_run.proofs.LabelLaws.{first_uses_distinct, first_uses_cover, length-first_uses, All-first_uses}
+use Rattle.lore_run.proofs.MadeLaws.{Within, JoinsObjects, IsWalkedTo, HasEdge, length-bodies, length-arcs, bodies_sized, arcs_sized, arcs_join, first_live, bodies_walked}
+use Rattle.oem_labels.proofs.LabelLaws.{first_uses_distinct, first_uses_cover, length-first_uses, All-first_uses}
 use Rattle.lore_run.proofs.NumberLaws.{place_from_Contains}
 use Rattle.lore_run.proofs.NameTableLaws.{insert_keeps, insert_has, All-insert}
+use Rattle.lore_base.proofs.WalkLaws.{Walk-within}
 
 All-along_map : {A B : Type 0} (f : A → B) (P : B → Type 0) (xs : List A) → All P (map f xs) → All (λ x. P (f x)) xs
 All-along_map f P [] h = All-nil (λ x. P (f x))

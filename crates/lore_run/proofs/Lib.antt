@@ -1,6 +1,3 @@
-pub mod TurnLaws
-pub mod TextSetLaws
-pub mod LabelLaws
 pub mod MadeLaws
 pub mod NumberLaws
 pub mod GrowthLaws
@@ -11,12 +8,11 @@ pub mod KeptLaws
 pub mod SessionLaws
 pub mod PathLaws
 pub mod SelectLaws
-pub mod GainLaws
 pub mod AscentLaws
+pub mod GraphThenLaws
 pub mod OneReplyLaws
-pub mod SomeTargetLaws
+pub mod SomeReachedLaws
 pub mod SomeReplyLaws
-pub mod WalkLaws
 pub mod ValueLaws
 pub mod DeliveryLaws
 pub mod RenderingLaws

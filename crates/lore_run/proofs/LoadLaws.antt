@@ -7,15 +7,17 @@ use Rattle.std.proofs.lemmas.List.Elements.{All-nil, All-cons, All-head, All-tai
 use Rattle.lore_run.specs.Types.{Oid, Edge, Value, Changes, NEXT_NUMBER}
 use Rattle.lore_base.specs.Names.{IsName}
 use Rattle.lore_base.specs.Databases.{OemGraph, IsLive, IsComplex, IsSized}
-use Rattle.lore_base.specs.ChangeSets.{AreNumberedFrom, objects_after, Fits, IsGraphThen, names_after}
-use Rattle.lorel_ast.specs.Trees.{LiteralTree}
+use Rattle.lore_base.specs.ChangeSets.{AreNumberedFrom, objects_after, FitsGraph, IsGraphThen, names_after}
+use Rattle.lorel_trees.specs.Trees.{LiteralTree}
 use Rattle.lore_run.specs.Built.{has_local}
-use Rattle.lorel_ast.specs.Formed.{IsFormedLiteral}
+use Rattle.lorel_trees.specs.Formed.{IsFormedLiteral}
 use Rattle.lore_base.specs.Walks.{oid_of}
-use Rattle.lore_run.specs.Made.{Arc, size, bodies, arcs, labels_of, first_uses, IsNumbered}
+use Rattle.lore_run.specs.Made.{Arc, size, bodies, arcs, labels_of, IsNumbered}
+use Rattle.oem_labels.specs.Labels.{first_uses}
 use Rattle.lore_run.specs.Statements.{Loads}
 use Rattle.lore_run.specs.Sessions.{database_of}
-use Rattle.lore_run.proofs.MadeLaws.{Within, Contains-first, Contains-later, JoinsObjects, bodies_numbered, length-bodies, bodies_sized, arcs_join, first_live}
+use Rattle.lore_run.proofs.MadeLaws.{Within, JoinsObjects, bodies_numbered, length-bodies, bodies_sized, arcs_join, first_live}
+use Rattle.lore_base.proofs.MemberLaws.{Contains-head, Contains-tail}
 
 -- ---- two lists side by side
 pub All-along : {A B : Type 0} (R : A → B → Type 0) (P : A → Type 0) (Q : B → Type 0) → ((a : A) (b : B) → R a b → P a → Q b)
@@ -37,8 +39,8 @@ beside_right R [] (z ∷ ys) y zip h = absurd zip
 beside_right R (x ∷ xs) [] y zip h = absurd zip
 beside_right R (x ∷ xs) (z ∷ ys) y zip h =
     elim (Contains-append_cases (z ∷ []) ys y h) [
-      | inl here ↦ (x, Contains-first x xs, subst (R x) (only_item z y here) zip.0)
-      | inr later ↦ (let found = beside_right R xs ys y zip.1 later in (found.0, Contains-later x found.0 xs found.1, found.2))
+      | inl here ↦ (x, Contains-head x xs, subst (R x) (only_item z y here) zip.0)
+      | inr later ↦ (let found = beside_right R xs ys y zip.1 later in (found.0, Contains-tail x xs found.0 found.1, found.2))
     ]
 
 pub beside_left : {A B : Type 0} (R : A → B → Type 0) (xs : List A) (ys : List B) (x : A) → AllZip R xs ys → Contains xs x → (y : B) × Contains ys y × R x y
@@ -47,8 +49,8 @@ beside_left R [] (y ∷ ys) x zip h = absurd zip
 beside_left R (z ∷ xs) [] x zip h = absurd zip
 beside_left R (z ∷ xs) (y ∷ ys) x zip h =
     elim (Contains-append_cases (z ∷ []) xs x h) [
-      | inl here ↦ (y, Contains-first y ys, subst (λ a. R a y) (only_item z x here) zip.0)
-      | inr later ↦ (let found = beside_left R xs ys x zip.1 later in (found.0, Contains-later y found.0 ys found.1, found.2))
+      | inl here ↦ (y, Contains-head y ys, subst (λ a. R a y) (only_item z x here) zip.0)
+      | inr later ↦ (let found = beside_left R xs ys x zip.1 later in (found.0, Contains-tail y ys found.0 found.1, found.2))
     ]
 
 -- ---- numbered edges
@@ -88,7 +90,7 @@ module _ (graph : OemGraph) (name : List ℕ) (literal : LiteralTree) (plain : h
   joined_after : All (JoinsObjects (objects_after graph changes)) (arcs graph.next literal)
   joined_after = arcs_join (objects_after graph changes) graph.next literal plain bodies_within
 
-  pub load_fits : graph.next + size literal ≤ NEXT_NUMBER → IsName name → IsFormedLiteral literal → Fits graph changes
+  pub load_fits : graph.next + size literal ≤ NEXT_NUMBER → IsName name → IsFormedLiteral literal → FitsGraph graph changes
   load_fits room word sound =
       let root = first_live graph.next literal plain in
       record {

@@ -1,26 +1,22 @@
 -- What a literal makes: how many objects and edges, how the objects are numbered, that edges join them, and that each
 -- is walked to from the first.
-use Rattle.std.proofs.Common.{◌≡◌, Option, is_some, Bool, true, false, ◌||◌, true≢false, ℕ, ◌+◌, ◌≤◌, List, [], ◌∷◌, ◌++◌, length, All, Contains, refl, sym, ap, subst, ◌∙◌, arith, length-append}
-use Rattle.std.proofs.lemmas.List.Elements.{All-nil, All-cons, All-head, All-tail, All-append, All-weaker, All-contains, All-contains_itself, Contains-get_or, Contains-append_left, Contains-append_right}
+use Rattle.std.proofs.Common.{◌≡◌, Option, is_some, Bool, true, false, ◌||◌, true≢false, ℕ, ◌+◌, List, [], ◌∷◌, ◌++◌, length, All, Contains, refl, sym, ap, subst, ◌∙◌, arith, length-append}
+use Rattle.std.proofs.lemmas.List.Elements.{All-nil, All-cons, All-head, All-tail, All-append, All-weaker, All-contains, All-contains_itself, Contains-append_left, Contains-append_right}
 use Rattle.lore_run.specs.Types.{Oid, Label, Edge, Value, Complex}
 use Rattle.lore_base.specs.Names.{IsLabel}
 use Rattle.lore_base.specs.Walks.{oid_of, Walk, edge_of}
 use Rattle.lore_base.specs.Databases.{IsLive, IsComplex, IsSized}
 use Rattle.lore_base.specs.ChangeSets.{AreNumberedFrom}
-use Rattle.lorel_ast.specs.Formed.{IsFormedLiteral, AreFormedMembers}
-use Rattle.lorel_ast.specs.Trees.{LiteralTree, local, atom, node, MemberTrees, none, more}
+use Rattle.lorel_trees.specs.Formed.{IsFormedLiteral, AreFormedMembers}
+use Rattle.lorel_trees.specs.Trees.{LiteralTree, local, atom, node, MemberTrees, none, more}
 use Rattle.lore_run.specs.Built.{has_local, have_local}
 use Rattle.lore_run.specs.Made.{Arc, size, members_size, bodies, member_bodies, arcs, member_arcs, labels_of}
+use Rattle.lore_base.proofs.MemberLaws.{Contains-head, Contains-tail}
+use Rattle.lore_base.proofs.WalkLaws.{Walk-push}
 
 -- each item of the one list is in the other
 abbrev pub Within : {X : Type 0} → List X → List X → Type 0
 Within {X} xs ys = (x : X) → Contains xs x → Contains ys x
-
-pub Contains-first : {X : Type 0} (x : X) (xs : List X) → Contains (x ∷ xs) x
-Contains-first x xs = Contains-get_or (x ∷ xs) 0 x (omega arith)
-
-pub Contains-later : {X : Type 0} (y x : X) (xs : List X) → Contains xs x → Contains (y ∷ xs) x
-Contains-later y x xs h = Contains-append_right (y ∷ []) xs x h
 
 pub All-within : {X : Type 0} (P : X → Type 0) (xs ys : List X) → Within xs ys → All P ys → All P xs
 All-within P xs ys within h = All-weaker (Contains xs) P (λ x i. All-contains P ys x h (within x i)) xs (All-contains_itself xs)
@@ -43,12 +39,6 @@ plain_member label literal others plain = or_false (has_local literal) (have_loc
 
 pub plain_members : (mark : Option ℕ) (members : MemberTrees) → has_local (node mark members) ≡ false → have_local members ≡ false
 plain_members mark members plain = (or_false (is_some mark) (have_local members) plain).1
-
--- ---- counts
-pub size_least : (t : LiteralTree) → has_local t ≡ false → 1 ≤ size t
-size_least (local number) plain = absurd (true≢false plain)
-size_least (atom mark value) plain = omega arith
-size_least (node mark members) plain = omega arith
 
 mutual
   pub length-bodies : (n : ℕ) (t : LiteralTree) → length (bodies n t) ≡ size t
@@ -99,8 +89,8 @@ mutual
 -- ---- ends of edges
 pub first_live : (n : ℕ) (t : LiteralTree) → has_local t ≡ false → IsLive (bodies n t) (oid_of n)
 first_live n (local number) plain = absurd (true≢false plain)
-first_live n (atom mark value) plain = (value, Contains-first (oid_of n, value) [])
-first_live n (node mark members) plain = (Complex, Contains-first (oid_of n, Complex) (member_bodies (n + 1) members))
+first_live n (atom mark value) plain = (value, Contains-head (oid_of n, value) [])
+first_live n (node mark members) plain = (Complex, Contains-head (oid_of n, Complex) (member_bodies (n + 1) members))
 
 -- the arc leads from a complex object to a live one
 pub record JoinsObjects (objects : List (Oid × Value)) (arc : Arc) : Type 0 where
@@ -114,8 +104,8 @@ mutual
   arcs_join objects n (atom mark value) plain within = All-nil (JoinsObjects objects)
   arcs_join objects n (node mark members) plain within =
       member_arcs_join objects n (n + 1) members (plain_members mark members plain)
-      (within (oid_of n, Complex) (Contains-first (oid_of n, Complex) (member_bodies (n + 1) members)))
-      (λ o h. within o (Contains-later (oid_of n, Complex) o (member_bodies (n + 1) members) h))
+      (within (oid_of n, Complex) (Contains-head (oid_of n, Complex) (member_bodies (n + 1) members)))
+      (λ o h. within o (Contains-tail (oid_of n, Complex) (member_bodies (n + 1) members) o h))
 
   pub member_arcs_join : (objects : List (Oid × Value)) (parent n : ℕ) (ms : MemberTrees) → have_local ms ≡ false → IsComplex objects (oid_of parent)
       → Within (member_bodies n ms) objects → All (JoinsObjects objects) (member_arcs parent n ms)
@@ -136,16 +126,6 @@ IsWalkedTo edges start oid = (word : List Label) × Walk edges start word oid
 
 abbrev pub HasEdge : List Edge → Arc → Type 0
 HasEdge edges arc = (label : Label) × Contains edges (edge_of arc.parent label arc.child)
-
-pub Walk-within : (edges wider : List Edge) → Within edges wider → (x : Oid) (word : List Label) (y : Oid) → Walk edges x word y → Walk wider x word y
-Walk-within edges wider within x [] y h = h
-Walk-within edges wider within x (label ∷ word) y h =
-    (h.0, within (edge_of x label h.0) h.1, Walk-within edges wider within h.0 word y h.2)
-
-pub Walk-push : (edges : List Edge) (x : Oid) (word : List Label) (y : Oid) (label : Label) (z : Oid) → Walk edges x word y → Contains edges (edge_of y label z)
-    → Walk edges x (word ++ label ∷ []) z
-Walk-push edges x [] y label z h edge = (z, subst (λ (o : Oid). Contains edges (edge_of o label z)) (sym h) edge, refl)
-Walk-push edges x (first ∷ word) y label z h edge = (h.0, h.1, Walk-push edges h.0 word y label z h.2 edge)
 
 walked_on : (edges : List Edge) (start : Oid) (arc : Arc) → IsWalkedTo edges start arc.parent → HasEdge edges arc → IsWalkedTo edges start arc.child
 walked_on edges start arc walk edge = (walk.0 ++ edge.0 ∷ [], Walk-push edges start walk.0 arc.parent edge.0 arc.child walk.1 edge.1)

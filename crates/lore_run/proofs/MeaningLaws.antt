@@ -1,21 +1,21 @@
 -- The meaning of a script is one and whole: a run is determined by its parts, and each part has an answer.
-use Rattle.std.proofs.Common.{◌≡◌, ℕ, ◌+◌, ◌⊎◌, inl, inr, List, [], ◌∷◌, ◌++◌, map, Some, Result, Ok, Err, refl, sym, ap, ◌∙◌, subst, arith}
+use Rattle.std.proofs.Common.{◌≡◌, ℕ, ◌+◌, ◌⊎◌, inl, inr, List, [], ◌∷◌, ◌++◌, map, Some, Result, Ok, Err, sym, ap, ◌∙◌, subst}
 use Rattle.lore_base.specs.Databases.{Database}
 use Rattle.lore_base.specs.declared.refusals.Refusal.{Refusal}
 use Rattle.lorel_lex.specs.declared.token_types.Kind.{Kind}
 use Rattle.lorel_lex.specs.declared.token_types.Token.{Token}
 use Rattle.lorel_lex.specs.declared.token_types.LexFault.{LexFault}
 use Rattle.lorel_lex.specs.Faults.{refusal_of}
-use Rattle.lorel_lex.specs.Tokens.{AreTokens, HasFault, IsOutcome}
+use Rattle.lorel_lex.specs.Tokens.{AreTokens, HasFault}
 use Rattle.lorel_lex.specs.Gaps.{IsBlank}
 use Rattle.lorel_lex.proofs.ScanLaws.{one_cut}
 use Rattle.lorel_lex.proofs.TokenLaws.{one_outcome}
-use Rattle.lorel_ast.specs.Trees.{StatementTree}
-use Rattle.lorel_ast.specs.Tokens.{HasTokens}
+use Rattle.lorel_trees.specs.Trees.{StatementTree}
+use Rattle.lorel_trees.specs.Tokens.{HasTokens}
 use Rattle.lore_run.specs.Types.{Refusal, Reply, Refused}
 use Rattle.lore_run.specs.Statements.{Executes}
 use Rattle.lore_run.specs.Replies.{rendered}
-use Rattle.lore_run.specs.Runs.{ScriptPart, chunk, rest, LacksTokens, LacksStatement, HasStatement, Yields, Runs, refusals, HasOneRun, HasOneReading}
+use Rattle.lore_run.specs.Runs.{ScriptPart, chunk, rest, Yields, Runs, refusals, HasOneRun, HasOneReading}
 
 abbrev pub OneExecution : Type 0
 OneExecution = (before : Database) (statement : StatementTree) (reply other : Reply) (after another : Database)

@@ -6,7 +6,8 @@ use Rattle.std.specs.Ordering.{match_ordering, is_eq}
 use Rattle.std.specs.declared.cmp.Ordering.{Ordering}
 use Rattle.std.specs.declared.cmp.Ordering.TheVariants.{Less, Equal, Greater}
 use Rattle.std.proofs.lemmas.List.Elements.{All-cons, All-head, All-tail, Contains-append_left, Contains-append_cases}
-use Rattle.lore_run.proofs.MadeLaws.{Within, Contains-first, Contains-later}
+use Rattle.lore_run.proofs.MadeLaws.{Within}
+use Rattle.lore_base.proofs.MemberLaws.{Contains-head, Contains-tail}
 
 module _ {K X : Type 0} (cmp : K → K → Ordering) (k : K) (v : X) where
   pub insert_keeps : (es : List (K × X)) → lookup (is_at (cmp k)) es ≡ None → Within es (insert_entry cmp es k v)
@@ -15,24 +16,24 @@ module _ {K X : Type 0} (cmp : K → K → Ordering) (k : K) (v : X) where
       let rest = insert_keeps es in
       elim (cmp k e.0) as (λ o. cond (is_eq o) (Some e.1) (lookup (is_at (cmp k)) es) ≡ None
       → Within (e ∷ es) (match_ordering o ((k, v) ∷ e ∷ es) ((e.0, v) ∷ es) (e ∷ insert_entry cmp es k v))) [
-        | Less ↦ (λ there x h. Contains-later (k, v) x (e ∷ es) h)
+        | Less ↦ (λ there x h. Contains-tail (k, v) (e ∷ es) x h)
         | Equal ↦ (λ there. absurd (cc))
         | Greater ↦ (λ there x h. elim (Contains-append_cases (e ∷ []) es x h) [
           | inl here ↦ Contains-append_left (e ∷ []) (insert_entry cmp es k v) x here
-          | inr later ↦ Contains-later e x (insert_entry cmp es k v) (rest there x later)
+          | inr later ↦ Contains-tail e (insert_entry cmp es k v) x (rest there x later)
         ])
       ]
       none
 
   pub insert_has : (es : List (K × X)) → lookup (is_at (cmp k)) es ≡ None → Contains (insert_entry cmp es k v) (k, v)
-  insert_has [] none = Contains-first (k, v) []
+  insert_has [] none = Contains-head (k, v) []
   insert_has (e ∷ es) none =
       let rest = insert_has es in
       elim (cmp k e.0) as (λ o. cond (is_eq o) (Some e.1) (lookup (is_at (cmp k)) es) ≡ None
       → Contains (match_ordering o ((k, v) ∷ e ∷ es) ((e.0, v) ∷ es) (e ∷ insert_entry cmp es k v)) (k, v)) [
-        | Less ↦ (λ there. Contains-first (k, v) (e ∷ es))
+        | Less ↦ (λ there. Contains-head (k, v) (e ∷ es))
         | Equal ↦ (λ there. absurd (cc))
-        | Greater ↦ (λ there. Contains-later e (k, v) (insert_entry cmp es k v) (rest there))
+        | Greater ↦ (λ there. Contains-tail e (insert_entry cmp es k v) (k, v) (rest there))
       ]
       none
 

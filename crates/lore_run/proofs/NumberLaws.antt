@@ -4,8 +4,9 @@ use Rattle.std.specs.List.{list_any}
 use Rattle.std.specs.Str.{bytes_eq}
 use Rattle.std.proofs.lemmas.Option.{none-some, slice_get-get_or, slice_get_within, get_or_from_slice_get}
 use Rattle.std.proofs.lemmas.List.Elements.{Contains-append_left, Contains-append_right, Contains-append_cases}
-use Rattle.lore_run.specs.Made.{first_uses}
-use Rattle.lore_run.proofs.LabelLaws.{either, known_text, is_known, first_uses-known, first_uses-new}
+use Rattle.lore_run.specs.Made.{}
+use Rattle.oem_labels.specs.Labels.{first_uses}
+use Rattle.oem_labels.proofs.LabelLaws.{either, known_text, is_known, first_uses-known, first_uses-new}
 
 pub Contains-from_place : {X : Type 0} (xs : List X) (i : ℕ) (x : X) → slice_get xs i ≡ Some x → Contains xs x
 Contains-from_place xs i x h = (i, slice_get_within xs i x h, get_or_from_slice_get xs i x x h)

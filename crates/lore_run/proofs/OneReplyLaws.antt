@@ -1,17 +1,17 @@
 -- A statement has one reply, and leaves one database.
-use Rattle.std.proofs.Common.{◌≡◌, ℕ, ◌<◌, ◌∷◌, List, length, Option, Some, None, Less, refl, sym, ap, subst, ◌∙◌, inl, inr}
+use Rattle.std.proofs.Common.{◌≡◌, ℕ, List, length, Some, None, sym, ap, subst, ◌∙◌, inl, inr}
 use Rattle.std.specs.Prelude.{MatchOption, Contains}
-use Rattle.lore_run.specs.Types.{Oid, Edge, Refusal, Syntax, Reply, Changed, Rows, Refused}
-use Rattle.lore_base.specs.Names.{object_of}
-use Rattle.lore_base.specs.Walks.{edge_cmp}
+use Rattle.lore_run.specs.Types.{Oid, Edge, Refusal, Syntax, Reply, Changed, Rows}
 use Rattle.lore_base.specs.Databases.{Database}
-use Rattle.lore_base.specs.TargetSets.{IsTargetSet}
-use Rattle.lorel_ast.specs.Trees.{LiteralTree, StatementTree}
+use Rattle.lore_base.specs.TargetSets.{ListsInOrder}
+use Rattle.lore_base.specs.Paths.{Reaches}
+use Rattle.lorel_trees.specs.Trees.{LiteralTree}
 use Rattle.lore_run.specs.Built.{Built, load, select, built}
 use Rattle.lore_run.specs.Made.{IsNumbered}
-use Rattle.lore_run.specs.Statements.{refusal_of, Loads, Performs, Refuses, ExecutesBuilt, Executes}
+use Rattle.lore_run.specs.Statements.{first_refusal, Loads, Performs, Refuses, ExecutesBuilt}
 use Rattle.lore_run.specs.SessionLaws.{ExecutesOnce}
-use Rattle.lore_run.proofs.AscentLaws.{one_ascending, oids_ordered, edges_ordered}
+use Rattle.lore_base.proofs.TargetLaws.{ListsInOrder-unique}
+use Rattle.lore_run.proofs.GraphThenLaws.{one_edge_list}
 
 -- the edges that one load leaves are those that the other leaves
 same_edges : (before : Database) (name : List ℕ) (literal : LiteralTree) (after later : Database) → Loads before name literal after → Loads before name literal later
@@ -30,8 +30,8 @@ one_load before name literal after later h k =
     let next = h.next ∙ sym k.next in
     let nodes = h.nodes ∙ sym k.nodes in
     let mode = h.mode ∙ sym k.mode in
-    let edges = one_ascending (λ a b. edge_cmp a b ≡ Less) edges_ordered after.graph.edges later.graph.edges h.edges_ascend k.edges_ascend
-    (same_edges before name literal after later h k labels) (same_edges before name literal later after k h (sym labels)) in
+    let edges = one_edge_list after.graph.edges later.graph.edges h.edges_ascend k.edges_ascend
+    (λ edge. (same_edges before name literal after later h k labels edge, same_edges before name literal later after k h (sym labels) edge)) in
     λ i. record {
       labels = labels i;
       graph = record { names = names i; objects = objects i; edges = edges i; next = next i };
@@ -39,22 +39,18 @@ one_load before name literal after later h k =
       mode = mode i;
     }
 
-one_target_set : (db : Database) (start : Oid) (texts : List (List ℕ)) (found other : List Oid) → IsTargetSet db start texts found → IsTargetSet db start texts other → found ≡ other
-one_target_set db start texts found other h k =
-    one_ascending (λ (a b : Oid). a.0 < b.0) oids_ordered found other h.ascending k.ascending
-    (λ oid there. (k.exact oid).1 ((h.exact oid).0 there)) (λ oid there. (h.exact oid).1 ((k.exact oid).0 there))
-
 one_performed : (before : Database) (form : Built) (reply other : Reply) (after later : Database) → Performs before form reply after → Performs before form other later
     → (reply ≡ other) × (after ≡ later)
 one_performed before (load name literal) reply other after later h k =
     let same = one_load before name literal after later h.0 k.0 in
     (h.1 ∙ ap (λ (db : Database). Changed (length db.graph.objects) (length db.graph.edges)) same ∙ sym k.1, same)
-one_performed before (select start labels) reply other after later h k =
+one_performed before (select start path) reply other after later h k =
     let mine = h.1.2 in
     let yours = k.1.2 in
     let starts : mine.start ≡ yours.start = cc (mine.named, yours.named) in
-    let found = subst (λ (o : Oid). IsTargetSet before o labels h.1.0) starts mine.found in
-    let same = one_target_set before yours.start labels h.1.0 k.1.0 found yours.found in
+    let reached : Oid → Oid → Type 0 = Reaches before.labels before.graph.edges path in
+    let found = subst (λ (o : Oid). ListsInOrder (reached o) h.1.0) starts mine.listed in
+    let same = ListsInOrder-unique (reached yours.start) h.1.0 k.1.0 found yours.listed in
     (h.1.1 ∙ ap (λ (oids : List Oid). Rows oids) same ∙ sym k.1.1, h.0 ∙ sym k.0)
 
 one_refused : (refusal : Refusal) (before : Database) (reply other : Reply) (after later : Database) → Refuses refusal before reply after → Refuses refusal before other later
@@ -64,7 +60,7 @@ one_refused refusal before reply other after later h k = (h.0 ∙ sym k.0, h.1 �
 one_built : (before : Database) (form : Built) (reply other : Reply) (after later : Database) → ExecutesBuilt before form reply after → ExecutesBuilt before form other later
     → (reply ≡ other) × (after ≡ later)
 one_built before form reply other after later =
-    elim (refusal_of before form) as (λ o. MatchOption o (Performs before form reply after) (λ refusal. Refuses refusal before reply after)
+    elim (first_refusal before form) as (λ o. MatchOption o (Performs before form reply after) (λ refusal. Refuses refusal before reply after)
     → MatchOption o (Performs before form other later) (λ refusal. Refuses refusal before other later) → (reply ≡ other) × (after ≡ later)) [
       | None ↦ one_performed before form reply other after later
       | Some refusal ↦ one_refused refusal before reply other after later

@@ -1,18 +1,12 @@
--- A select of one path, and the labels of a plain path.
-use Rattle.std.proofs.Common.{◌≡◌, ℕ, false, true≢false, List, [], ◌∷◌, ◌++◌, map, length, Option, Some, None, is_some, sym, ap, arith}
+-- The one path of a select.
+use Rattle.std.proofs.Common.{◌≡◌, false, true≢false, List, [], ◌∷◌, map, length, Option, Some, None, is_some, sym, ap, arith}
 use Rattle.std.specs.Prelude.{option_map, slice_get}
 use Rattle.std.proofs.lemmas.Option.{same_Some}
-use Rattle.lore_base.specs.declared.paths.Path.{Path}
-use Rattle.lore_base.specs.Paths.{path_tree}
-use Rattle.lorel_ast.specs.declared.conditions.Cond.{Cond}
-use Rattle.lorel_ast.specs.declared.selects.Item.{Item}
-use Rattle.lorel_ast.specs.declared.selects.FromItem.{FromItem}
-use Rattle.lorel_ast.specs.Trees.{item_tree, from_tree, cond_tree}
-use Rattle.lore_run.specs.Built.{item_path, only_path, plain_labels}
-
--- the labels so far, and those of the parts that are left
-abbrev pub labels_behind : List (List ℕ) → List Path → Option (List (List ℕ))
-labels_behind labels parts = option_map (λ others. labels ++ others) (plain_labels (map path_tree parts))
+use Rattle.lorel_trees.specs.declared.conditions.Cond.{Cond}
+use Rattle.lorel_trees.specs.declared.selects.Item.{Item}
+use Rattle.lorel_trees.specs.declared.selects.FromItem.{FromItem}
+use Rattle.lorel_trees.specs.Trees.{item_tree, from_tree, cond_tree}
+use Rattle.lore_run.specs.Built.{item_path, only_path}
 
 -- one item, no range and no condition
 pub only_item : (items : List Item) (ranges : List FromItem) (cond : Option Cond) (item : Item)

@@ -1,17 +1,17 @@
 -- The turns of a run through one piece of the script.
-use Rattle.std.proofs.Common.{◌≡◌, ℕ, ◌+◌, ◌-◌, ◌≤◌, ◌<◌, ◌⊎◌, inl, inr, true, false, List, [], ◌∷◌, ◌++◌, length, take, drop, Option, refl, sym, ap, ◌∙◌, subst, append_assoc, arith, take-add, length-append}
+use Rattle.std.proofs.Common.{◌≡◌, ℕ, ◌+◌, ◌-◌, ◌≤◌, true, false, List, [], ◌∷◌, ◌++◌, length, take, drop, Option, refl, sym, ap, ◌∙◌, subst, append_assoc, arith, take-add, length-append}
 use Rattle.std.proofs.lemmas.List.{take_rest, take-append-drop}
 use Rattle.std.proofs.Math.Seq.{take-append_seam}
 use Rattle.lore_base.specs.Databases.{Database}
 use Rattle.lore_base.specs.declared.limits.TheConstants.{CHUNK_BYTES}
 use Rattle.lorel_lex.specs.Scan.{IsChunk}
-use Rattle.lorel_lex.specs.Progress.{Progress, holds}
-use Rattle.lorel_lex.specs.Chunks.{GoesOnWith, EndsChunk, IsTooLong, PassesLimit}
+use Rattle.lorel_lex.specs.Progress.{Progress}
+use Rattle.lorel_lex.specs.Chunks.{GoesOnWith, EndsChunk}
 use Rattle.lore_run.specs.Runs.{chunk}
 use Rattle.lore_run.specs.declared.status.Status.{Status}
 use Rattle.lore_run.specs.declared.status.Status.TheVariants.{Done, DoneRefused, Usage, ReadFault, WriteFault, StatementTooLong, NoMemory, ScriptTooLong}
 use Rattle.lore_run.specs.declared.tally.Tally.{Tally}
-use Rattle.lore_run.specs.inside.Turns.{Standing, standing, IsRest, Replied, Unmoved, Advances, StopsReplying, StopsIn}
+use Rattle.lore_run.specs.inside.Turns.{Standing, standing, IsUnended, Replied, Advances, StopsReplying, StopsIn}
 use Rattle.lore_run.proofs.RunLaws.{advances_held, advances_chunk, advances_then, RepliedInPart-held, Unmoved-held}
 
 -- what is left of a piece behind a place
@@ -28,10 +28,6 @@ pub advances_more : (before : Standing) (old new : Progress) (tally : Tally) (wr
 advances_more before old new tally written db piece at used advanced more =
     subst (λ (l : List ℕ). Advances before l (standing new.held tally written db)) (sym (front_and_behind at piece))
     (advances_then advanced (advances_held old.held (behind at piece) (standing new.held tally written db) (ap (λ (p : Progress). p.held) more.held)))
-
-pub rest_more : (old new : Progress) (piece : List ℕ) (used : ℕ) → GoesOnWith old piece used new → IsRest new.held
-rest_more old new piece used more =
-    subst IsRest (sym (ap (λ (p : Progress). p.held) more.held)) (record { unended = more.unended; sized = more.sized })
 
 -- a chunk ends in what is left of the piece
 chunk_is : (old fed : Progress) (piece text : List ℕ) (used : ℕ) → (ends : EndsChunk old piece used fed) → fed ≡ record { held = text; whole = true; failed = fed.failed } → old.held ++ ends.front ≡ text
@@ -59,23 +55,8 @@ advances_whole before old fed after text tally new_tally written new_written db 
     let there = subst (λ (l : List ℕ). Advances before l (standing [] new_tally new_written new_db)) (sym front) (advances_then advanced step) in
     subst (λ (held : List ℕ). Advances before (take (at + used) piece) (standing held new_tally new_written new_db)) (sym (ap (λ (p : Progress). p.held) taken)) there
 
--- the piece stops the run at a chunk that is too long, and where no memory is left for it
-pub stops_too_long : (before : Standing) (old : Progress) (held : List ℕ) (tally : Tally) (written : Option (List ℕ)) (db : Database) (piece : List ℕ) (at : ℕ)
-    → Advances before (take at piece) (standing old.held tally written db) → IsRest old.held → old.failed ≡ false → PassesLimit old (behind at piece)
-    → StopsIn StatementTooLong before piece (standing held tally written db)
-stops_too_long before old held tally written db piece at advanced kept unfailed (inl failed) = absurd (let same : false ≡ true = sym unfailed ∙ failed in cc)
-stops_too_long before old held tally written db piece at advanced kept unfailed (inr long) = record {
-  front = take at piece;
-  back = behind at piece;
-  parts = front_and_behind at piece;
-  middle = standing old.held tally written db;
-  rest = kept;
-  advanced = advanced;
-  stopped = (long, record { tally = refl; written = refl; database = refl });
-}
-
 pub stops_no_memory : (before : Standing) (old : Progress) (held : List ℕ) (tally : Tally) (written : Option (List ℕ)) (db : Database) (piece : List ℕ) (at : ℕ)
-    → Advances before (take at piece) (standing old.held tally written db) → IsRest old.held → StopsIn NoMemory before piece (standing held tally written db)
+    → Advances before (take at piece) (standing old.held tally written db) → IsUnended old.held → StopsIn NoMemory before piece (standing held tally written db)
 stops_no_memory before old held tally written db piece at advanced kept = record {
   front = take at piece;
   back = behind at piece;
@@ -88,7 +69,7 @@ stops_no_memory before old held tally written db piece at advanced kept = record
 
 -- and at the reply to a chunk
 pub stops_replying : (status : Status) (before : Standing) (old fed : Progress) (held text : List ℕ) (tally new_tally : Tally) (written new_written : Option (List ℕ)) (db new_db : Database) (piece : List ℕ) (at used : ℕ)
-    → Advances before (take at piece) (standing old.held tally written db) → IsRest old.held → EndsChunk old (behind at piece) used fed
+    → Advances before (take at piece) (standing old.held tally written db) → IsUnended old.held → EndsChunk old (behind at piece) used fed
     → fed ≡ record { held = text; whole = true; failed = fed.failed }
     → StopsReplying status (standing [] tally written db) (chunk text) (standing [] new_tally new_written new_db)
     → StopsIn status before piece (standing held new_tally new_written new_db)

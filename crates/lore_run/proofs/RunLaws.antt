@@ -1,5 +1,5 @@
 -- Runs of parts, one behind another, and how a run goes on from piece to piece.
-use Rattle.std.proofs.Common.{◌≡◌, ℕ, ◌+◌, ◌≤◌, ◌<◌, List, [], ◌∷◌, ◌++◌, length, map, take, drop, Option, None, Some, refl, sym, ap, ◌∙◌, subst, append_assoc, append-nil, arith, lit≤, length-append}
+use Rattle.std.proofs.Common.{◌≡◌, ℕ, ◌+◌, ◌≤◌, List, [], ◌∷◌, ◌++◌, length, map, Option, None, Some, refl, sym, ap, ◌∙◌, subst, append_assoc, append-nil, arith, lit≤, length-append}
 use Rattle.std.specs.Prelude.{All}
 use Rattle.std.specs.Io.KnownBytes.{Appends, Consumes, Keeps}
 use Rattle.std.proofs.lemmas.Grind.{flat_map-append}
@@ -7,13 +7,13 @@ use Rattle.std.proofs.lemmas.List.{map-append}
 use Rattle.std.proofs.lemmas.List.Elements.{All-append, All-cons, All-nil}
 use Rattle.lore_base.specs.Chunks.{joined_chunks}
 use Rattle.lore_run.specs.Types.{SCRIPT_BYTES}
-use Rattle.lore_base.specs.Databases.{Database, new_database}
+use Rattle.lore_base.specs.Databases.{Database}
 use Rattle.lorel_lex.specs.Scan.{IsChunk}
 use Rattle.lore_run.specs.Types.{Reply, Changed, Rows, Refused}
 use Rattle.lore_run.specs.Replies.{rendered}
-use Rattle.lore_run.specs.Runs.{ScriptPart, chunk, Yields, Runs, refusals}
+use Rattle.lore_run.specs.Runs.{ScriptPart, chunk, Runs, refusals}
 use Rattle.lore_run.specs.Endings.{Outside, outside}
-use Rattle.lore_run.specs.inside.Turns.{Standing, standing, beginning, IsRest, Replied, RepliedInPart, Unmoved, Advances, RunsSoFar}
+use Rattle.lore_run.specs.inside.Turns.{Standing, beginning, IsUnended, Replied, RepliedInPart, Unmoved, Advances, RunsSoFar}
 use Rattle.lore_run.proofs.DeliveryLaws.{Appends-none, Appends-then}
 use Rattle.lore_run.proofs.LimitLaws.{IsWithin}
 
@@ -155,7 +155,7 @@ so_far_start left written = record {
 }
 
 pub so_far_more : (before : Outside) (count : ℕ) (left new_left : Option (List ℕ)) (now next : Standing) (piece : List ℕ)
-    → (so_far : RunsSoFar before count left now) → Consumes left new_left piece → count + length piece ≤ SCRIPT_BYTES → IsRest next.held → Advances now piece next
+    → (so_far : RunsSoFar before count left now) → Consumes left new_left piece → count + length piece ≤ SCRIPT_BYTES → IsUnended next.held → Advances now piece next
     → RunsSoFar before (count + length piece) new_left next
 so_far_more before count left new_left now next piece so_far took few rest advanced = record {
   taken = so_far.taken ++ piece;
@@ -165,11 +165,6 @@ so_far_more before count left new_left now next piece so_far took few rest advan
   rest = rest;
   advanced = advances_then so_far.advanced advanced;
 }
-
--- what a part did is the same whatever is held
-pub Replied-held : {before after : Standing} {part : ScriptPart} (held kept : List ℕ) → Replied before part after → Replied (record before { held = held }) part (record after { held = kept })
-Replied-held {before} {after} {part} held kept g =
-    record { reply = g.reply; yielded = g.yielded; done = g.done; refused = g.refused; printed = g.printed }
 
 pub RepliedInPart-held : {before after : Standing} {part : ScriptPart} (held kept : List ℕ) → RepliedInPart before part after
     → RepliedInPart (record before { held = held }) part (record after { held = kept })

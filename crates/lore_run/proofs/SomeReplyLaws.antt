@@ -1,40 +1,43 @@
 -- From each database that a session can have, a sound statement has a reply, and leaves such a database.
-use Rattle.std.proofs.Common.{◌≡◌, ℕ, ◌+◌, ◌≤◌, ◌⊎◌, inl, inr, Bool, true, false, if◌then◌else◌, List, [], ◌∷◌, ◌++◌, length, Option, Some, None, is_some, Less, refl, sym, ap, subst, ◌∙◌, arith, length-append}
-use Rattle.std.specs.Prelude.{◌<◌, ◌^◌, nat_lt, option_map, is_none}
+use Rattle.std.proofs.Common.{◌≡◌, ℕ, ◌+◌, ◌≤◌, ◌⊎◌, inl, inr, Bool, false, if◌then◌else◌, List, [], ◌∷◌, ◌++◌, length, Option, Some, None, is_some, Less, refl, sym, ap, subst, ◌∙◌, arith, length-append}
+use Rattle.std.specs.Prelude.{◌<◌, ◌^◌, nat_lt, is_none}
 use Rattle.std.specs.List.{All, AllZip, Contains}
 use Rattle.std.specs.List.Sorted.{IsStrictlySortedBy}
 use Rattle.std.specs.BTreeMap.{insert_entry}
 use Rattle.std.proofs.lemmas.Bool.{ltb-false}
-use Rattle.std.proofs.lemmas.List.Elements.{All-nil, All-head, All-tail, Contains-append_left, Contains-append_right, Contains-append_cases}
+use Rattle.std.proofs.lemmas.List.Elements.{All-head, All-tail}
 use Rattle.lore_run.specs.Types.{Oid, Edge, Value, Changes, Refusal, Syntax, UnknownName, TooManyObjects, OBJECTS, LEAVES, Reply, Changed, Rows, Refused}
 use Rattle.lore_base.specs.Bytes.{bytes_cmp}
 use Rattle.lore_base.specs.Names.{IsName, object_of}
 use Rattle.lore_base.specs.Walks.{oid_of, edge_of, edge_cmp}
 use Rattle.lore_base.specs.Databases.{OemGraph, Database, IsOrdered, new_database}
+use Rattle.lore_base.specs.Paths.{PathTree, seq, trees_of, leaves}
 use Rattle.lore_base.specs.ChangeSets.{IsGraphThen}
 use Rattle.lorel_lex.specs.declared.token_types.Kind.{Kind}
 use Rattle.lorel_lex.specs.Tokens.{HasForm}
-use Rattle.lorel_ast.specs.Tokens.{HasTokens}
-use Rattle.lorel_ast.specs.Trees as t
-use Rattle.lorel_ast.specs.Trees.{LiteralTree, RootedTree, StatementTree}
-use Rattle.lorel_ast.specs.Formed.{IsFormedLiteral}
-use Rattle.lorel_ast.specs.Sound.{IsSound}
-use Rattle.lorel_ast.proofs.CanonStatementLaws.{keeps_forms}
+use Rattle.lorel_trees.specs.Tokens.{HasTokens}
+use Rattle.lorel_trees.specs.Trees as t
+use Rattle.lorel_trees.specs.Trees.{LiteralTree, RootedTree, StatementTree}
+use Rattle.lorel_trees.specs.Formed.{IsFormedLiteral}
+use Rattle.lorel_trees.specs.Sound.{IsSound}
+use Rattle.lorel_trees.proofs.FormLaws.{sound_statement}
 use Rattle.oem_graph.proofs.NameLaws.{IsNameTable-names_after}
 use Rattle.oem_graph.proofs.ObjectLaws.{ascend-made, numbered-made}
-use Rattle.lore_run.specs.Built.{Built, load, select, built, built_path, only_path, plain_labels, has_local}
-use Rattle.lore_run.specs.Made.{Arc, size, bodies, arcs, labels_of, first_uses, IsNumbered}
-use Rattle.lore_run.specs.Statements.{refusal_of, Loads, Performs, ExecutesBuilt, Executes}
+use Rattle.lore_run.specs.Built.{Built, load, select, built, built_path, only_path, has_local}
+use Rattle.lore_run.specs.Made.{Arc, size, bodies, arcs, labels_of, IsNumbered}
+use Rattle.oem_labels.specs.Labels.{first_uses}
+use Rattle.lore_run.specs.Statements.{first_refusal, Loads, Performs, ExecutesBuilt, Executes}
 use Rattle.lore_run.specs.Sessions.{IsKept}
 use Rattle.lore_run.specs.SessionLaws.{SomeReply, ExecutesAlways}
 use Rattle.lore_run.proofs.MadeLaws.{length-bodies, bodies_numbered}
-use Rattle.lore_run.proofs.LabelLaws.{either, first_uses_distinct, first_uses_cover}
+use Rattle.oem_labels.proofs.LabelLaws.{either, first_uses_distinct, first_uses_cover}
 use Rattle.lore_run.proofs.NumberLaws.{place_from_Contains}
 use Rattle.lore_run.proofs.LoadLaws.{after_loads}
 use Rattle.lore_run.proofs.KeptLaws.{kept_after}
 use Rattle.lore_run.proofs.SessionLaws.{length-along}
+use Rattle.lore_run.proofs.GraphThenLaws.{members_of_both}
 use Rattle.lore_run.proofs.AscentLaws.{IsSetOf, some_ordered, edges_ordered}
-use Rattle.lore_run.proofs.SomeTargetLaws.{some_targets}
+use Rattle.lore_run.proofs.SomeReachedLaws.{some_reached}
 
 -- ---- what a load makes
 numbered_edges : (labels : List (List ℕ)) (arcs : List Arc) → All (Contains labels) (labels_of arcs)
@@ -77,13 +80,7 @@ module _ (db : Database) (name : List ℕ) (literal : LiteralTree) (plain : has_
       names = refl;
       objects = refl;
       edges_ascend = set.ascend;
-      edges = λ edge. (
-        λ h. Contains-append_cases db.graph.edges edges edge (set.only edge h),
-        λ h. set.kept edge (elim h [
-          | inl old ↦ Contains-append_left db.graph.edges edges edge old
-          | inr new ↦ Contains-append_right db.graph.edges edges edge new
-        ]),
-      );
+      edges = members_of_both db.graph.edges edges all set;
       next = ap (λ n. db.graph.next + n) (sym (length-bodies db.graph.next literal));
     }
 
@@ -123,10 +120,10 @@ record SomeBuilt (before : Database) (form : Built) : Type 0 where
   executed : ExecutesBuilt before form reply after
   kept : IsKept after
 
-some_refused : (db : Database) (form : Built) (refusal : Refusal) → refusal_of db form ≡ Some refusal → IsKept db → SomeBuilt db form
+some_refused : (db : Database) (form : Built) (refusal : Refusal) → first_refusal db form ≡ Some refusal → IsKept db → SomeBuilt db form
 some_refused db form refusal e kept = record { reply = Refused refusal; after = db; executed = rw e (refl, refl); kept = kept }
 
-some_performed : (db : Database) (form : Built) (reply : Reply) (after : Database) → refusal_of db form ≡ None → Performs db form reply after → IsKept after
+some_performed : (db : Database) (form : Built) (reply : Reply) (after : Database) → first_refusal db form ≡ None → Performs db form reply after → IsKept after
     → SomeBuilt db form
 some_performed db form reply after e performed kept = record { reply = reply; after = after; executed = rw e performed; kept = kept }
 
@@ -135,7 +132,7 @@ none_there None e = refl
 none_there (Some x) e = cc
 
 some_loaded : (db : Database) (name : List ℕ) (literal : LiteralTree) → IsKept db → IsName name → IsFormedLiteral literal → has_local literal ≡ false
-    → object_of db.graph.names name ≡ None → length db.graph.objects + size literal ≤ OBJECTS → refusal_of db (load name literal) ≡ None
+    → object_of db.graph.names name ≡ None → length db.graph.objects + size literal ≤ OBJECTS → first_refusal db (load name literal) ≡ None
     → SomeBuilt db (load name literal)
 some_loaded db name literal kept word formed plain unbound few unrefused =
     let list = arcs db.graph.next literal in
@@ -165,15 +162,15 @@ some_load db name literal kept word formed plain =
       ]
     ]
 
-some_select : (db : Database) (start : List ℕ) (labels : List (List ℕ)) → IsKept db → SomeBuilt db (select start labels)
-some_select db start labels kept =
+some_select : (db : Database) (start : List ℕ) (path : PathTree) → IsKept db → SomeBuilt db (select start path)
+some_select db start path kept =
     let refused : Option Oid → Option Refusal = λ o. if is_none o then Some UnknownName else None in
-    elim (object_of db.graph.names start) as (λ o. object_of db.graph.names start ≡ o → SomeBuilt db (select start labels)) [
-      | None ↦ λ e. some_refused db (select start labels) UnknownName (ap refused e) kept
+    elim (object_of db.graph.names start) as (λ o. object_of db.graph.names start ≡ o → SomeBuilt db (select start path)) [
+      | None ↦ λ e. some_refused db (select start path) UnknownName (ap refused e) kept
       | Some oid ↦ λ e. (
-          let found = some_targets db.labels db.graph.edges oid labels in
-          some_performed db (select start labels) (Rows found.0) db (ap refused e)
-          (refl, (found.0, refl, record { start = oid; named = e; found = found.1 })) kept)
+          let found = some_reached db.labels db.graph.edges path oid in
+          some_performed db (select start path) (Rows found.0) db (ap refused e)
+          (refl, (found.0, refl, record { start = oid; named = e; listed = found.1 })) kept)
     ] refl
 
 -- ---- a reply of a statement
@@ -184,23 +181,19 @@ from_built : (db : Database) (statement : StatementTree) (form : Built) → buil
 from_built db statement form e some = record { reply = some.reply; after = some.after; executed = rw e some.executed; kept = some.kept }
 
 -- a path is no form that is built, or a select
-path_built : (path : Option RootedTree) → (built_path path ≡ None) ⊎ ((start : List ℕ) × (labels : List (List ℕ)) × (built_path path ≡ Some (select start labels)))
+path_built : (path : Option RootedTree) → (built_path path ≡ None) ⊎ ((start : List ℕ) × (whole : PathTree) × (built_path path ≡ Some (select start whole)))
 path_built None = inl refl
 path_built (Some path) =
-    let made : Option (List (List ℕ)) → Option Built = λ o. option_map (λ labels. select path.start labels) o in
-    let whole : Bool → Option Built = λ b. if b then None else made (plain_labels path.parts) in
-    elim (either (nat_lt LEAVES (length path.parts))) [
-      | inl many ↦ inl (ap whole many)
-      | inr few ↦ elim (plain_labels path.parts) as (λ o. plain_labels path.parts ≡ o
-          → (built_path (Some path) ≡ None) ⊎ ((start : List ℕ) × (labels : List (List ℕ)) × (built_path (Some path) ≡ Some (select start labels)))) [
-            | None ↦ λ e. inl (ap whole few ∙ ap made e)
-            | Some labels ↦ λ e. inr (path.start, labels, ap whole few ∙ ap made e)
-          ] refl
+    let whole = seq (trees_of path.parts) in
+    let made : Bool → Option Built = λ b. if b then None else Some (select path.start whole) in
+    elim (either (nat_lt LEAVES (leaves whole))) [
+      | inl many ↦ inl (ap made many)
+      | inr few ↦ inr (path.start, whole, ap made few)
     ]
 
 pub executes_always : ExecutesAlways
 executes_always db (t.load name literal) kept sound =
-    let formed = keeps_forms.statement (t.load name literal) sound in
+    let formed = sound_statement (t.load name literal) sound in
     let whole : Bool → Option Built = λ b. if b then None else Some (load name literal) in
     elim (either (has_local literal)) [
       | inl marked ↦ unbuilt db (t.load name literal) (ap whole marked) kept
@@ -210,7 +203,7 @@ executes_always db (t.load name literal) kept sound =
 executes_always db (t.select query) kept sound =
     elim (path_built (only_path query.items query.tail.ranges query.tail.cond)) [
       | inl other ↦ unbuilt db (t.select query) other kept
-      | inr plain ↦ from_built db (t.select query) (select plain.0 plain.1) plain.2 (some_select db plain.0 plain.1 kept)
+      | inr short ↦ from_built db (t.select query) (select short.0 short.1) short.2 (some_select db short.0 short.1 kept)
     ]
 executes_always db statement kept sound = unbuilt db statement refl kept
 

@@ -12,9 +12,9 @@ use Rattle.lorel_lex.proofs.OutcomeLaws.{some_outcome}
 use Rattle.lorel_lex.proofs.TokenLaws.{formed}
 use Rattle.lorel_lex.specs.Faults.{refusal_of}
 use Rattle.lore_run.specs.Types.{Refusal, BadToken, RealRefused, NumberRange, TextTooLong, Syntax, Unfinished, Reply, Refused}
-use Rattle.lorel_ast.specs.Trees.{StatementTree}
-use Rattle.lorel_ast.specs.Sound.{IsSound}
-use Rattle.lorel_ast.specs.Tokens.{HasTokens}
+use Rattle.lorel_trees.specs.Trees.{StatementTree}
+use Rattle.lorel_trees.specs.Sound.{IsSound}
+use Rattle.lorel_trees.specs.Tokens.{HasTokens}
 use Rattle.lore_run.specs.Sessions.{IsKept}
 use Rattle.lore_run.specs.Statements.{Executes}
 use Rattle.lore_run.specs.Replies.{rendered}

@@ -1,10 +1,8 @@
 -- What a literal without locals makes: its objects, its edges, and the labels that it brings.
-use Rattle.std.specs.Prelude.{◌≡◌, ℕ, ◌+◌, List, [], ◌∷◌, ◌++◌, map, Some, slice_get, if◌then◌else◌}
-use Rattle.std.specs.List.{list_any}
-use Rattle.std.specs.Str.{bytes_eq}
+use Rattle.std.specs.Prelude.{◌≡◌, ℕ, ◌+◌, List, [], ◌∷◌, ◌++◌, map, Some, slice_get}
 use Rattle.lore_run.specs.Types.{Oid, Edge, Value, Complex}
 use Rattle.lore_base.specs.Walks.{oid_of}
-use Rattle.lorel_ast.specs.Trees.{LiteralTree, local, atom, node, MemberTrees, none, more}
+use Rattle.lorel_trees.specs.Trees.{LiteralTree, local, atom, node, MemberTrees, none, more}
 
 -- an edge whose label is still a text
 pub record Arc : Type 0 where
@@ -50,13 +48,6 @@ abbrev mutual
 
 abbrev pub labels_of : List Arc → List (List ℕ)
 labels_of arcs = map (λ arc. arc.label) arcs
-
--- the texts that are not known yet, each once, in the order of their first use
-abbrev pub first_uses : List (List ℕ) → List (List ℕ) → List (List ℕ)
-first_uses known [] = []
-first_uses known (text ∷ texts) =
-    if list_any (bytes_eq text) known then first_uses known texts
-    else (text ∷ first_uses (known ++ text ∷ []) texts)
 
 -- the edge is the arc, its label's number being the place of the text in the table
 pub record IsNumbered (labels : List (List ℕ)) (arc : Arc) (edge : Edge) : Type 0 where

@@ -8,8 +8,8 @@ use Rattle.lorel_lex.specs.Gaps.{IsBlank}
 use Rattle.lorel_lex.specs.declared.token_types.LexFault.{LexFault}
 use Rattle.lorel_lex.specs.Faults.{refusal_of}
 use Rattle.lorel_lex.specs.Tokens.{AreTokens, HasFault}
-use Rattle.lorel_ast.specs.Trees.{StatementTree}
-use Rattle.lorel_ast.specs.Tokens.{HasTokens}
+use Rattle.lorel_trees.specs.Trees.{StatementTree}
+use Rattle.lorel_trees.specs.Tokens.{HasTokens}
 use Rattle.lore_run.specs.Types.{Refusal, Syntax, Unfinished, Reply, Refused}
 use Rattle.lore_run.specs.Sessions.{IsKept}
 use Rattle.lore_run.specs.Statements.{Executes}

@@ -1,10 +1,11 @@
 -- Laws that make the meaning of one statement whole: its reply and the database after it are determined, and they exist
--- from each database that a session can have.
+-- from each database that a session can have; and so is the graph once changes are made.
 use Rattle.std.specs.Prelude.{◌≡◌}
-use Rattle.lore_base.specs.Databases.{Database, new_database}
-use Rattle.lorel_ast.specs.Trees.{StatementTree}
-use Rattle.lorel_ast.specs.Sound.{IsSound}
-use Rattle.lore_run.specs.Types.{Reply}
+use Rattle.lore_base.specs.Databases.{OemGraph, Database, new_database}
+use Rattle.lore_base.specs.ChangeSets.{IsGraphThen}
+use Rattle.lorel_trees.specs.Trees.{StatementTree}
+use Rattle.lorel_trees.specs.Sound.{IsSound}
+use Rattle.lore_run.specs.Types.{Changes, Reply}
 use Rattle.lore_run.specs.Sessions.{IsKept}
 use Rattle.lore_run.specs.Statements.{Executes}
 
@@ -29,3 +30,12 @@ ExecutesAlways =
 -- the new database is one that a session can have
 abbrev pub BeginsKept : Type 0
 BeginsKept = IsKept new_database
+
+-- changes that only add lead from a graph to one graph
+abbrev pub ChangesLeadToOne : Type 0
+ChangesLeadToOne = (before : OemGraph) (changes : Changes) (after other : OemGraph)
+    → IsGraphThen before changes after → IsGraphThen before changes other → after ≡ other
+
+-- and they lead to some
+abbrev pub ChangesLeadToSome : Type 0
+ChangesLeadToSome = (before : OemGraph) (changes : Changes) → (after : OemGraph) × IsGraphThen before changes after

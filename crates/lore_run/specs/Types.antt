@@ -5,7 +5,6 @@ pub use Rattle.lore_base.specs.declared.edges.Edge.{Edge}
 pub use Rattle.lore_base.specs.declared.values.Value.{Value}
 pub use Rattle.lore_base.specs.declared.values.Value.TheVariants.{Whole, Chars, Complex}
 pub use Rattle.lore_base.specs.declared.modes.Mode.TheVariants.{Auto}
-pub use Rattle.lore_base.specs.declared.paths.Pattern.TheVariants.{Plain}
 pub use Rattle.lore_base.specs.declared.change_set.Changes.{Changes}
 pub use Rattle.lore_base.specs.declared.refusals.Refusal.{Refusal}
 pub use Rattle.lore_base.specs.declared.refusals.Refusal.TheVariants.{BadToken, RealRefused, NumberRange, TextTooLong, Syntax, Unfinished, UnknownName, TooManyObjects}

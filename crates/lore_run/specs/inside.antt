@@ -1,5 +1,3 @@
-pub mod Parts
-pub mod LabelTables
-pub mod Targets
+pub mod Making
 pub mod Deliveries
 pub mod Turns

@@ -16,7 +16,7 @@ use crate::status::Status;
 use crate::tally::Tally;
 use lore_base::{Fault, NoMemory, Refusal, Sink, Steps};
 use lorel_lex::tokens;
-use lorel_parse::{ParseFault, parse};
+use lorel_parse::parse;
 use std::alloc::Global;
 use std::sync::ledger::Ledger;
 
@@ -64,7 +64,7 @@ pub(crate) fn run_rest<K: Sink>(
     respond(&Reply::Refused(Refusal::Unfinished), session, sink, tally)
 }
 
-// Executes a chunk and gives its reply.
+// Executes a chunk and gives its reply. Its tokens are gone before the statement is executed.
 fn answer<L: Ledger>(
     alloc: Global,
     text: &[u8],
@@ -75,14 +75,18 @@ fn answer<L: Ledger>(
     ensures ok { IfOk result (λ reply. Yields session.old (chunk text.now) reply session.new) }
     ensures err { OnErr result (session.new ≡ session.old) }
 {
-    let tokens = match tokens(alloc, text) {
-        Ok(tokens) => tokens,
+    let parsed = match tokens(alloc, text) {
+        Ok(tokens) => parse(alloc, &tokens),
         Err(fault) => return refused(&fault),
     };
-    match parse(alloc, &tokens) {
-        Ok(statement) => session.execute(alloc, &statement, steps),
-        Err(ParseFault::Syntax) => Ok(Reply::Refused(Refusal::Syntax)),
-        Err(ParseFault::NoMemory) => Err(NoMemory),
+    match parsed {
+        Ok(statement) => {
+            let reply = session.execute(alloc, &statement, steps);
+            // A drop that is written out is proved once; else it is proved in this function, at length.
+            drop(statement);
+            reply
+        }
+        Err(fault) => refused(&fault),
     }
 }
 

@@ -1,12 +1,9 @@
-ghost use Rattle.std.specs.Prelude.{◌≡◌, option_map, IfOk};
+ghost use Rattle.std.specs.Prelude.{◌≡◌, option_map};
 ghost use Rattle.std.specs.Option.{option_copied};
-ghost use Rattle.lore_base.specs.Paths.{path_tree, path_trees};
-ghost use Rattle.lorel_ast.specs.Trees.{rooted_tree, item_tree, select_tree};
-ghost use Rattle.lore_run.specs.Built.{item_path, only_path, plain_label, plain_labels};
+ghost use Rattle.lorel_trees.specs.Trees.{rooted_tree, item_tree, select_tree};
+ghost use Rattle.lore_run.specs.Built.{item_path, only_path};
 
-use lore_base::{NoMemory, OemText, Path, PathList, Pattern, TextList, TryCopy};
-use lorel_ast::{Item, Rooted, Select};
-use std::alloc::Global;
+use lorel_trees::{Item, Rooted, Select};
 
 /// The path of a select that has one item and no tail; None exactly where it has more.
 pub(crate) fn only_path(query: &Select) -> Option<&Rooted>
@@ -28,29 +25,5 @@ fn item_path(item: &Item) -> Option<&Rooted>
     match item {
         Item::Object(path) => Some(path),
         Item::PathOf(_) => None,
-    }
-}
-
-/// The labels of a path that has plain ones only; None exactly where a part is another.
-pub(crate) fn plain_labels(alloc: Global, parts: &PathList) -> Result<Option<TextList>, NoMemory>
-    ensures { IfOk result (λ found. found ≡ plain_labels (path_trees parts.now)) }
-{
-    let mut labels = TextList::new(alloc);
-    'parts: for part in parts.as_slice() {
-        let Some(label) = plain_label(part) else {
-            return Ok(None);
-        };
-        labels.push(label.try_copy(alloc)?)?;
-    }
-    Ok(Some(labels))
-}
-
-// The label of a part that is a plain one.
-fn plain_label(part: &Path) -> Option<&OemText>
-    ensures { option_copied result ≡ plain_label (path_tree part.now) }
-{
-    match part {
-        Path::Step(Pattern::Plain(label)) => Some(label),
-        _ => None,
     }
 }

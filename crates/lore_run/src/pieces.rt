@@ -4,7 +4,7 @@ ghost use Rattle.std.specs.Io.KnownBytes.{Consumes, Keeps, IsAtEnd};
 ghost use Rattle.lore_base.specs.Causes.{HasCause};
 ghost use Rattle.lore_base.specs.declared.limits.TheConstants.{SCRIPT_BYTES as THE_SCRIPT_BYTES};
 ghost use Rattle.lore_run.specs.Endings.{IsCausedBySink};
-ghost use Rattle.lore_run.specs.inside.Turns.{standing, IsRest, Advances, StopsIn};
+ghost use Rattle.lore_run.specs.inside.Turns.{standing, IsUnended, Advances, StopsIn};
 
 use crate::parts::run_chunk;
 use crate::sessions::Session;
@@ -63,14 +63,14 @@ pub(crate) fn run_piece<K: Sink, L: Ledger>(
     steps: &mut Steps<L>,
 ) -> Result<(), Status>
     requires unfailed { (reader.old.whole ≡ false) × (reader.old.failed ≡ false) }
-    requires rest { IsRest reader.old.held }
+    requires rest { IsUnended reader.old.held }
     requires room { tally.old.done + (length reader.old.held + length piece.now) + 1 < 2 ^ 64 }
     requires fewer { tally.old.refused ≤ tally.old.done }
     ensures ok { OnOk result (Advances
         (standing reader.old.held tally.old (K.written sink.old) session.old)
         piece.now (standing reader.new.held tally.new (K.written sink.new) session.new)) }
     ensures unfailed { OnOk result ((reader.new.whole ≡ false) × (reader.new.failed ≡ false)) }
-    ensures rest { OnOk result (IsRest reader.new.held) }
+    ensures rest { OnOk result (IsUnended reader.new.held) }
     ensures fewer { OnOk result (tally.new.refused ≤ tally.new.done) }
     ensures stopped { IfErr result (λ status. StopsIn status
         (standing reader.old.held tally.old (K.written sink.old) session.old)

@@ -2,7 +2,7 @@ ghost use Rattle.std.specs.Prelude.{◌≡◌, [], ◌∷◌, ◌++◌, OnOk, On
 ghost use Rattle.std.specs.Io.KnownBytes.{Appends};
 ghost use Rattle.std.specs.List.{flat_map};
 ghost use Rattle.lore_base.specs.Causes.{HasCause};
-ghost use Rattle.lore_base.specs.Quotes.{escape};
+ghost use Rattle.lore_base.specs.Quotes.{escape, in_quotes};
 ghost use Rattle.lore_run.specs.Replies.{printed, row_line, rendered, value_of};
 ghost use Rattle.lore_run.specs.inside.Deliveries.{Puts, AppendsProperFront};
 ghost use Rattle.lore_run.specs.Types.{Changed as ChangedReply, Rows as RowsReply};
@@ -11,6 +11,7 @@ ghost use Rattle.lore_run.specs.Types.{Refused as RefusedReply};
 use crate::out::Out;
 use crate::replies::Reply;
 use crate::reply_writer::ReplyWriter;
+use index_traits::ValueOf;
 use itoa::{Buffer, Integer};
 use lore_base::{Failed, Oid, Refusal, Sink, Value};
 use oem_graph::Graph;
@@ -120,7 +121,7 @@ fn put_value_of<O: Out>(oid: Oid, graph: &Graph, out: &mut O) -> Result<(), Fail
         (printed (value_of graph.now.graph.objects oid))
         (O.delivery out.new) result }
 {
-    put_value(graph.value(oid).unwrap_or(&Value::Complex), out)
+    put_value(graph.value_of(oid).unwrap_or(&Value::Complex), out)
 }
 
 /// Puts a value: decimal digits, a text in quotes, or empty braces for any complex object.
@@ -139,7 +140,7 @@ fn put_value<O: Out>(value: &Value, out: &mut O) -> Result<(), Failed>
 /// Puts a text in quotes.
 fn put_text<O: Out>(text: &[u8], out: &mut O) -> Result<(), Failed>
     ensures { Puts (O.delivery out.old)
-        (34 ∷ (flat_map (escape 34) text.now ++ 34 ∷ []))
+        (in_quotes 34 text.now)
         (O.delivery out.new) result }
 {
     out.put(b"\"")?;

@@ -4,7 +4,7 @@ ghost use Rattle.lore_base.specs.Causes.{Rose};
 ghost use Rattle.lore_base.specs.Databases.{new_database};
 ghost use Rattle.lore_run.specs.Endings.{KeepsLimits, outside, RunEnds, PrintsAll, IsDone};
 ghost use Rattle.lore_run.specs.Endings.{EndsWell, IsUntouched, IsCausedBySource, IsCausedBySink};
-ghost use Rattle.lore_run.specs.inside.Turns.{standing, IsRest, Finishes};
+ghost use Rattle.lore_run.specs.inside.Turns.{standing, IsUnended, Finishes};
 ghost use Rattle.lore_run.specs.declared.pieces.TheConstants.{PIECE_BYTES};
 
 use crate::parts::run_rest;

@@ -1,26 +1,29 @@
 ghost use Rattle.std.specs.Prelude.{◌≡◌, ◌+◌, ◌≤◌, false, [], ◌∷◌, length, None, nat_lt, IfOk, OnOk, OnErr};
-ghost use Rattle.lore_run.specs.Types.{OBJECTS as THE_OBJECTS};
+ghost use Rattle.lore_run.specs.Types.{OBJECTS as THE_OBJECTS, LEAVES as THE_LEAVES};
 ghost use Rattle.lore_base.specs.Names.{IsName, object_of};
 ghost use Rattle.lore_base.specs.Databases.{new_database};
+ghost use Rattle.lore_base.specs.Paths.{seq, trees_of, path_trees, leaves, Reaches};
+ghost use Rattle.lore_base.specs.TargetSets.{ListsInOrder};
 ghost use Rattle.lore_base.specs.ChangeSets.{OnlyAdds};
-ghost use Rattle.lorel_ast.specs.Trees.{literal_tree, select_tree, statement_tree, load, select};
-ghost use Rattle.lorel_ast.specs.Sound.{IsSound};
+ghost use Rattle.lorel_trees.specs.Trees.{literal_tree, select_tree, statement_tree, load, select};
+ghost use Rattle.lorel_trees.specs.Sound.{IsSound};
 ghost use Rattle.lore_run.specs.Built.{has_local};
 ghost use Rattle.lore_run.specs.Made.{size};
 ghost use Rattle.lore_run.specs.Statements.{Loads, Executes};
-ghost use Rattle.lorel_ast.specs.Formed.{IsFormedLiteral};
+ghost use Rattle.lorel_trees.specs.Formed.{IsFormedLiteral};
 
-use crate::label_table::LabelTable;
-use crate::made::{Part, count_bodies, has_local, instantiate};
-use crate::paths::{only_path, plain_labels};
+use crate::made::{Made, count_bodies, has_local, instantiate, texts_of};
+use crate::paths::only_path;
 use crate::replies::Reply;
-use crate::walk::targets;
 use lore_base::limits::{LEAVES, OBJECTS};
 use lore_base::{
-    Changes, EdgeBuf, NoMemory, ObjectList, OemText, Oid, OidBuf, Refusal, Steps, TryCopy,
+    Changes, EdgeBuf, NoMemory, ObjectList, OemText, Oid, OidBuf, PathList, Refusal, Steps,
 };
-use lorel_ast::{Literal, Select, Statement};
+use lorel_trees::{Literal, Select, Statement};
 use oem_graph::Graph;
+use oem_labels::LabelTable;
+use path_expr::{Automaton, leaf_count};
+use product_walk::forward;
 use std::alloc::Global;
 use std::marker::Model;
 use std::sync::ledger::Ledger;
@@ -38,9 +41,9 @@ impl Model for Session {
 
     ghost Value = { Database };
 
-    ghost view = { λ s. database_of s.labels.texts s.graph.graph };
+    ghost view = { λ s. database_of s.labels s.graph.graph };
 
-    ghost invariant = { λ s. IsKept (database_of s.labels.texts s.graph.graph) };
+    ghost invariant = { λ s. IsKept (database_of s.labels s.graph.graph) };
 }
 
 impl Session {
@@ -82,8 +85,8 @@ impl Session {
         &self.graph
     }
 
-    // Selects the target set of one plain path. Refused are each other select (`Syntax`) and a path that starts at no
-    // name (`UnknownName`).
+    // Selects what one path of at most 64 leaves reaches. Refused are each other select (`Syntax`)
+    // and a path that starts at no name (`UnknownName`).
     fn select<L: Ledger>(
         &self,
         alloc: Global,
@@ -96,21 +99,46 @@ impl Session {
         let Some(path) = only_path(query) else {
             return Ok(Reply::Refused(Refusal::Syntax));
         };
-        if LEAVES < path.parts.len() {
+        if (LEAVES as u64) < leaf_count(&path.parts) {
             return Ok(Reply::Refused(Refusal::Syntax));
         }
-        let Some(labels) = plain_labels(alloc, &path.parts)? else {
-            return Ok(Reply::Refused(Refusal::Syntax));
-        };
         let Some(start) = self.graph.name(&path.start) else {
             return Ok(Reply::Refused(Refusal::UnknownName));
         };
-        Ok(Reply::Rows(targets(alloc, &self.graph, &self.labels, start, &labels, steps)?))
+        Ok(Reply::Rows(self.reached(alloc, start, &path.parts, steps)?))
     }
 
-    // Loads a literal under a name: makes its objects and edges and binds the name to the first of them. Answers how
-    // many objects and edges there are then. Refused are a literal with a local and a name that is bound (`Syntax`), and
-    // more objects than a database holds (`TooManyObjects`).
+    // The objects that a path of these parts reaches from `start`, each once, in ascending order.
+    fn reached<L: Ledger>(
+        &self,
+        alloc: Global,
+        start: Oid,
+        parts: &PathList,
+        steps: &mut Steps<L>,
+    ) -> Result<OidBuf, NoMemory>
+        requires few { leaves (seq (trees_of (path_trees parts.now))) ≤ THE_LEAVES }
+        ensures { let path = seq (trees_of (path_trees parts.now)) in
+            let reaches = Reaches self.now.labels self.now.graph.edges path start in
+            IfOk result (λ found. ListsInOrder reaches found) }
+    {
+        let automaton = Automaton::in_turn(alloc, parts)?;
+        let mut found = OidBuf::new(alloc);
+        forward(
+            alloc,
+            &self.graph,
+            start,
+            &automaton,
+            &self.labels,
+            &mut found,
+            steps,
+        )?;
+        Ok(found)
+    }
+
+    // Loads a literal under a name: makes its objects and edges and binds the name to the first of
+    // them. Answers how many objects and edges there are then. Refused are a literal with a local
+    // and a name that is bound (`Syntax`), and more objects than a database holds
+    // (`TooManyObjects`).
     fn load(&mut self, alloc: Global, name: &OemText, literal: &Literal) -> Result<Reply, NoMemory>
         requires name { IsName name.now }
         requires literal { IsFormedLiteral (literal_tree literal.now) }
@@ -156,22 +184,20 @@ impl Session {
         ensures ok { OnOk result (Loads self.old name.now (literal_tree literal.now) self.new) }
         ensures err { OnErr result (self.new ≡ self.old) }
     {
-        let Part {
+        let Made {
             made,
             added,
             labels,
             root,
         } = instantiate(alloc, literal, self.graph.next(), &self.labels)?;
+        let new_labels = self.labels.plan_new(&texts_of(alloc, &labels)?)?;
         let changes = load_changes(alloc, made, added, name, root)?;
         let plan = self.graph.prepare(&changes, &OidBuf::new(alloc))?;
         let Ok(()) = self.graph.reserve(&plan) else {
             return Err(NoMemory);
         };
-        let Ok(()) = self.labels.reserve(labels.len()) else {
-            return Err(NoMemory);
-        };
         self.graph.commit(plan);
-        self.labels.append(labels);
+        self.labels.commit_new(new_labels);
         Ok(())
     }
 }

@@ -1,23 +1,24 @@
 -- Canonical derivations of conditions, for each place where a condition may stand.
 use Rattle.std.proofs.Common.{◌≡◌, ℕ, ◌+◌, ◌≤◌, List, ◌∷◌, codes, refl, ap, ◌∙◌, arith}
-use Rattle.lorel_ast.specs.Types.{Kind}
+use Rattle.lorel_trees.specs.Types.{Kind}
 use Rattle.lorel_lex.specs.declared.token_types.Kind.TheVariants as k
 use Rattle.lorel_lex.specs.declared.token_types.Sign.TheVariants as s
-use Rattle.lorel_ast.specs.Trees as t
-use Rattle.lorel_ast.specs.Grammar as g
-use Rattle.lorel_ast.specs.Paths.{text_of_name, spell_path, tree_path}
-use Rattle.lorel_ast.specs.Conditions.{spell_op, spell_operand, tree_operand, spell_cond, tree_cond, nest_cond, spell_more_conjs, trees_more_conjs, nest_more_conjs, spell_conj, tree_conj, nest_conj, spell_more_unaries, trees_more_unaries, nest_more_unaries, spell_unary, tree_unary, nest_unary}
-use Rattle.lorel_ast.specs.Printing.{alone, in_or, inside, print_cond, print_more_conds, print_rooted, print_operand}
+use Rattle.lorel_trees.specs.Trees as t
+use Rattle.lorel_trees.specs.Grammar as g
+use Rattle.lorel_trees.specs.Paths.{text_of_name, spell_path, tree_path}
+use Rattle.lorel_trees.specs.Conditions.{spell_op, spell_operand, tree_operand, spell_cond, tree_cond, nest_cond, spell_more_conjs, trees_more_conjs, nest_more_conjs, spell_conj, tree_conj, nest_conj, spell_more_unaries, trees_more_unaries, nest_more_unaries, spell_unary, tree_unary, nest_unary}
+use Rattle.lorel_ast.specs.declared.print_conditions.Standing.TheVariants.{Alone, InOr, Inside}
+use Rattle.lorel_ast.specs.Printing.{print_cond, print_more_conds, print_rooted, print_operand}
 use Rattle.lorel_ast.proofs.CanonPathLaws.{Canon, canon_path, canon_operand}
 
 abbrev pub CanonCond : t.CondTree → ℕ → Type 0
-CanonCond wanted limit = Canon spell_cond tree_cond nest_cond (λ tree. print_cond tree alone) wanted limit
+CanonCond wanted limit = Canon spell_cond tree_cond nest_cond (λ tree. print_cond tree Alone) wanted limit
 
 abbrev CanonConj : t.CondTree → ℕ → Type 0
-CanonConj wanted limit = Canon spell_conj tree_conj nest_conj (λ tree. print_cond tree in_or) wanted limit
+CanonConj wanted limit = Canon spell_conj tree_conj nest_conj (λ tree. print_cond tree InOr) wanted limit
 
 abbrev CanonUnary : t.CondTree → ℕ → Type 0
-CanonUnary wanted limit = Canon spell_unary tree_unary nest_unary (λ tree. print_cond tree inside) wanted limit
+CanonUnary wanted limit = Canon spell_unary tree_unary nest_unary (λ tree. print_cond tree Inside) wanted limit
 
 -- a condition is printed at each place within these depths
 record Prints (wanted : t.CondTree) (at_alone at_or at_inside : ℕ) : Type 0 where
@@ -30,8 +31,8 @@ deeper : {D T : Type 0} {spell : D → List Kind → List Kind} {tree : D → T}
 deeper above low one = record { by = one.by; spelled = one.spelled; same = one.same; deep = let fits = one.deep in omega arith }
 
 -- what is neither an `or` nor an `and` is printed alike everywhere
-simple : (wanted : t.CondTree) (limit : ℕ) → CanonUnary wanted limit → ((rest : List Kind) → print_cond wanted inside rest ≡ print_cond wanted in_or rest)
-    → ((rest : List Kind) → print_cond wanted inside rest ≡ print_cond wanted alone rest) → Prints wanted limit limit limit
+simple : (wanted : t.CondTree) (limit : ℕ) → CanonUnary wanted limit → ((rest : List Kind) → print_cond wanted Inside rest ≡ print_cond wanted InOr rest)
+    → ((rest : List Kind) → print_cond wanted Inside rest ≡ print_cond wanted Alone rest) → Prints wanted limit limit limit
 simple wanted limit one to_or to_alone = record {
   whole = record {
     by = g.conjs (g.unaries one.by g.no_unaries) g.no_conjs;
@@ -82,44 +83,44 @@ joined_or members limit one =
 
 -- a quantifier with its word, its variable, its path and its body
 exists_spelled : (name : g.Name) (path canonical : g.Path) (body : g.Unary) (tree : t.CondTree) → ((rest : List Kind) → spell_path canonical rest ≡ print_rooted (tree_path path) rest)
-    → ((rest : List Kind) → spell_unary body rest ≡ print_cond tree inside rest) → (rest : List Kind)
-    → spell_unary (g.exists name canonical body) rest ≡ print_cond (t.exists (text_of_name name) (tree_path path) tree) inside rest
+    → ((rest : List Kind) → spell_unary body rest ≡ print_cond tree Inside rest) → (rest : List Kind)
+    → spell_unary (g.exists name canonical body) rest ≡ print_cond (t.exists (text_of_name name) (tree_path path) tree) Inside rest
 exists_spelled (g.free text unreserved) path canonical body tree on of rest =
     ap (λ kinds. k.Word (codes "exists") ∷ k.Word text ∷ k.Word (codes "in") ∷ kinds)
     (on (k.Symbol s.Colon ∷ spell_unary body rest) ∙ ap (λ kinds. print_rooted (tree_path path) (k.Symbol s.Colon ∷ kinds)) (of rest))
 
 for_all_spelled : (name : g.Name) (path canonical : g.Path) (body : g.Unary) (tree : t.CondTree) → ((rest : List Kind) → spell_path canonical rest ≡ print_rooted (tree_path path) rest)
-    → ((rest : List Kind) → spell_unary body rest ≡ print_cond tree inside rest) → (rest : List Kind)
-    → spell_unary (g.for_all name canonical body) rest ≡ print_cond (t.for_all (text_of_name name) (tree_path path) tree) inside rest
+    → ((rest : List Kind) → spell_unary body rest ≡ print_cond tree Inside rest) → (rest : List Kind)
+    → spell_unary (g.for_all name canonical body) rest ≡ print_cond (t.for_all (text_of_name name) (tree_path path) tree) Inside rest
 for_all_spelled (g.free text unreserved) path canonical body tree on of rest =
     ap (λ kinds. k.Word (codes "for") ∷ k.Word (codes "all") ∷ k.Word text ∷ k.Word (codes "in") ∷ kinds)
     (on (k.Symbol s.Colon ∷ spell_unary body rest) ∙ ap (λ kinds. print_rooted (tree_path path) (k.Symbol s.Colon ∷ kinds)) (of rest))
 
 abbrev CanonUnaries : g.MoreUnaries → Type 0
-CanonUnaries others = Canon spell_more_unaries trees_more_unaries nest_more_unaries (λ trees. print_more_conds trees (codes "and") inside) (trees_more_unaries others) (nest_more_unaries others)
+CanonUnaries others = Canon spell_more_unaries trees_more_unaries nest_more_unaries (λ trees. print_more_conds trees (codes "and") Inside) (trees_more_unaries others) (nest_more_unaries others)
 
 abbrev CanonConjs : g.MoreConjs → Type 0
-CanonConjs others = Canon spell_more_conjs trees_more_conjs nest_more_conjs (λ trees. print_more_conds trees (codes "or") in_or) (trees_more_conjs others) (nest_more_conjs others)
+CanonConjs others = Canon spell_more_conjs trees_more_conjs nest_more_conjs (λ trees. print_more_conds trees (codes "or") InOr) (trees_more_conjs others) (nest_more_conjs others)
 
 -- two or more, where the second one and those behind it are known
 and_of : (first second : t.CondTree) (others : t.CondTrees) (a b c : ℕ) (limit : ℕ) → CanonUnary first a → CanonUnary second b
-    → Canon spell_more_unaries trees_more_unaries nest_more_unaries (λ trees. print_more_conds trees (codes "and") inside) others c
+    → Canon spell_more_unaries trees_more_unaries nest_more_unaries (λ trees. print_more_conds trees (codes "and") Inside) others c
     → a ≤ limit → b ≤ limit → c ≤ limit → CanonConj (t.and (t.cond first (t.cond second others))) limit
 and_of first second others a b c limit one two more low mid high = record {
   by = g.unaries one.by (g.and two.by more.by);
   spelled = λ rest. one.spelled (spell_more_unaries (g.and two.by more.by) rest)
-      ∙ ap (λ kinds. print_cond first inside (k.Word (codes "and") ∷ kinds)) (two.spelled (spell_more_unaries more.by rest) ∙ ap (print_cond second inside) (more.spelled rest));
+      ∙ ap (λ kinds. print_cond first Inside (k.Word (codes "and") ∷ kinds)) (two.spelled (spell_more_unaries more.by rest) ∙ ap (print_cond second Inside) (more.spelled rest));
   same = cc (one.same, two.same, more.same);
   deep = let x = one.deep in let y = two.deep in let z = more.deep in omega arith;
 }
 
 or_of : (first second : t.CondTree) (others : t.CondTrees) (a b c : ℕ) (limit : ℕ) → CanonConj first a → CanonConj second b
-    → Canon spell_more_conjs trees_more_conjs nest_more_conjs (λ trees. print_more_conds trees (codes "or") in_or) others c
+    → Canon spell_more_conjs trees_more_conjs nest_more_conjs (λ trees. print_more_conds trees (codes "or") InOr) others c
     → a ≤ limit → b ≤ limit → c ≤ limit → CanonCond (t.or (t.cond first (t.cond second others))) limit
 or_of first second others a b c limit one two more low mid high = record {
   by = g.conjs one.by (g.or two.by more.by);
   spelled = λ rest. one.spelled (spell_more_conjs (g.or two.by more.by) rest)
-      ∙ ap (λ kinds. print_cond first in_or (k.Word (codes "or") ∷ kinds)) (two.spelled (spell_more_conjs more.by rest) ∙ ap (print_cond second in_or) (more.spelled rest));
+      ∙ ap (λ kinds. print_cond first InOr (k.Word (codes "or") ∷ kinds)) (two.spelled (spell_more_conjs more.by rest) ∙ ap (print_cond second InOr) (more.spelled rest));
   same = cc (one.same, two.same, more.same);
   deep = let x = one.deep in let y = two.deep in let z = more.deep in omega arith;
 }
@@ -140,7 +141,7 @@ mutual
       let more = good_conjs others in
       record {
         by = g.or one.by more.by;
-        spelled = λ rest. ap (λ kinds. k.Word (codes "or") ∷ kinds) (one.spelled (spell_more_conjs more.by rest) ∙ ap (print_cond (tree_conj first) in_or) (more.spelled rest));
+        spelled = λ rest. ap (λ kinds. k.Word (codes "or") ∷ kinds) (one.spelled (spell_more_conjs more.by rest) ∙ ap (print_cond (tree_conj first) InOr) (more.spelled rest));
         same = cc (one.same, more.same);
         deep = let x = one.deep in let y = more.deep in omega arith;
       }
@@ -160,7 +161,7 @@ mutual
       let more = good_unaries others in
       record {
         by = g.and one.by more.by;
-        spelled = λ rest. ap (λ kinds. k.Word (codes "and") ∷ kinds) (one.spelled (spell_more_unaries more.by rest) ∙ ap (print_cond (tree_unary first) inside) (more.spelled rest));
+        spelled = λ rest. ap (λ kinds. k.Word (codes "and") ∷ kinds) (one.spelled (spell_more_unaries more.by rest) ∙ ap (print_cond (tree_unary first) Inside) (more.spelled rest));
         same = cc (one.same, more.same);
         deep = let x = one.deep in let y = more.deep in omega arith;
       }

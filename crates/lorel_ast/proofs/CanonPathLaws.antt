@@ -1,16 +1,16 @@
 -- Canonical derivations of labels, paths and literals.
 use Rattle.std.proofs.Common.{◌≡◌, ℕ, ◌≤◌, Bool, true, false, List, [], ◌∷◌, map, refl, ap, ◌∙◌, arith}
-use Rattle.lorel_ast.specs.Types.{Plain, Kind}
+use Rattle.lorel_trees.specs.Types.{Plain, Kind}
 use Rattle.lore_base.specs.Names.{is_identifier}
 use Rattle.lore_base.specs.Paths as p
 use Rattle.lorel_lex.specs.declared.token_types.Kind.TheVariants as k
 use Rattle.lorel_lex.specs.declared.token_types.Sign.TheVariants as s
-use Rattle.lorel_ast.specs.Trees as t
-use Rattle.lorel_ast.specs.Grammar as g
-use Rattle.lorel_ast.specs.Repetitions.{spell_each, nest_each}
-use Rattle.lorel_ast.specs.Paths.{spell_name, text_of_name, spell_label, text_of_label, spell_alt, trees_alt, nest_alt, spell_choices, trees_choices, nest_choices, spell_seq, tree_seq, nest_seq, spell_parts, trees_parts, nest_parts, spell_part, tree_part, nest_part, spell_base, tree_base, nest_base, spell_path, tree_path, nest_path}
-use Rattle.lorel_ast.specs.Literals.{spell_value, spell_atom, value_of_atom, spell_mark, spell_literal, tree_literal, nest_literal, spell_members, trees_members, nest_members, spell_more_members, trees_more_members, nest_more_members}
-use Rattle.lorel_ast.specs.Conditions.{spell_operand, tree_operand, nest_operand}
+use Rattle.lorel_trees.specs.Trees as t
+use Rattle.lorel_trees.specs.Grammar as g
+use Rattle.lorel_trees.specs.Repetitions.{spell_each, nest_each}
+use Rattle.lorel_trees.specs.Paths.{spell_name, text_of_name, spell_label, text_of_label, spell_alt, trees_alt, nest_alt, spell_choices, trees_choices, nest_choices, spell_seq, tree_seq, nest_seq, spell_parts, trees_parts, nest_parts, spell_part, tree_part, nest_part, spell_base, tree_base, nest_base, spell_path, tree_path, nest_path}
+use Rattle.lorel_trees.specs.Literals.{spell_value, spell_atom, value_of_atom, spell_mark, spell_literal, tree_literal, nest_literal, spell_members, trees_members, nest_members, spell_more_members, trees_more_members, nest_more_members}
+use Rattle.lorel_trees.specs.Conditions.{spell_operand, tree_operand, nest_operand}
 use Rattle.lorel_ast.specs.Printing.{label_token, print_label, print_part, print_alt, print_bars, print_steps, print_rooted, print_literal, print_members, print_more_members, print_operand}
 
 -- a derivation that spells the canonical tokens of a tree, stands for it, and nests no deeper than this

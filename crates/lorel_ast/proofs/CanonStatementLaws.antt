@@ -1,21 +1,21 @@
 -- Canonical derivations of tails, selects, dump texts and statements.
 use Rattle.std.proofs.Common.{List, [], ◌∷◌, codes, map, option_map, refl, ap, sym, ◌∙◌, Option, Some, None, arith}
-use Rattle.lorel_ast.specs.Types.{Oid, Kind}
+use Rattle.lorel_trees.specs.Types.{Oid, Kind}
 use Rattle.lorel_lex.specs.declared.token_types.Kind.TheVariants as k
 use Rattle.lorel_lex.specs.declared.token_types.Sign.TheVariants as s
-use Rattle.lorel_ast.specs.Trees as t
-use Rattle.lorel_ast.specs.Grammar as g
-use Rattle.lorel_ast.specs.Repetitions.{spell_each, nest_each}
-use Rattle.lorel_ast.specs.Paths.{spell_label, text_of_label, spell_path, tree_path}
-use Rattle.lorel_ast.specs.Literals.{spell_value, spell_literal, tree_literal}
-use Rattle.lorel_ast.specs.Selects.{spell_range, tree_range, nest_range, spell_from, spell_where, nest_where, spell_tail, tree_tail, nest_tail, spell_item, tree_item, nest_item, spell_select, tree_select, nest_select}
-use Rattle.lorel_ast.specs.Conditions.{tree_cond}
-use Rattle.lorel_ast.specs.Statements.{spell_mode, spell_oid, spell_dump_name, entry_of_name, spell_dump_edge, entry_of_edge, spell_dump_names, spell_dump_objects, spell_dump_edges, spell_dump_text, tree_dump_text, spell_statement, tree_statement, nest_statement}
+use Rattle.lorel_trees.specs.Trees as t
+use Rattle.lorel_trees.specs.Grammar as g
+use Rattle.lorel_trees.specs.Repetitions.{spell_each, nest_each}
+use Rattle.lorel_trees.specs.Paths.{spell_label, text_of_label, spell_path, tree_path}
+use Rattle.lorel_trees.specs.Literals.{spell_value, spell_literal, tree_literal}
+use Rattle.lorel_trees.specs.Selects.{spell_range, tree_range, nest_range, spell_from, spell_where, nest_where, spell_tail, tree_tail, nest_tail, spell_item, tree_item, nest_item, spell_select, tree_select, nest_select}
+use Rattle.lorel_trees.specs.Conditions.{tree_cond}
+use Rattle.lorel_trees.specs.Statements.{spell_mode, spell_oid, spell_dump_name, entry_of_name, spell_dump_edge, entry_of_edge, spell_dump_names, spell_dump_objects, spell_dump_edges, spell_dump_text, tree_dump_text, spell_statement, tree_statement, nest_statement}
 use Rattle.lorel_ast.specs.Printing.{print_label, print_rooted, print_literal, print_range, print_from, print_where, print_tail, print_item, print_more_items, print_select, print_dump_labels, print_dump_name, print_dump_names, print_dump_edge, print_dump, print_statement}
-use Rattle.lorel_ast.specs.Tokens.{HasTokens}
+use Rattle.lorel_trees.specs.Tokens.{HasTokens}
 use Rattle.lorel_ast.specs.PrintingLaws.{HasCanonical, PrintsBack}
-use Rattle.lorel_ast.specs.Formed.{KeepsForms}
-use Rattle.lorel_ast.proofs.FormLaws.{formed_all, sound_statement, sound_literal, sound_dump}
+use Rattle.lorel_ast.specs.Laws.{KeepsForms}
+use Rattle.lorel_trees.proofs.FormLaws.{formed_all, sound_statement, sound_literal, sound_dump}
 use Rattle.lorel_ast.proofs.PrintFormLaws.{statement_printed}
 use Rattle.lorel_ast.proofs.CanonPathLaws.{Canon, flat, canon_label, canon_each, canon_labels, canon_path, canon_literal}
 use Rattle.lorel_ast.proofs.CanonCondLaws.{canon_cond}

@@ -1,7 +1,7 @@
 -- A group is a choice of sequences, and the limit of nesting is reached.
 use Rattle.std.proofs.Common.{refl, lit≤}
-use Rattle.lorel_ast.specs.Grammar as g
-use Rattle.lorel_ast.specs.Paths.{tree_seq, trees_choices, tree_base}
+use Rattle.lorel_trees.specs.Grammar as g
+use Rattle.lorel_trees.specs.Paths.{tree_seq, trees_choices, tree_base}
 use Rattle.lorel_ast.specs.Laws.{IsSequence, AreSequences, IsChoice, MakesChoice, ReachesLimit, deep}
 
 sequence_of : (one : g.Seq) → IsSequence (tree_seq one)

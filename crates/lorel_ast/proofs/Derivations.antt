@@ -2,7 +2,7 @@
 use Rattle.std.proofs.Common.{◌≡◌, ℕ, false, List, [], ◌∷◌, codes, pos, neg_ℤ, Option, None}
 use Prim.Native.String.{String}
 use Rattle.lore_base.specs.Names.{is_reserved}
-use Rattle.lorel_ast.specs.Grammar as g
+use Rattle.lorel_trees.specs.Grammar as g
 
 -- names and labels
 abbrev pub name : (text : String) → is_reserved (codes text) ≡ false → g.Name

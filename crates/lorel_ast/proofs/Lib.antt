@@ -1,9 +1,6 @@
-pub mod CopyLaws
 pub mod Derivations
-pub mod TargetLaws
 pub mod LongestLaws
 pub mod ReservedLaws
-pub mod FormLaws
 pub mod PartLaws
 pub mod ChoiceLaws
 pub mod CanonPathLaws

@@ -1,12 +1,12 @@
 -- No path has a token `+=` or `-=`, so none goes on past one.
 use Rattle.std.proofs.Common.{◌≡◌, ℕ, suc, ◌+◌, ◌≤◌, ◌⊎◌, List, [], ◌∷◌, ◌++◌, length, refl, ap, sym, ◌∙◌, zero, inl, inr, arith, length-append, append_assoc}
-use Rattle.lorel_ast.specs.Types.{Kind}
+use Rattle.lorel_trees.specs.Types.{Kind}
 use Rattle.lorel_lex.specs.declared.token_types.Kind.TheVariants as k
 use Rattle.lorel_lex.specs.declared.token_types.Sign.TheVariants as s
-use Rattle.lorel_ast.specs.Grammar as g
-use Rattle.lorel_ast.specs.Paths.{spell_label, spell_name, spell_alt, spell_choices, spell_seq, spell_parts, spell_part, spell_base, spell_path}
+use Rattle.lorel_trees.specs.Grammar as g
+use Rattle.lorel_trees.specs.Paths.{spell_label, spell_name, spell_alt, spell_choices, spell_seq, spell_parts, spell_part, spell_base, spell_path}
 use Rattle.lorel_ast.specs.Laws.{Assigns, TakesLastLabel}
-use Rattle.lorel_ast.proofs.TargetLaws.{longer_path, is_joined, splits}
+use Rattle.lorel_trees.proofs.TargetLaws.{longer_path, is_joined, splits}
 
 -- 1 for `+=` and `-=`
 abbrev weight : Kind → ℕ

@@ -1,8 +1,8 @@
 -- A derivation nests as deep as the deepest one within, and one level more where it encloses it.
 use Rattle.std.proofs.Common.{◌≡◌, max, List, [], ◌∷◌, ◌++◌, map, Option, Some, None, refl, arith}
-use Rattle.lorel_ast.specs.Grammar as g
-use Rattle.lorel_ast.specs.Repetitions.{nest_each}
-use Rattle.lorel_ast.specs.Selects.{nest_where, nest_range, nest_item}
+use Rattle.lorel_trees.specs.Grammar as g
+use Rattle.lorel_trees.specs.Repetitions.{nest_each}
+use Rattle.lorel_trees.specs.Selects.{nest_where, nest_range, nest_item}
 use Rattle.lorel_ast.specs.Nesting as d
 use Rattle.lorel_ast.specs.Nesting.{Derivation, within, levels, nest_of, where_within, CountsWhatIsWithin}
 

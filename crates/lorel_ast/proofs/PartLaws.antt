@@ -1,19 +1,19 @@
 -- Literals and dump texts are sound where they are parts of a sound statement.
 use Rattle.std.proofs.Common.{◌≡◌, ℕ, ◌≤◌, List, [], ◌∷◌, ◌++◌, codes, refl, ap, ◌∙◌, subst, lit≤, Option, Some, None, arith}
-use Rattle.lorel_ast.specs.Types.{NESTING, Kind}
+use Rattle.lorel_trees.specs.Types.{NESTING, Kind}
 use Rattle.lorel_lex.specs.declared.token_types.Kind.TheVariants as k
 use Rattle.lorel_lex.specs.declared.token_types.Sign.TheVariants as s
 use Rattle.lorel_lex.specs.Tokens.{HasForm}
-use Rattle.lorel_ast.specs.declared.dump_trees.DumpTree.{DumpTree}
-use Rattle.lorel_ast.specs.Trees as t
-use Rattle.lorel_ast.specs.Grammar as g
-use Rattle.lorel_ast.specs.Paths.{spell_label}
-use Rattle.lorel_ast.specs.Literals.{spell_atom, spell_mark, spell_literal, spell_members, spell_more_members}
-use Rattle.lorel_ast.specs.Selects.{spell_tail}
-use Rattle.lorel_ast.specs.Statements.{spell_dump_text, spell_statement, tree_statement, nest_statement}
-use Rattle.lorel_ast.specs.Sound.{IsSound, IsSoundLiteral, IsSoundDump}
+use Rattle.lorel_trees.specs.declared.dump_trees.DumpTree.{DumpTree}
+use Rattle.lorel_trees.specs.Trees as t
+use Rattle.lorel_trees.specs.Grammar as g
+use Rattle.lorel_trees.specs.Paths.{spell_label}
+use Rattle.lorel_trees.specs.Literals.{spell_atom, spell_mark, spell_literal, spell_members, spell_more_members}
+use Rattle.lorel_trees.specs.Selects.{spell_tail}
+use Rattle.lorel_trees.specs.Statements.{spell_dump_text, spell_statement, tree_statement, nest_statement}
+use Rattle.lorel_trees.specs.Sound.{IsSound, IsSoundLiteral, IsSoundDump}
 use Rattle.lorel_ast.specs.Laws.{AreSoundParts, name_a}
-use Rattle.lorel_ast.proofs.FormLaws.{Formed, formed_from, formed_all, name_formed, label_formed, path_formed}
+use Rattle.lorel_trees.proofs.FormLaws.{Formed, formed_from, formed_all, name_formed, label_formed, path_formed}
 
 a_formed : HasForm (k.Word (codes "A"))
 a_formed = ((refl, refl), lit≤ tt)

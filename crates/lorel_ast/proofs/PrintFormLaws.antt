@@ -5,19 +5,21 @@ use Rattle.lore_base.specs.Names.{is_identifier, IsIdentifier, IsLabel, IsName}
 use Rattle.lore_base.specs.Databases.{IsSized}
 use Rattle.lore_base.proofs.WordLaws.{identifier_tested}
 use Rattle.lore_base.specs.Paths as p
-use Rattle.lorel_ast.specs.Types.{Kind, Oid, Value, Whole, Chars, Complex, Plain, Wild, Op, Eq, Ne, Lt, Le, Gt, Ge, Like, Mode, Auto, Top, Bottom, Guided, WORD_BYTES}
+use Rattle.lorel_trees.specs.Types.{Kind, Oid, Value, Whole, Chars, Complex, Plain, Wild, Op, Eq, Ne, Lt, Le, Gt, Ge, Like, Mode, Auto, Top, Bottom, Guided, WORD_BYTES}
 use Rattle.lorel_lex.specs.declared.token_types.Kind.TheVariants as k
 use Rattle.lorel_lex.specs.declared.token_types.Sign.TheVariants as s
 use Rattle.lorel_lex.specs.Tokens.{HasForm}
-use Rattle.lorel_ast.specs.declared.dump_trees.DumpTree.{DumpTree}
-use Rattle.lorel_ast.specs.Trees as t
-use Rattle.lorel_ast.specs.Repetitions.{spell_each}
-use Rattle.lorel_ast.specs.Literals.{spell_value, spell_mark}
-use Rattle.lorel_ast.specs.Conditions.{spell_op}
-use Rattle.lorel_ast.specs.Statements.{spell_mode, spell_dump_object}
-use Rattle.lorel_ast.specs.Formed.{IsFormedPath, AreFormedPaths, IsFormedRooted, IsFormedMark, IsFormedLiteral, AreFormedMembers, IsFormedOperand, IsFormedCond, AreFormedConds, IsFormedVariable, IsFormedFrom, IsFormedItem, IsFormedWhere, IsFormedTail, IsFormedSelect, IsFormedName, IsFormedObject, IsFormedEdge, IsFormedDump, IsFormedStatement}
-use Rattle.lorel_ast.specs.Printing.{label_token, print_label, print_part, print_parts, print_alt, print_bars, print_rooted, print_literal, print_members, print_more_members, print_operand, Place, alone, in_or, inside, print_cond, print_joined, print_more_conds, print_variables, print_range, print_from, print_where, print_tail, print_item, print_items, print_select, print_dump_name, print_dump_edge, print_dump, print_statement}
-use Rattle.lorel_ast.proofs.FormLaws.{Formed, are_formed}
+use Rattle.lorel_trees.specs.declared.dump_trees.DumpTree.{DumpTree}
+use Rattle.lorel_trees.specs.Trees as t
+use Rattle.lorel_trees.specs.Repetitions.{spell_each}
+use Rattle.lorel_trees.specs.Literals.{spell_value, spell_mark}
+use Rattle.lorel_trees.specs.Conditions.{spell_op}
+use Rattle.lorel_trees.specs.Statements.{spell_mode, spell_dump_object}
+use Rattle.lorel_trees.specs.Formed.{IsFormedPath, AreFormedPaths, IsFormedRooted, IsFormedMark, IsFormedLiteral, AreFormedMembers, IsFormedOperand, IsFormedCond, AreFormedConds, IsFormedVariable, IsFormedFrom, IsFormedItem, IsFormedWhere, IsFormedTail, IsFormedSelect, IsFormedName, IsFormedObject, IsFormedEdge, IsFormedDump, IsFormedStatement}
+use Rattle.lorel_ast.specs.declared.print_conditions.Standing.{Standing}
+use Rattle.lorel_ast.specs.declared.print_conditions.Standing.TheVariants.{Alone, InOr, Inside}
+use Rattle.lorel_ast.specs.Printing.{label_token, print_label, print_part, print_parts, print_alt, print_bars, print_rooted, print_literal, print_members, print_more_members, print_operand, print_cond, print_joined, print_more_conds, print_variables, print_range, print_from, print_where, print_tail, print_item, print_items, print_select, print_dump_name, print_dump_edge, print_dump, print_statement}
+use Rattle.lorel_trees.proofs.FormLaws.{Formed, are_formed}
 
 -- words and labels
 keyword : (text : List ℕ) → is_identifier text ≡ true → length text ≤ WORD_BYTES → HasForm (k.Word text)
@@ -118,27 +120,27 @@ in_form : HasForm (k.Word (codes "in"))
 in_form = keyword (codes "in") refl (lit≤ tt)
 
 mutual
-  cond_printed : (cond : t.CondTree) (place : Place) (rest : List Kind) → IsFormedCond cond → Formed rest → Formed (print_cond cond place rest)
-  cond_printed (t.or members) alone rest are formed = joined_printed members (codes "or") in_or rest or_form are formed
-  cond_printed (t.or members) in_or rest are formed = (tt, joined_printed members (codes "or") in_or (k.Symbol s.RightParen ∷ rest) or_form are (tt, formed))
-  cond_printed (t.or members) inside rest are formed = (tt, joined_printed members (codes "or") in_or (k.Symbol s.RightParen ∷ rest) or_form are (tt, formed))
-  cond_printed (t.and members) alone rest are formed = joined_printed members (codes "and") inside rest and_form are formed
-  cond_printed (t.and members) in_or rest are formed = joined_printed members (codes "and") inside rest and_form are formed
-  cond_printed (t.and members) inside rest are formed = (tt, joined_printed members (codes "and") inside (k.Symbol s.RightParen ∷ rest) and_form are (tt, formed))
-  cond_printed (t.not body) place rest is formed = (keyword (codes "not") refl (lit≤ tt), cond_printed body inside rest is formed)
+  cond_printed : (cond : t.CondTree) (place : Standing) (rest : List Kind) → IsFormedCond cond → Formed rest → Formed (print_cond cond place rest)
+  cond_printed (t.or members) Alone rest are formed = joined_printed members (codes "or") InOr rest or_form are formed
+  cond_printed (t.or members) InOr rest are formed = (tt, joined_printed members (codes "or") InOr (k.Symbol s.RightParen ∷ rest) or_form are (tt, formed))
+  cond_printed (t.or members) Inside rest are formed = (tt, joined_printed members (codes "or") InOr (k.Symbol s.RightParen ∷ rest) or_form are (tt, formed))
+  cond_printed (t.and members) Alone rest are formed = joined_printed members (codes "and") Inside rest and_form are formed
+  cond_printed (t.and members) InOr rest are formed = joined_printed members (codes "and") Inside rest and_form are formed
+  cond_printed (t.and members) Inside rest are formed = (tt, joined_printed members (codes "and") Inside (k.Symbol s.RightParen ∷ rest) and_form are (tt, formed))
+  cond_printed (t.not body) place rest is formed = (keyword (codes "not") refl (lit≤ tt), cond_printed body Inside rest is formed)
   cond_printed (t.exists variable path body) place rest (named, on, is) formed =
-      (keyword (codes "exists") refl (lit≤ tt), (name_printed variable named, (in_form, rooted_printed path _ on (tt, cond_printed body inside rest is formed))))
+      (keyword (codes "exists") refl (lit≤ tt), (name_printed variable named, (in_form, rooted_printed path _ on (tt, cond_printed body Inside rest is formed))))
   cond_printed (t.for_all variable path body) place rest (named, on, is) formed =
-      (keyword (codes "for") refl (lit≤ tt), (keyword (codes "all") refl (lit≤ tt), (name_printed variable named, (in_form, rooted_printed path _ on (tt, cond_printed body inside rest is formed)))))
+      (keyword (codes "for") refl (lit≤ tt), (keyword (codes "all") refl (lit≤ tt), (name_printed variable named, (in_form, rooted_printed path _ on (tt, cond_printed body Inside rest is formed)))))
   cond_printed (t.compare left op right) place rest (is, also) formed = operand_printed left _ is (op_printed op _ (operand_printed right rest also formed))
   cond_printed (t.same left right) place rest (is, also) formed = rooted_printed left _ is (tt, rooted_printed right rest also formed)
 
-  joined_printed : (members : t.CondTrees) (join : List ℕ) (place : Place) (rest : List Kind) → HasForm (k.Word join) → AreFormedConds members → Formed rest
+  joined_printed : (members : t.CondTrees) (join : List ℕ) (place : Standing) (rest : List Kind) → HasForm (k.Word join) → AreFormedConds members → Formed rest
       → Formed (print_joined members join place rest)
   joined_printed t.no_cond join place rest form are formed = formed
   joined_printed (t.cond first others) join place rest form (is, are) formed = cond_printed first place _ is (more_conds_printed others join place rest form are formed)
 
-  more_conds_printed : (members : t.CondTrees) (join : List ℕ) (place : Place) (rest : List Kind) → HasForm (k.Word join) → AreFormedConds members → Formed rest
+  more_conds_printed : (members : t.CondTrees) (join : List ℕ) (place : Standing) (rest : List Kind) → HasForm (k.Word join) → AreFormedConds members → Formed rest
       → Formed (print_more_conds members join place rest)
   more_conds_printed t.no_cond join place rest form are formed = formed
   more_conds_printed (t.cond first others) join place rest form (is, are) formed = (form, cond_printed first place _ is (more_conds_printed others join place rest form are formed))
@@ -164,7 +166,7 @@ from_printed (first ∷ others) rest are formed = (
 
 where_printed : (cond : Option t.CondTree) (rest : List Kind) → IsFormedWhere cond → Formed rest → Formed (print_where cond rest)
 where_printed None rest is formed = formed
-where_printed (Some cond) rest is formed = (keyword (codes "where") refl (lit≤ tt), cond_printed cond alone rest is formed)
+where_printed (Some cond) rest is formed = (keyword (codes "where") refl (lit≤ tt), cond_printed cond Alone rest is formed)
 
 tail_printed : (tail : t.TailTree) (rest : List Kind) → IsFormedTail tail → Formed rest → Formed (print_tail tail rest)
 tail_printed tail rest is formed = from_printed tail.ranges _ is.ranges (where_printed tail.cond rest is.cond formed)

@@ -2,12 +2,12 @@
 use Rattle.std.proofs.Common.{◌≡◌, ℕ, true, false, List, [], ◌∷◌, codes, Bool, refl, ap, sym, ◌∙◌, lit≤, None}
 use Rattle.std.specs.Str.{bytes_eq}
 use Rattle.lore_base.specs.Names.{is_reserved}
-use Rattle.lorel_ast.specs.Types.{Kind}
+use Rattle.lorel_trees.specs.Types.{Kind}
 use Rattle.lorel_lex.specs.declared.token_types.Kind.TheVariants as k
-use Rattle.lorel_ast.specs.Grammar as g
-use Rattle.lorel_ast.specs.Paths.{text_of_name}
-use Rattle.lorel_ast.specs.Statements.{spell_statement}
-use Rattle.lorel_ast.specs.Tokens.{HasTokens}
+use Rattle.lorel_trees.specs.Grammar as g
+use Rattle.lorel_trees.specs.Paths.{text_of_name}
+use Rattle.lorel_trees.specs.Statements.{spell_statement}
+use Rattle.lorel_trees.specs.Tokens.{HasTokens}
 use Rattle.lorel_ast.specs.Laws.{labelled, KeepsReservedWords}
 
 unreserved : (name : g.Name) → is_reserved (text_of_name name) ≡ false

@@ -2,13 +2,13 @@
 use Rattle.std.proofs.Common.{◌≡◌, ℕ, ◌+◌, Bool, false, if◌then◌else◌, List, [], ◌∷◌, codes, Option, Some, None, refl, ap, sym, ◌∙◌}
 use Rattle.std.specs.Str.{bytes_eq}
 use Rattle.lore_base.specs.Names.{is_reserved}
-use Rattle.lorel_ast.specs.Types.{Kind, Op, Eq, Ne, Lt, Le, Gt, Ge, Like}
+use Rattle.lorel_trees.specs.Types.{Kind, Op, Eq, Ne, Lt, Le, Gt, Ge, Like}
 use Rattle.lorel_lex.specs.declared.token_types.Kind.TheVariants as k
 use Rattle.lorel_lex.specs.declared.token_types.Sign.TheVariants as s
-use Rattle.lorel_ast.specs.Trees as t
-use Rattle.lorel_ast.specs.Grammar as g
-use Rattle.lorel_ast.specs.Paths.{spell_name, text_of_name, spell_path, tree_path, nest_path}
-use Rattle.lorel_ast.specs.Conditions.{spell_op, spell_operand, tree_operand, nest_operand, joined, spell_cond, tree_cond, nest_cond, spell_more_conjs, trees_more_conjs, nest_more_conjs, spell_conj, tree_conj, nest_conj, spell_more_unaries, trees_more_unaries, nest_more_unaries, spell_unary, tree_unary, nest_unary}
+use Rattle.lorel_trees.specs.Trees as t
+use Rattle.lorel_trees.specs.Grammar as g
+use Rattle.lorel_trees.specs.Paths.{spell_name, text_of_name, spell_path, tree_path, nest_path}
+use Rattle.lorel_trees.specs.Conditions.{spell_op, spell_operand, tree_operand, nest_operand, joined, spell_cond, tree_cond, nest_cond, spell_more_conjs, trees_more_conjs, nest_more_conjs, spell_conj, tree_conj, nest_conj, spell_more_unaries, trees_more_unaries, nest_more_unaries, spell_unary, tree_unary, nest_unary}
 use Rattle.lorel_ast.proofs.UniquePathLaws.{Alike, or_left, or_right, first, goes_on, told_apart, name_unique, path_unique, atom_unique}
 
 -- comparisons

@@ -1,15 +1,15 @@
 -- Paths and literals: what spells the same tokens has one tree, nests alike, and is followed by the same.
 use Rattle.std.proofs.Common.{◌≡◌, ℕ, ◌+◌, Bool, true, false, ◌||◌, List, [], ◌∷◌, ◌++◌, map, Option, Some, None, refl, ap, sym, ◌∙◌}
 use Rattle.lore_base.specs.Paths as p
-use Rattle.lorel_ast.specs.Types.{Kind, Plain}
+use Rattle.lorel_trees.specs.Types.{Kind, Plain}
 use Rattle.lorel_lex.specs.declared.token_types.Kind.TheVariants as k
 use Rattle.lorel_lex.specs.declared.token_types.Sign.TheVariants as s
-use Rattle.lorel_ast.specs.Trees as t
-use Rattle.lorel_ast.specs.Grammar as g
-use Rattle.lorel_ast.specs.Repetitions.{spell_each, nest_each}
-use Rattle.lorel_ast.specs.Paths.{spell_name, text_of_name, spell_label, text_of_label, spell_alt, trees_alt, nest_alt, spell_choices, trees_choices, nest_choices, spell_seq, tree_seq, nest_seq, spell_parts, trees_parts, nest_parts, spell_part, tree_part, nest_part, spell_base, tree_base, nest_base, spell_path, tree_path, nest_path}
-use Rattle.lorel_ast.specs.Literals.{spell_atom, value_of_atom, spell_mark, spell_literal, tree_literal, nest_literal, spell_members, trees_members, nest_members, spell_more_members, trees_more_members, nest_more_members}
-use Rattle.lorel_ast.proofs.TargetLaws.{longer_path, is_joined}
+use Rattle.lorel_trees.specs.Trees as t
+use Rattle.lorel_trees.specs.Grammar as g
+use Rattle.lorel_trees.specs.Repetitions.{spell_each, nest_each}
+use Rattle.lorel_trees.specs.Paths.{spell_name, text_of_name, spell_label, text_of_label, spell_alt, trees_alt, nest_alt, spell_choices, trees_choices, nest_choices, spell_seq, tree_seq, nest_seq, spell_parts, trees_parts, nest_parts, spell_part, tree_part, nest_part, spell_base, tree_base, nest_base, spell_path, tree_path, nest_path}
+use Rattle.lorel_trees.specs.Literals.{spell_atom, value_of_atom, spell_mark, spell_literal, tree_literal, nest_literal, spell_members, trees_members, nest_members, spell_more_members, trees_more_members, nest_more_members}
+use Rattle.lorel_trees.proofs.TargetLaws.{longer_path, is_joined}
 
 -- two derivations have one tree and nest alike, and the same follows them
 pub record Alike {D T : Type 0} (tree : D → T) (nest : D → ℕ) (one other : D) (rest behind : List Kind) : Type 0 where

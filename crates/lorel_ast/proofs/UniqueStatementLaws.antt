@@ -3,20 +3,20 @@ use Rattle.std.proofs.Common.{◌≡◌, ℕ, Bool, true, false, if◌then◌els
 use Rattle.std.specs.Str.{bytes_eq}
 use Rattle.lore_base.specs.Names.{is_reserved}
 use Rattle.lore_base.specs.Walks.{oid_of}
-use Rattle.lorel_ast.proofs.CopyLaws.{copied_same}
-use Rattle.lorel_ast.specs.Types.{Kind, Oid, Value, Whole, Chars, Complex, Mode, Auto, Top, Bottom, Guided}
+use Rattle.lorel_trees.proofs.CopyLaws.{copied_same}
+use Rattle.lorel_trees.specs.Types.{Kind, Oid, Value, Whole, Chars, Complex, Mode, Auto, Top, Bottom, Guided}
 use Rattle.lorel_lex.specs.declared.token_types.Kind.TheVariants as k
 use Rattle.lorel_lex.specs.declared.token_types.Sign.TheVariants as s
-use Rattle.lorel_ast.specs.Trees as t
-use Rattle.lorel_ast.specs.Grammar as g
-use Rattle.lorel_ast.specs.Repetitions.{spell_each, nest_each}
-use Rattle.lorel_ast.specs.Paths.{spell_label, text_of_label, spell_path}
-use Rattle.lorel_ast.specs.Literals.{spell_value, spell_literal}
-use Rattle.lorel_ast.specs.Conditions.{tree_cond}
-use Rattle.lorel_ast.specs.Selects.{spell_range, tree_range, nest_range, spell_from, spell_where, nest_where, spell_tail, tree_tail, nest_tail, spell_item, tree_item, nest_item, spell_select, tree_select, nest_select}
-use Rattle.lorel_ast.specs.Statements.{spell_mode, spell_oid, spell_dump_name, entry_of_name, spell_dump_object, spell_dump_edge, entry_of_edge, spell_dump_labels, spell_dump_names, spell_dump_objects, spell_dump_edges, spell_dump_text, tree_dump_text, spell_statement, tree_statement, nest_statement}
+use Rattle.lorel_trees.specs.Trees as t
+use Rattle.lorel_trees.specs.Grammar as g
+use Rattle.lorel_trees.specs.Repetitions.{spell_each, nest_each}
+use Rattle.lorel_trees.specs.Paths.{spell_label, text_of_label, spell_path}
+use Rattle.lorel_trees.specs.Literals.{spell_value, spell_literal}
+use Rattle.lorel_trees.specs.Conditions.{tree_cond}
+use Rattle.lorel_trees.specs.Selects.{spell_range, tree_range, nest_range, spell_from, spell_where, nest_where, spell_tail, tree_tail, nest_tail, spell_item, tree_item, nest_item, spell_select, tree_select, nest_select}
+use Rattle.lorel_trees.specs.Statements.{spell_mode, spell_oid, spell_dump_name, entry_of_name, spell_dump_object, spell_dump_edge, entry_of_edge, spell_dump_labels, spell_dump_names, spell_dump_objects, spell_dump_edges, spell_dump_text, tree_dump_text, spell_statement, tree_statement, nest_statement}
 use Rattle.lorel_ast.specs.Laws.{AreDetermined, RefusesDeeper}
-use Rattle.lorel_ast.proofs.TargetLaws.{longer_path, is_joined}
+use Rattle.lorel_trees.proofs.TargetLaws.{longer_path, is_joined}
 use Rattle.lorel_ast.proofs.UniquePathLaws.{Alike, first, goes_on, told_apart, name_unique, label_unique, each_end, each_unique, path_unique, target_unique, value_form, literal_unique}
 use Rattle.lorel_ast.proofs.UniqueCondLaws.{behind_first, is_word, EndsCond, cond_unique}
 

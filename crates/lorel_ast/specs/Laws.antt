@@ -1,18 +1,20 @@
 -- What the grammar means, in laws that a reader can hold against it.
 use Rattle.std.specs.Prelude.{◌≡◌, ℕ, zero, suc, ◌+◌, ◌<◌, ◌≤◌, true, false, List, [], ◌∷◌, ◌++◌, length, codes, refl, ◌⊎◌, Some, None, ⊤}
-use Rattle.lorel_ast.specs.Types.{NESTING, Plain, Kind}
+use Rattle.lorel_trees.specs.Types.{NESTING, Plain, Kind}
 use Rattle.lore_base.specs.Names.{is_reserved}
 use Rattle.lore_base.specs.Paths as p
 use Rattle.lorel_lex.specs.declared.token_types.Kind.TheVariants as k
 use Rattle.lorel_lex.specs.declared.token_types.Sign.TheVariants as s
-use Rattle.lorel_ast.specs.declared.dump_trees.DumpTree.{DumpTree}
-use Rattle.lorel_ast.specs.Trees as t
-use Rattle.lorel_ast.specs.Grammar as g
-use Rattle.lorel_ast.specs.Paths.{text_of_name, text_of_label, spell_alt, spell_base, tree_base, spell_path, tree_path, nest_path, spell_label}
-use Rattle.lorel_ast.specs.Conditions.{spell_cond, tree_cond, trees_more_conjs, tree_conj, trees_more_unaries, spell_unary, tree_unary}
-use Rattle.lorel_ast.specs.Statements.{spell_statement, tree_statement, nest_statement}
-use Rattle.lorel_ast.specs.Tokens.{HasTokens, IsUnambiguous}
-use Rattle.lorel_ast.specs.Sound.{IsSound, IsSoundLiteral, IsSoundDump}
+use Rattle.lorel_trees.specs.declared.dump_trees.DumpTree.{DumpTree}
+use Rattle.lorel_trees.specs.Trees as t
+use Rattle.lorel_trees.specs.Grammar as g
+use Rattle.lorel_trees.specs.Paths.{text_of_name, text_of_label, spell_alt, spell_base, tree_base, spell_path, tree_path, nest_path, spell_label}
+use Rattle.lorel_trees.specs.Conditions.{spell_cond, tree_cond, trees_more_conjs, tree_conj, trees_more_unaries, spell_unary, tree_unary}
+use Rattle.lorel_trees.specs.Statements.{spell_statement, tree_statement, nest_statement}
+use Rattle.lorel_trees.specs.Tokens.{HasTokens, IsUnambiguous}
+use Rattle.lorel_trees.specs.Sound.{IsSound, IsSoundLiteral, IsSoundDump}
+use Rattle.lorel_trees.specs.Formed.{IsFormedLiteral, IsFormedDump, IsFormedStatement}
+use Rattle.lorel_trees.specs.Targets.{IsJoined}
 
 -- no statement has the empty list of tokens
 abbrev pub HasSomeToken : Type 0
@@ -75,14 +77,6 @@ abbrev pub RefusesDeeper : Type 0
 RefusesDeeper =
     (by : g.Statement) → NESTING < nest_statement by → (statement : t.StatementTree)
     → HasTokens statement (spell_statement by []) → ⊥
-
--- this path is the target, a dot and the label
-pub record IsJoined (path target : g.Path) (last : g.Label) : Type 0 where
-  pub spelled : (rest : List Kind)
-      → spell_path path rest ≡ spell_path target (k.Symbol s.Dot ∷ spell_label last rest)
-  pub start : (tree_path path).start ≡ (tree_path target).start
-  pub parts : (tree_path path).parts ≡ (tree_path target).parts ++ p.step (Plain (text_of_label last)) ∷ []
-  pub nest : nest_path path ≡ nest_path target
 
 -- what stands before `+=` or `-=` is a path: the target with the label. No path that begins there takes more
 -- tokens. And any path that ends in a plain label is a target with a label
@@ -161,3 +155,13 @@ pub record AreSoundParts : Type 0 where
       → IsSound (t.add_new target label literal tail) → IsSoundLiteral literal
   pub text : (text : DumpTree) → IsSoundDump text → IsSound (t.restore text)
   pub restored : (text : DumpTree) → IsSound (t.restore text) → IsSoundDump text
+
+-- the texts and numbers of what is sound keep their forms and limits, and a statement whose texts and numbers
+-- do is sound where it has tokens
+pub record KeepsForms : Type 0 where
+  pub statement : (statement : t.StatementTree) → IsSound statement → IsFormedStatement statement
+  pub literal : (literal : t.LiteralTree) → IsSoundLiteral literal → IsFormedLiteral literal
+  pub dump : (text : DumpTree) → IsSoundDump text → IsFormedDump text
+  pub enough : (statement : t.StatementTree) (kinds : List Kind) → HasTokens statement kinds
+      → IsFormedStatement statement
+      → IsSound statement

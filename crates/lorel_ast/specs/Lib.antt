@@ -1,16 +1,3 @@
-pub mod Types
-pub mod Trees
-pub mod UpdateRows
-pub mod Grammar
-pub mod Repetitions
-pub mod Paths
-pub mod Literals
-pub mod Conditions
-pub mod Selects
-pub mod Statements
-pub mod Tokens
-pub mod Sound
-pub mod Formed
 pub mod Printing
 pub mod PrintingLaws
 pub mod PrintedText

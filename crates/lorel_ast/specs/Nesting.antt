@@ -1,13 +1,13 @@
 -- What stands directly within each derivation, and which derivations enclose it: a table to hold the nesting
 -- of derivations against.
 use Rattle.std.specs.Prelude.{◌≡◌, ℕ, ◌+◌, List, [], ◌∷◌, ◌++◌, map, Option, Some, None}
-use Rattle.lorel_ast.specs.Grammar as g
-use Rattle.lorel_ast.specs.Repetitions.{nest_each}
-use Rattle.lorel_ast.specs.Paths.{nest_alt, nest_choices, nest_seq, nest_parts, nest_part, nest_base, nest_path}
-use Rattle.lorel_ast.specs.Literals.{nest_literal, nest_members, nest_more_members, nest_member}
-use Rattle.lorel_ast.specs.Conditions.{nest_operand, nest_cond, nest_more_conjs, nest_conj, nest_more_unaries, nest_unary}
-use Rattle.lorel_ast.specs.Selects.{nest_range, nest_tail, nest_item, nest_select}
-use Rattle.lorel_ast.specs.Statements.{nest_addition, nest_statement}
+use Rattle.lorel_trees.specs.Grammar as g
+use Rattle.lorel_trees.specs.Repetitions.{nest_each}
+use Rattle.lorel_trees.specs.Paths.{nest_alt, nest_choices, nest_seq, nest_parts, nest_part, nest_base, nest_path}
+use Rattle.lorel_trees.specs.Literals.{nest_literal, nest_members, nest_more_members, nest_member}
+use Rattle.lorel_trees.specs.Conditions.{nest_operand, nest_cond, nest_more_conjs, nest_conj, nest_more_unaries, nest_unary}
+use Rattle.lorel_trees.specs.Selects.{nest_range, nest_tail, nest_item, nest_select}
+use Rattle.lorel_trees.specs.Statements.{nest_addition, nest_statement}
 
 -- a derivation by a rule within which something may be enclosed
 pub data Derivation : Type 0 where

@@ -1,9 +1,9 @@
 -- The text of a statement is read back as the statement.
 use Rattle.std.specs.Prelude.{[]}
 use Rattle.lorel_lex.specs.Writing.{line_text, HasKinds}
-use Rattle.lorel_ast.specs.Trees.{StatementTree}
-use Rattle.lorel_ast.specs.Tokens.{HasTokens}
-use Rattle.lorel_ast.specs.Sound.{IsSound}
+use Rattle.lorel_trees.specs.Trees.{StatementTree}
+use Rattle.lorel_trees.specs.Tokens.{HasTokens}
+use Rattle.lorel_trees.specs.Sound.{IsSound}
 use Rattle.lorel_ast.specs.Printing.{print_statement, HasUtf8Texts}
 
 -- the text has the canonical tokens of the statement, and these are tokens of it

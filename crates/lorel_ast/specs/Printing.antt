@@ -1,17 +1,19 @@
 -- The canonical tokens of a tree, with those that follow: what `print_statement` writes.
 use Rattle.std.specs.Prelude.{ℕ, Bool, true, false, List, [], ◌∷◌, codes, Option, Some, None, All}
-use Rattle.lorel_ast.specs.Types.{Oid, Plain, Wild, Kind}
+use Rattle.lorel_trees.specs.Types.{Oid, Plain, Wild, Kind}
 use Rattle.lore_base.specs.Names.{is_identifier}
 use Rattle.lore_base.specs.Paths as p
 use Rattle.lorel_lex.specs.declared.token_types.Kind.TheVariants as k
 use Rattle.lorel_lex.specs.declared.token_types.Sign.TheVariants as s
 use Rattle.lorel_lex.specs.Writing.{IsUtf8Token}
-use Rattle.lorel_ast.specs.declared.dump_trees.DumpTree.{DumpTree}
-use Rattle.lorel_ast.specs.Trees as t
-use Rattle.lorel_ast.specs.Repetitions.{spell_each}
-use Rattle.lorel_ast.specs.Literals.{spell_value, spell_mark}
-use Rattle.lorel_ast.specs.Conditions.{spell_op}
-use Rattle.lorel_ast.specs.Statements.{spell_mode, spell_oid, spell_dump_objects}
+use Rattle.lorel_trees.specs.declared.dump_trees.DumpTree.{DumpTree}
+use Rattle.lorel_ast.specs.declared.print_conditions.Standing.{Standing}
+use Rattle.lorel_ast.specs.declared.print_conditions.Standing.TheVariants.{Alone, InOr, Inside}
+use Rattle.lorel_trees.specs.Trees as t
+use Rattle.lorel_trees.specs.Repetitions.{spell_each}
+use Rattle.lorel_trees.specs.Literals.{spell_value, spell_mark}
+use Rattle.lorel_trees.specs.Conditions.{spell_op}
+use Rattle.lorel_trees.specs.Statements.{spell_mode, spell_oid, spell_dump_objects}
 
 -- an identifier where the label has that form, and quoted where it hasn't
 abbrev pub label_token : Bool → List ℕ → Kind
@@ -76,44 +78,37 @@ abbrev pub print_operand : t.OperandTree → List Kind → List Kind
 print_operand (t.constant value) rest = spell_value value rest
 print_operand (t.at path) rest = print_rooted path rest
 
--- where a condition stands: behind `where` or in parentheses, as a member of an `or`, or as a member of an
--- `and` or as the body of a `not` or quantifier
-pub data Place : Type 0 where
-  alone : Place
-  in_or : Place
-  inside : Place
-
 -- parentheses stand round every `or` that is a member of an `or` or `and`, round every `and` that is a member
 -- of an `and`, and round every `or` or `and` that is the body of a `not` or quantifier, and nowhere else
 abbrev mutual
-  pub print_cond : t.CondTree → Place → List Kind → List Kind
-  print_cond (t.or members) alone rest = print_joined members (codes "or") in_or rest
-  print_cond (t.or members) in_or rest =
-      k.Symbol s.LeftParen ∷ print_joined members (codes "or") in_or (k.Symbol s.RightParen ∷ rest)
-  print_cond (t.or members) inside rest =
-      k.Symbol s.LeftParen ∷ print_joined members (codes "or") in_or (k.Symbol s.RightParen ∷ rest)
-  print_cond (t.and members) alone rest = print_joined members (codes "and") inside rest
-  print_cond (t.and members) in_or rest = print_joined members (codes "and") inside rest
-  print_cond (t.and members) inside rest =
-      k.Symbol s.LeftParen ∷ print_joined members (codes "and") inside (k.Symbol s.RightParen ∷ rest)
-  print_cond (t.not body) place rest = k.Word (codes "not") ∷ print_cond body inside rest
+  pub print_cond : t.CondTree → Standing → List Kind → List Kind
+  print_cond (t.or members) Alone rest = print_joined members (codes "or") InOr rest
+  print_cond (t.or members) InOr rest =
+      k.Symbol s.LeftParen ∷ print_joined members (codes "or") InOr (k.Symbol s.RightParen ∷ rest)
+  print_cond (t.or members) Inside rest =
+      k.Symbol s.LeftParen ∷ print_joined members (codes "or") InOr (k.Symbol s.RightParen ∷ rest)
+  print_cond (t.and members) Alone rest = print_joined members (codes "and") Inside rest
+  print_cond (t.and members) InOr rest = print_joined members (codes "and") Inside rest
+  print_cond (t.and members) Inside rest =
+      k.Symbol s.LeftParen ∷ print_joined members (codes "and") Inside (k.Symbol s.RightParen ∷ rest)
+  print_cond (t.not body) place rest = k.Word (codes "not") ∷ print_cond body Inside rest
   print_cond (t.exists variable path body) place rest =
       k.Word (codes "exists") ∷ k.Word variable ∷ k.Word (codes "in")
-      ∷ print_rooted path (k.Symbol s.Colon ∷ print_cond body inside rest)
+      ∷ print_rooted path (k.Symbol s.Colon ∷ print_cond body Inside rest)
   print_cond (t.for_all variable path body) place rest =
       k.Word (codes "for") ∷ k.Word (codes "all") ∷ k.Word variable ∷ k.Word (codes "in")
-      ∷ print_rooted path (k.Symbol s.Colon ∷ print_cond body inside rest)
+      ∷ print_rooted path (k.Symbol s.Colon ∷ print_cond body Inside rest)
   print_cond (t.compare left op right) place rest =
       print_operand left (spell_op op (print_operand right rest))
   print_cond (t.same left right) place rest = print_rooted left (k.Symbol s.SameAs ∷ print_rooted right rest)
 
   -- the members with this word between them
-  pub print_joined : t.CondTrees → (join : List ℕ) → Place → List Kind → List Kind
+  pub print_joined : t.CondTrees → (join : List ℕ) → Standing → List Kind → List Kind
   print_joined t.no_cond join place rest = rest
   print_joined (t.cond first others) join place rest =
       print_cond first place (print_more_conds others join place rest)
 
-  pub print_more_conds : t.CondTrees → (join : List ℕ) → Place → List Kind → List Kind
+  pub print_more_conds : t.CondTrees → (join : List ℕ) → Standing → List Kind → List Kind
   print_more_conds t.no_cond join place rest = rest
   print_more_conds (t.cond first others) join place rest =
       k.Word join ∷ print_cond first place (print_more_conds others join place rest)
@@ -137,7 +132,7 @@ print_from (first ∷ others) rest = k.Word (codes "from") ∷ print_range first
 
 abbrev pub print_where : Option t.CondTree → List Kind → List Kind
 print_where None rest = rest
-print_where (Some cond) rest = k.Word (codes "where") ∷ print_cond cond alone rest
+print_where (Some cond) rest = k.Word (codes "where") ∷ print_cond cond Alone rest
 
 abbrev pub print_tail : t.TailTree → List Kind → List Kind
 print_tail tail rest = print_from tail.ranges (print_where tail.cond rest)

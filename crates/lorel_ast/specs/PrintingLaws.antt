@@ -1,12 +1,12 @@
 -- The canonical tokens of a statement are tokens of it.
 use Rattle.std.specs.Prelude.{◌≡◌, ◌≤◌, List, [], All}
-use Rattle.lorel_ast.specs.Types.{Kind}
+use Rattle.lorel_trees.specs.Types.{Kind}
 use Rattle.lorel_lex.specs.Tokens.{HasForm}
-use Rattle.lorel_ast.specs.Trees.{StatementTree}
-use Rattle.lorel_ast.specs.Grammar.{Statement}
-use Rattle.lorel_ast.specs.Statements.{spell_statement, tree_statement, nest_statement}
-use Rattle.lorel_ast.specs.Tokens.{HasTokens}
-use Rattle.lorel_ast.specs.Sound.{IsSound}
+use Rattle.lorel_trees.specs.Trees.{StatementTree}
+use Rattle.lorel_trees.specs.Grammar.{Statement}
+use Rattle.lorel_trees.specs.Statements.{spell_statement, tree_statement, nest_statement}
+use Rattle.lorel_trees.specs.Tokens.{HasTokens}
+use Rattle.lorel_trees.specs.Sound.{IsSound}
 use Rattle.lorel_ast.specs.Printing.{print_statement}
 
 -- a derivation of the canonical tokens, with the same tree, that nests no deeper

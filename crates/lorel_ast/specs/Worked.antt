@@ -1,10 +1,10 @@
 -- Short forms for the tokens and trees of worked statements.
 use Rattle.std.specs.Prelude.{ℕ, List, [], codes, pos, neg_ℤ, Some, None}
 use Prim.Native.String.{String}
-use Rattle.lorel_ast.specs.Types.{Value, Whole, Chars, Plain, Wild, Kind, Sign}
+use Rattle.lorel_trees.specs.Types.{Value, Whole, Chars, Plain, Wild, Kind, Sign}
 use Rattle.lore_base.specs.Paths as p
 use Rattle.lorel_lex.specs.declared.token_types.Kind.TheVariants as k
-use Rattle.lorel_ast.specs.Trees.{RootedTree, CondTree, FromTree, TailTree, ItemTree, SelectTree}
+use Rattle.lorel_trees.specs.Trees.{RootedTree, CondTree, FromTree, TailTree, ItemTree, SelectTree}
 
 -- tokens
 abbrev pub word : String → Kind

@@ -1,10 +1,10 @@
 -- Selects by their conditions: worked statements with their trees and tokens.
 use Rattle.std.specs.Prelude.{[], ◌∷◌, codes, Some}
-use Rattle.lorel_ast.specs.Types.{Eq, Gt, Like, Lt, Ne}
+use Rattle.lorel_trees.specs.Types.{Eq, Gt, Like, Lt, Ne}
 use Rattle.lore_base.specs.Paths as p
 use Rattle.lorel_lex.specs.declared.token_types.Sign.TheVariants as s
-use Rattle.lorel_ast.specs.Trees as t
-use Rattle.lorel_ast.specs.Tokens.{HasTokens}
+use Rattle.lorel_trees.specs.Trees as t
+use Rattle.lorel_trees.specs.Tokens.{HasTokens}
 use Rattle.lorel_ast.specs.Worked.{word, sign, number, text, step, path, whole, chars, ranging, such_that, query}
 
 pub record WorkedConditions : Type 0 where

@@ -2,8 +2,8 @@
 use Rattle.std.specs.Prelude.{[], ◌∷◌, codes, Some, None}
 use Rattle.lorel_lex.specs.declared.token_types.Kind.TheVariants as k
 use Rattle.lorel_lex.specs.declared.token_types.Sign.TheVariants as s
-use Rattle.lorel_ast.specs.Trees as t
-use Rattle.lorel_ast.specs.Tokens.{HasTokens}
+use Rattle.lorel_trees.specs.Trees as t
+use Rattle.lorel_trees.specs.Tokens.{HasTokens}
 use Rattle.lorel_ast.specs.Worked.{word, sign, number, negative, text, quoted, whole, minus, chars}
 
 pub record WorkedLoads : Type 0 where

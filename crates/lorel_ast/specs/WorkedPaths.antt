@@ -1,11 +1,11 @@
 -- Selects by their paths and variables: worked statements with their trees and tokens.
 use Rattle.std.specs.Prelude.{[], ◌∷◌, codes, Some}
-use Rattle.lorel_ast.specs.Types.{Eq, Gt}
+use Rattle.lorel_trees.specs.Types.{Eq, Gt}
 use Rattle.lore_base.specs.Paths as p
 use Rattle.lorel_lex.specs.declared.token_types.Kind.TheVariants as k
 use Rattle.lorel_lex.specs.declared.token_types.Sign.TheVariants as s
-use Rattle.lorel_ast.specs.Trees as t
-use Rattle.lorel_ast.specs.Tokens.{HasTokens}
+use Rattle.lorel_trees.specs.Trees as t
+use Rattle.lorel_trees.specs.Tokens.{HasTokens}
 use Rattle.lorel_ast.specs.Worked.{word, sign, number, quoted, wild, step, matching, sequence, choice, path, whole, ranging, no_tail, such_that, query}
 
 pub record WorkedPaths : Type 0 where

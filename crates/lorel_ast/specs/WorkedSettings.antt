@@ -1,11 +1,11 @@
 -- Statements about the whole database: worked statements with their trees and tokens.
 use Rattle.std.specs.Prelude.{[], ◌∷◌, codes, pos}
-use Rattle.lorel_ast.specs.Types.{Auto, Bottom, Complex, Guided, Top}
+use Rattle.lorel_trees.specs.Types.{Auto, Bottom, Complex, Guided, Top}
 use Rattle.lore_base.specs.Walks.{oid_of}
 use Rattle.lorel_lex.specs.declared.token_types.Kind.TheVariants as k
 use Rattle.lorel_lex.specs.declared.token_types.Sign.TheVariants as s
-use Rattle.lorel_ast.specs.Trees as t
-use Rattle.lorel_ast.specs.Tokens.{HasTokens}
+use Rattle.lorel_trees.specs.Trees as t
+use Rattle.lorel_trees.specs.Tokens.{HasTokens}
 use Rattle.lorel_ast.specs.Worked.{word, sign, number, text, quoted, whole, chars}
 
 pub record WorkedSettings : Type 0 where

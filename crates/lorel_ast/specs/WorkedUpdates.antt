@@ -1,10 +1,10 @@
 -- Names and updates: worked statements with their trees and tokens.
 use Rattle.std.specs.Prelude.{[], ◌∷◌, codes, Some, None}
-use Rattle.lorel_ast.specs.Types.{Complex, Eq, Ge, Le}
+use Rattle.lorel_trees.specs.Types.{Complex, Eq, Ge, Le}
 use Rattle.lore_base.specs.Paths as p
 use Rattle.lorel_lex.specs.declared.token_types.Sign.TheVariants as s
-use Rattle.lorel_ast.specs.Trees as t
-use Rattle.lorel_ast.specs.Tokens.{HasTokens}
+use Rattle.lorel_trees.specs.Trees as t
+use Rattle.lorel_trees.specs.Tokens.{HasTokens}
 use Rattle.lorel_ast.specs.Worked.{word, sign, number, negative, text, quoted, step, path, whole, minus, chars, along, ranging, no_tail, such_that}
 
 pub record WorkedUpdates : Type 0 where

@@ -1,2 +1,2 @@
+-- Definitions that no public contract cites.
 pub mod Puts
-pub mod Standing

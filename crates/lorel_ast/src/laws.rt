@@ -3,7 +3,7 @@ ghost use Rattle.lorel_ast.specs.Laws.{TakesLastLabel, ReachesLimit};
 ghost use Rattle.lorel_ast.specs.Nesting.{CountsWhatIsWithin};
 ghost use Rattle.lorel_ast.specs.Laws.{KeepsReservedWords, AreSoundParts};
 ghost use Rattle.lorel_ast.specs.Laws.{AreDetermined, RefusesDeeper};
-ghost use Rattle.lorel_ast.specs.Formed.{KeepsForms};
+ghost use Rattle.lorel_ast.specs.Laws.{KeepsForms};
 ghost use Rattle.lorel_ast.specs.PrintingLaws.{PrintsBack};
 ghost use Rattle.lorel_ast.specs.PrintedText.{ArePrintedBack};
 

@@ -1,34 +1,24 @@
-//! The trees of the script language, and its grammar as a relation between trees and tokens.
+//! Statements as the crates above see them: their trees, and the canonical text of each.
 //!
-//! The trees stand in `statements`, `selects`, `conditions`, `literals`, `dump_trees` and
-//! `rooted_paths`. What a tree is apart from pointers and room is plain data (`specs/Trees`); the
-//! grammar (`specs/Grammar`) says which plain trees have which tokens.
+//! The trees are those of `lorel_trees`. A printed statement has the canonical tokens of its tree
+//! (`specs/Printing`) and is lexed and parsed as the same statement. The laws of the grammar and
+//! the worked statements stand here too, so that the parser needs none of them.
 #![tactic(auto)]
 
-pub use conditions::{Cond, CondList, Operand};
-pub use dump_trees::{DumpEdges, DumpTree, NamedList};
-pub use literals::{Literal, Member, MemberList};
+pub use lorel_trees::{
+    Cond, CondList, DumpEdges, DumpTree, FromItem, FromList, Item, ItemList, LabelPath, Literal,
+    Member, MemberList, NamedList, Operand, Rooted, Select, Statement, Tail, rows_form,
+};
 pub use print_statements::print_statement;
-pub use rooted_paths::{LabelPath, Rooted};
-pub use selects::{FromItem, FromList, Item, ItemList, Select, Tail};
-pub use statements::Statement;
-pub use update_rows::rows_form;
 
-mod conditions;
-mod dump_trees;
 /// What the grammar means, in laws: functions that do nothing and whose contracts are proved.
 pub mod laws;
-mod literals;
 mod print_conditions;
 mod print_dumps;
 mod print_literals;
 mod print_paths;
 mod print_selects;
 mod print_statements;
-mod rooted_paths;
-mod selects;
-mod statements;
 mod token_writer;
-mod update_rows;
 /// Statements with their tokens and trees, worked one by one.
 pub mod worked;

@@ -1,19 +1,17 @@
 ghost use Rattle.std.specs.Prelude.{OnOk, ◌∷◌, codes};
 ghost use Rattle.lorel_lex.specs.declared.token_types.Kind.TheVariants as k;
-ghost use Rattle.lorel_ast.specs.Conditions.{spell_op};
+ghost use Rattle.lorel_trees.specs.Conditions.{spell_op};
 ghost use Rattle.lorel_ast.specs.Printing.{print_operand, print_cond, print_joined};
-ghost use Rattle.lorel_ast.specs.Trees.{operand_tree, rooted_tree, cond_tree, cond_trees};
-ghost use Rattle.lorel_ast.specs.Trees.{conds_from};
-ghost use Rattle.lorel_ast.specs.inside.Puts.{Puts};
-ghost use Rattle.lorel_ast.specs.inside.Standing.{place_of, print_quantified};
+ghost use Rattle.lorel_trees.specs.Trees.{operand_tree, rooted_tree, cond_tree, cond_trees};
+ghost use Rattle.lorel_trees.specs.Trees.{conds_from};
+ghost use Rattle.lorel_ast.specs.inside.Puts.{Puts, print_quantified};
 
-use crate::conditions::{Cond, CondList, Operand};
 use crate::print_literals::put_value;
 use crate::print_paths::put_rooted;
-use crate::rooted_paths::Rooted;
 use crate::token_writer::TokenWriter;
 use lore_base::{NoMemory, OemText, Op};
 use lorel_lex::Sign;
+use lorel_trees::{Cond, CondList, Operand, Rooted};
 
 /// Where a condition stands.
 #[derive(Clone, Copy, PartialEq, Eq)]
@@ -81,8 +79,7 @@ fn put_every(variable: &OemText, path: &Rooted, out: &mut TokenWriter) -> Result
 /// A condition, in parentheses where its place needs them.
 #[cycle(cond)]
 pub(crate) fn put_cond(cond: &Cond, place: Standing, out: &mut TokenWriter) -> Result<(), NoMemory>
-    ensures { OnOk result (Puts (print_cond (cond_tree cond.now) (place_of place))
-        out.old out.new) }
+    ensures { OnOk result (Puts (print_cond (cond_tree cond.now) place) out.old out.new) }
 {
     match cond {
         Cond::Or(members) => match place {
@@ -156,8 +153,8 @@ fn put_joined(
     place: Standing,
     out: &mut TokenWriter,
 ) -> Result<(), NoMemory>
-    ensures { OnOk result (Puts (print_joined (conds_from (cond_trees members.now)) join.now
-        (place_of place)) out.old out.new) }
+    ensures { OnOk result (Puts (print_joined (conds_from (cond_trees members.now)) join.now place)
+        out.old out.new) }
 {
     match members.as_slice() {
         [] => Ok(()),

@@ -1,15 +1,15 @@
 ghost use Rattle.std.specs.Prelude.{OnOk, ◌∷◌, codes};
 ghost use Rattle.lorel_lex.specs.declared.token_types.Kind.TheVariants as k;
-ghost use Rattle.lorel_ast.specs.Statements.{spell_mode, spell_oid, spell_dump_objects};
+ghost use Rattle.lorel_trees.specs.Statements.{spell_mode, spell_oid, spell_dump_objects};
 ghost use Rattle.lorel_ast.specs.Printing.{print_dump_labels, print_dump_names, print_dump_edge};
 ghost use Rattle.lorel_ast.specs.Printing.{print_dump_edges, print_dump};
 ghost use Rattle.lorel_ast.specs.inside.Puts.{Puts, print_limits, print_numbers, print_graph};
 ghost use Rattle.lorel_ast.specs.inside.Puts.{print_lists};
 
-use crate::dump_trees::DumpTree;
 use crate::print_literals::put_value;
 use crate::token_writer::TokenWriter;
 use lore_base::{Mode, NoMemory, OemText, Oid, Value};
+use lorel_trees::DumpTree;
 
 /// How plans are chosen.
 pub(crate) fn put_mode(mode: Mode, out: &mut TokenWriter) -> Result<(), NoMemory>

@@ -1,15 +1,15 @@
 ghost use Rattle.std.specs.Prelude.{OnOk, ◌∷◌};
 ghost use Rattle.lorel_lex.specs.declared.token_types.Kind.TheVariants as k;
 ghost use Rattle.lorel_lex.specs.declared.token_types.Sign.TheVariants as s;
-ghost use Rattle.lorel_ast.specs.Literals.{spell_value, spell_mark};
+ghost use Rattle.lorel_trees.specs.Literals.{spell_value, spell_mark};
 ghost use Rattle.lorel_ast.specs.Printing.{print_label, print_literal, print_members};
-ghost use Rattle.lorel_ast.specs.Trees.{literal_tree, member_tree, member_trees, members_from};
+ghost use Rattle.lorel_trees.specs.Trees.{literal_tree, member_tree, member_trees, members_from};
 ghost use Rattle.lorel_ast.specs.inside.Puts.{Puts};
 
-use crate::literals::{Literal, Member, MemberList};
 use crate::token_writer::TokenWriter;
 use lore_base::{NoMemory, Value};
 use lorel_lex::Sign;
+use lorel_trees::{Literal, Member, MemberList};
 
 /// A value; `{ }` is the complex one.
 pub(crate) fn put_value(value: &Value, out: &mut TokenWriter) -> Result<(), NoMemory>

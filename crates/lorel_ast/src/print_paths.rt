@@ -2,13 +2,13 @@ ghost use Rattle.std.specs.Prelude.{OnOk, map};
 ghost use Rattle.lore_base.specs.Paths.{path_tree, path_trees, trees_of};
 ghost use Rattle.lorel_ast.specs.Printing.{print_part, print_parts, print_alt, print_rooted};
 ghost use Rattle.lorel_ast.specs.Printing.{print_labels};
-ghost use Rattle.lorel_ast.specs.Trees.{rooted_tree};
+ghost use Rattle.lorel_trees.specs.Trees.{rooted_tree};
 ghost use Rattle.lorel_ast.specs.inside.Puts.{Puts};
 
-use crate::rooted_paths::Rooted;
 use crate::token_writer::TokenWriter;
 use lore_base::{NoMemory, OemText, Path, PathList, Pattern};
 use lorel_lex::Sign;
+use lorel_trees::Rooted;
 
 #[cycle(part)]
 fn put_part(path: &Path, out: &mut TokenWriter) -> Result<(), NoMemory>

@@ -2,16 +2,15 @@ ghost use Rattle.std.specs.Prelude.{OnOk, map, option_map};
 ghost use Rattle.lorel_ast.specs.Printing.{print_variables, print_range, print_from, print_where};
 ghost use Rattle.lorel_ast.specs.Printing.{print_tail};
 ghost use Rattle.lorel_ast.specs.Printing.{print_item, print_items, print_select};
-ghost use Rattle.lorel_ast.specs.Trees.{from_tree, cond_tree, tail_tree, item_tree, select_tree};
+ghost use Rattle.lorel_trees.specs.Trees.{from_tree, cond_tree, tail_tree, item_tree, select_tree};
 ghost use Rattle.lorel_ast.specs.inside.Puts.{Puts};
 
-use crate::conditions::Cond;
 use crate::print_conditions::{Standing, put_cond};
 use crate::print_paths::put_rooted;
-use crate::selects::{FromItem, Item, Select, Tail};
 use crate::token_writer::TokenWriter;
 use lore_base::{NoMemory, OemText};
 use lorel_lex::Sign;
+use lorel_trees::{Cond, FromItem, Item, Select, Tail};
 
 // The variables behind a path: `@ word`, and the object variable.
 fn put_variables(

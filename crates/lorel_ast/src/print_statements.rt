@@ -1,24 +1,21 @@
 ghost use Rattle.std.specs.Prelude.{◌≡◌, [], ◌∷◌, codes, IfOk, OnOk};
 ghost use Rattle.lorel_lex.specs.declared.token_types.Kind.TheVariants as k;
 ghost use Rattle.lorel_lex.specs.declared.token_types.Sign.TheVariants as s;
-ghost use Rattle.lorel_ast.specs.Literals.{spell_value};
+ghost use Rattle.lorel_trees.specs.Literals.{spell_value};
 ghost use Rattle.lorel_lex.specs.Writing.{line_text};
 ghost use Rattle.lorel_ast.specs.Printing as canon;
-ghost use Rattle.lorel_ast.specs.Trees.{literal_tree, rooted_tree, tail_tree, statement_tree};
-ghost use Rattle.lorel_ast.specs.Trees.{load, bind, assign, add_new, add_link, remove};
+ghost use Rattle.lorel_trees.specs.Trees.{literal_tree, rooted_tree, tail_tree, statement_tree};
+ghost use Rattle.lorel_trees.specs.Trees.{load, bind, assign, add_new, add_link, remove};
 ghost use Rattle.lorel_ast.specs.inside.Puts.{Puts, print_target, print_label_path};
 
-use crate::literals::Literal;
 use crate::print_dumps::{put_dump, put_mode};
 use crate::print_literals::{put_literal, put_value};
 use crate::print_paths::{put_labels, put_rooted};
 use crate::print_selects::{put_select, put_tail};
-use crate::rooted_paths::{LabelPath, Rooted};
-use crate::selects::Tail;
-use crate::statements::Statement;
 use crate::token_writer::TokenWriter;
 use lore_base::{NoMemory, OemText, Value};
 use lorel_lex::Sign;
+use lorel_trees::{LabelPath, Literal, Rooted, Statement, Tail};
 use std::alloc::Global;
 
 // `command name :=`

@@ -4,11 +4,9 @@ ghost use Rattle.lore_base.specs.Quotes.{escape, in_quotes};
 ghost use Rattle.lorel_lex.specs.declared.token_types.Kind.TheVariants as k;
 ghost use Rattle.lorel_ast.specs.Printing.{print_label};
 ghost use Rattle.lorel_ast.specs.inside.Puts.{Puts};
-ghost use Rattle.lore_base.specs.Names.{is_identifier, is_word_start, is_word_byte};
-ghost use Rattle.std.specs.List.{list_all};
 
 use itoa::Buffer;
-use lore_base::{NoMemory, OemText};
+use lore_base::{NoMemory, OemText, is_identifier};
 use lorel_lex::Sign;
 use std::alloc::Global;
 use std::marker::Model;
@@ -157,7 +155,7 @@ impl TokenWriter {
     pub fn label(&mut self, label: &[u8]) -> Result<(), NoMemory>
         ensures { OnOk result (Puts (print_label label.now) self.old self.new) }
     {
-        if is_identifier_text(label) {
+        if is_identifier(label) {
             self.word(label)?;
             Ok(())
         } else {
@@ -183,38 +181,5 @@ impl TokenWriter {
         let len = self.bytes.len();
         self.bytes.truncate(len.saturating_sub(1));
         OemText::from_vec(alloc, self.bytes)
-    }
-}
-
-fn is_start(byte: u8) -> bool
-    ensures { result ≡ is_word_start byte }
-{
-    byte.is_ascii_alphabetic() || byte == b'_'
-}
-
-fn is_inner(byte: u8) -> bool
-    ensures { result ≡ is_word_byte byte }
-{
-    byte.is_ascii_alphanumeric() || byte == b'_'
-}
-
-fn are_inner(bytes: &[u8]) -> bool
-    ensures { result ≡ list_all is_word_byte bytes.now }
-{
-    'bytes: for byte in bytes {
-        if !is_inner(*byte) {
-            return false;
-        }
-    }
-    true
-}
-
-// Whether the text has the form of an identifier.
-fn is_identifier_text(text: &[u8]) -> bool
-    ensures { result ≡ is_identifier text.now }
-{
-    match text {
-        [] => false,
-        [first, others @ ..] => is_start(*first) && are_inner(others),
     }
 }

@@ -1,10 +1,12 @@
 -- The contents between quotes, and the quote that ends them.
 use Rattle.std.proofs.Common.{◌≡◌, ◌≢◌, ℕ, ◌+◌, ◌<◌, Bool, true, false, List, [], ◌∷◌, ◌++◌, length, get_or, take, drop, Option, Some, None, refl, sym, ap, ◌∙◌, inl, inr, ◌⊎◌, eqb}
-use Rattle.std.specs.List.{list_any}
-use Rattle.std.proofs.lemmas.Bool.{ne_eqb, or_parts, cases_Bool, eqb-false, eq-eqb, cases_eq}
+use Rattle.std.specs.Prelude.{not}
+use Rattle.std.specs.List.{list_all, list_any}
+use Rattle.std.proofs.lemmas.Bool.{ne_eqb, or_parts, and_parts, not-true, cases_Bool, eqb-false, eq-eqb, cases_eq}
 use Rattle.std.proofs.lemmas.List.{take_more, take-append-drop, drop_more}
 use Rattle.lore_base.specs.Quotes.{unescape, IsContents, IsEscaped}
 use Rattle.lorel_lex.specs.inside.Lexing.{escaped_after, ClosesAt, FindsQuote}
+use Rattle.lorel_lex.specs.inside.Scanning.{is_neither}
 
 -- behind one more byte
 pub escaped_after-push : (quote : ℕ) (escaped : Bool) (bytes : List ℕ) (before : Bool) (byte : ℕ) → escaped_after quote escaped bytes ≡ Some before
@@ -31,6 +33,16 @@ quote_ends quote false (byte ∷ raw) back e = elim (cases_Bool (eqb byte quote)
       let inner : escaped_after quote (eqb byte 92) raw ≡ Some false = rw other at e in
       rw other (quote_ends quote (eqb byte 92) raw back inner)
 ]
+
+-- bytes that are neither the quote nor a backslash leave the contents open
+pub plain_inside : (quote : ℕ) (raw : List ℕ) → list_all (is_neither quote 92) raw ≡ true → escaped_after quote false raw ≡ Some false
+plain_inside quote [] e = refl
+plain_inside quote (byte ∷ raw) e =
+    let both = and_parts (is_neither quote 92 byte) (list_all (is_neither quote 92) raw) e in
+    let parts = and_parts (not (eqb byte quote)) (not (eqb byte 92)) both.0 in
+    let other : eqb byte quote ≡ false = not-true (eqb byte quote) parts.0 in
+    let plain : eqb byte 92 ≡ false = not-true (eqb byte 92) parts.1 in
+    rw (other, plain) (plain_inside quote raw both.1)
 
 -- where no quote ends the contents, none and a quote stand at the front
 pub no_quote : (quote : ℕ) (bytes : List ℕ) (escaped : Bool) → escaped_after quote false bytes ≡ Some escaped → FindsQuote quote bytes None

@@ -6,7 +6,8 @@ use Rattle.lore_base.specs.Chunks.{joined_chunks}
 use Rattle.std.proofs.lemmas.List.{append_assoc, append-nil, length-append, length-drop, take_more, take_all, take_rest}
 use Rattle.std.proofs.Math.Seq.{take-add}
 use Rattle.std.proofs.lemmas.List.Elements.{recursion_from_All, All-from_recursion}
-use Rattle.std.proofs.lemmas.Bool.{cases_Bool, and_parts, not-true}
+use Rattle.std.proofs.lemmas.List.Folds.{list_all-append}
+use Rattle.std.proofs.lemmas.Bool.{cases_Bool, and_parts, and_from, not-true}
 use Rattle.lorel_lex.specs.declared.scan.State.{State}
 use Rattle.lorel_lex.specs.declared.scan.State.TheVariants.{Plain, Dash, Comment, Text, TextEscape, Quoted, QuotedEscape}
 use Rattle.lorel_lex.specs.Scan.{is_end, state_after, scanned, GoesOn, IsOpen, IsChunk, IsScript, HasOneCut, HasSomeCut}
@@ -103,6 +104,13 @@ text_stills byte e = let (quote, slash) = neither 34 92 byte e in (refl, rw (quo
 quoted_stills : Stills Quoted (is_neither 39 92)
 unfolding Stills
 quoted_stills byte e = let (quote, slash) = neither 39 92 byte e in (refl, rw (quote, slash) refl)
+
+-- bytes that pass behind bytes that pass
+pub passed_behind : (test : ℕ → Bool) (bytes : List ℕ) (at len : ℕ) → list_all test (take at bytes) ≡ true → list_all test (take len (drop at bytes)) ≡ true
+    → list_all test (take (at + len) bytes) ≡ true
+passed_behind test bytes at len front back =
+    ap (list_all test) (take-add at len bytes) ∙ list_all-append test (take at bytes) (take len (drop at bytes))
+    ∙ and_from (list_all test (take at bytes)) (list_all test (take len (drop at bytes))) front back
 
 pub plain_still : (bytes : List ℕ) (len : ℕ) → len ≤ length bytes → list_all is_plain (take len bytes) ≡ true → StaysStill Plain bytes len
 plain_still bytes len = stays Plain is_plain bytes len plain_stills

@@ -3,7 +3,10 @@ use Rattle.std.proofs.Common.{◌≡◌, ℕ, ◌+◌, ◌<◌, Bool, true, fals
 use Rattle.std.specs.Prelude.{not}
 use Rattle.std.proofs.lemmas.Bool.{and_parts}
 use Rattle.lore_base.specs.Names.{is_word_byte}
-use Rattle.lorel_lex.specs.declared.byte_class.TheConstants.{WORD_BYTES}
+use Rattle.lorel_lex.specs.Shapes.{is_pattern_start}
+use Rattle.lorel_lex.specs.inside.Scanning.{is_plain}
+use Rattle.lorel_lex.specs.declared.byte_class.TheConstants.{WORD_BYTES, PATTERN_STARTS}
+use Rattle.lorel_lex.specs.declared.scan.TheConstants.{PLAIN_BYTES}
 
 -- from this place on each entry is what the test says of its place
 abbrev agrees : (ℕ → Bool) → ℕ → List Bool → Bool
@@ -27,10 +30,15 @@ entry_is test at (entry ∷ table) (suc i) e l =
     let place : at + 1 + i ≡ at + suc i = omega arith in
     entry_is test (at + 1) table i both.1 (omega arith) ∙ ap test place
 
-word_table : agrees is_word_byte 0 WORD_BYTES ≡ true
-word_table = refl
+-- a table of 256 entries that agrees with a test says of a byte what the test says
+table_says : (test : ℕ → Bool) (table : List Bool) (byte : ℕ) → agrees test 0 table ≡ true → length table ≡ 256 → byte < 256 → get_or table byte false ≡ test byte
+table_says test table byte e size l = let place : 0 + byte ≡ byte = omega arith in entry_is test 0 table byte e (omega arith) ∙ ap test place
 
 pub word_entry : (byte : ℕ) → byte < 256 → get_or WORD_BYTES byte false ≡ is_word_byte byte
-word_entry byte l = let size : length WORD_BYTES ≡ 256 = refl in
-    let place : 0 + byte ≡ byte = omega arith in
-    entry_is is_word_byte 0 WORD_BYTES byte word_table (omega arith) ∙ ap is_word_byte place
+word_entry byte l = table_says is_word_byte WORD_BYTES byte refl refl l
+
+pub start_entry : (byte : ℕ) → byte < 256 → get_or PATTERN_STARTS byte false ≡ is_pattern_start byte
+start_entry byte l = table_says is_pattern_start PATTERN_STARTS byte refl refl l
+
+pub plain_entry : (byte : ℕ) → byte < 256 → get_or PLAIN_BYTES byte false ≡ is_plain byte
+plain_entry byte l = table_says is_plain PLAIN_BYTES byte refl refl l

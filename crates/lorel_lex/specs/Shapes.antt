@@ -1,8 +1,8 @@
 -- What a token is: the form of its bytes, and what they stand for.
-use Rattle.std.specs.Prelude.{◌≡◌, ℕ, ◌≤◌, ◌⊎◌, Bool, false, ◌||◌, ◌==◌, List, [], ◌∷◌, length, codes, ℤ, pos}
-use Rattle.std.specs.Prelude.{neg_ℤ, IsTrue}
+use Rattle.std.specs.Prelude.{◌≡◌, ℕ, ◌≤◌, Bool, false, ◌||◌, ◌==◌, List, [], ◌∷◌, length, codes, IsTrue}
 use Rattle.std.specs.List.{list_all, list_any}
 use Rattle.std.specs.Str.Parse.{IsNumeral, digits_value}
+pub use Rattle.lore_base.specs.Comparisons.{IsNumber}
 use Rattle.lore_base.specs.Quotes.{IsQuoted}
 use Rattle.lore_base.specs.Names.{is_word_start, is_word_byte, IsIdentifier}
 use Rattle.lorel_lex.specs.Types.{Kind, Word, Wild, PathOf, Number, Local, Chars, Quoted, Symbol, Sign}
@@ -23,12 +23,6 @@ abbrev pub IsPattern : List ℕ → Type 0
 IsPattern [] = ⊥
 IsPattern (first ∷ others) = IsTrue (is_pattern_start first) × IsTrue (list_all is_pattern_byte others)
     × IsTrue (list_any (λ byte. byte == 37) (first ∷ others))
-
--- one decimal digit or more, perhaps behind a minus, and the whole number that they write
-abbrev pub IsNumber : List ℕ → ℤ → Type 0
-IsNumber text number = (digits : List ℕ) × IsNumeral 10 digits ×
-    (((text ≡ digits) × (number ≡ pos (digits_value 10 digits)))
-    ⊎ ((text ≡ 45 ∷ digits) × (number ≡ neg_ℤ (pos (digits_value 10 digits)))))
 
 -- a `&` and one decimal digit or more, and the number that they write
 abbrev pub IsLocal : List ℕ → ℕ → Type 0

@@ -120,3 +120,21 @@ pub(crate) fn count_tokens(chunk: &[u8]) -> usize
     }
     count
 }
+
+// A chunk of more bytes has its tokens counted before room is taken for them.
+const COUNTED_ABOVE: usize = 1 << 20;
+
+/// For how many tokens room is taken: enough for those of the chunk.
+///
+/// A chunk of at most 1 MiB has room for as many tokens as it has bytes, which are at most 40 MiB
+/// and mostly never touched. The tokens of a longer one are counted first. Takes no memory.
+pub(crate) fn token_room(chunk: &[u8]) -> usize
+    ensures most { result ≤ length chunk.now }
+    ensures enough { (tokens : List Token) → AreTokens chunk.now tokens → length tokens ≤ result }
+{
+    if chunk.len() <= COUNTED_ABOVE {
+        chunk.len()
+    } else {
+        count_tokens(chunk)
+    }
+}

@@ -38,7 +38,7 @@ pub(crate) fn gap_len(bytes: &[u8]) -> usize
     'pieces: while at < bytes.len() {
         if is_blank(bytes[at]) {
             at += 1;
-        } else if begins_comment(&bytes[at..]) {
+        } else if bytes[at] == b'-' && begins_comment(&bytes[at..]) {
             match line_end(&bytes[at..]) {
                 Some(len) => at += len + 1,
                 None => return bytes.len(),

@@ -1,10 +1,10 @@
-ghost use Rattle.std.specs.Prelude.{◌≡◌, ◌≢◌, ◌<◌, ◌≤◌, length, drop, slice_index, All, IfOk};
+ghost use Rattle.std.specs.Prelude.{◌≡◌, ◌≢◌, ◌<◌, ◌≤◌, length, slice_index, All, IfOk};
 ghost use Rattle.std.specs.Prelude.{IfErr};
 ghost use Rattle.lorel_lex.specs.Tokens.{AreTokens, HasFault, HasForm};
-ghost use Rattle.lorel_lex.specs.inside.Lexing.{ReadsFirst, ReadsNext};
+ghost use Rattle.lorel_lex.specs.inside.Lexing.{ReadsFirst};
 
 use crate::byte_class::{ByteClass, class_of};
-use crate::counting::count_tokens;
+use crate::counting::token_room;
 use crate::gaps::gap_len;
 use crate::numbers::{digit_follows, local, signed, unsigned};
 use crate::quoted_texts::{label, text};
@@ -44,26 +44,6 @@ fn first_token(alloc: Global, bytes: &[u8]) -> Result<(Kind, usize), LexFault>
     }
 }
 
-// The next token from a place on; None where only blank bytes and comments are left.
-fn next_token(alloc: Global, chunk: &[u8], at: usize) -> Result<Option<Token>, LexFault>
-    requires within { at ≤ length chunk.now }
-    requires sized { length chunk.now ≤ CHUNK_BYTES }
-    ensures { ReadsNext at (drop at chunk.now) result }
-{
-    let start = at + gap_len(&chunk[at..]);
-    if start == chunk.len() {
-        return Ok(None);
-    }
-    match first_token(alloc, &chunk[start..]) {
-        Ok((kind, len)) => Ok(Some(Token {
-            kind,
-            start: start as u32,
-            end: (start + len) as u32,
-        })),
-        Err(fault) => Err(fault),
-    }
-}
-
 /// The tokens of a chunk, with their places.
 ///
 /// Blank bytes and comments are dropped; elsewhere the longest token that starts at a place is
@@ -81,15 +61,22 @@ pub fn tokens(alloc: Global, chunk: &[u8]) -> Result<TokenList, LexFault>
     if !is_utf8(chunk) {
         return Err(LexFault::BadToken);
     }
-    let mut tokens = TokenList::with_capacity(alloc, count_tokens(chunk))?;
+    let mut tokens = TokenList::with_capacity(alloc, token_room(chunk))?;
     let mut at = 0;
     'tokens: while at < chunk.len() {
-        match next_token(alloc, chunk, at) {
-            Ok(Some(token)) => {
-                at = token.end as usize;
-                tokens.push(token)?;
+        let start = at + gap_len(&chunk[at..]);
+        if start == chunk.len() {
+            return Ok(tokens);
+        }
+        match first_token(alloc, &chunk[start..]) {
+            Ok((kind, len)) => {
+                at = start + len;
+                tokens.push(Token {
+                    kind,
+                    start: start as u32,
+                    end: at as u32,
+                })?;
             }
-            Ok(None) => return Ok(tokens),
             Err(fault) => return Err(fault),
         }
     }

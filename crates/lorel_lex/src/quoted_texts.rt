@@ -3,13 +3,14 @@ ghost use Rattle.lore_base.specs.Quotes.{unescape};
 ghost use Rattle.lorel_lex.specs.inside.Lexing.{escaped_after, FindsQuote, FindsByte, Resolves};
 ghost use Rattle.lorel_lex.specs.inside.Lexing.{ReadsQuoted, ReadsFirst};
 
+use crate::scan::before;
 use crate::token_types::{Kind, LexFault};
 use lore_base::limits::{TEXT_BYTES, WORD_BYTES};
 use lore_base::{Listing, OemText};
 use std::alloc::Global;
 
-/// The place of the quote that ends the contents; the bytes begin behind the quote that opens them.
-pub(crate) fn closing_quote(bytes: &[u8], quote: u8) -> Option<usize>
+// The place of the quote that ends contents that may have escapes.
+fn quote_behind_escapes(bytes: &[u8], quote: u8) -> Option<usize>
     ensures { FindsQuote quote bytes.now result }
 {
     let mut escaped = false;
@@ -23,6 +24,18 @@ pub(crate) fn closing_quote(bytes: &[u8], quote: u8) -> Option<usize>
         }
     }
     None
+}
+
+/// The place of the quote that ends the contents; the bytes begin behind the quote that opens them.
+/// Mostly no backslash stands before it.
+pub(crate) fn closing_quote(bytes: &[u8], quote: u8) -> Option<usize>
+    ensures { FindsQuote quote bytes.now result }
+{
+    let at = before(bytes, quote, b'\\');
+    if at < bytes.len() && bytes[at] == quote {
+        return Some(at);
+    }
+    quote_behind_escapes(bytes, quote)
 }
 
 // The byte that a letter behind a backslash stands for.

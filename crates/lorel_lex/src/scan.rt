@@ -72,14 +72,36 @@ fn is_neither(one: u8, other: u8, byte: u8) -> bool
     byte != one && byte != other
 }
 
+// Which bytes open nothing and end no chunk: all but `"`, `'`, `-` and `;`.
+const PLAIN_BYTES: [bool; 256] = [
+    true, true, true, true, true, true, true, true, true, true, true, true, true, true, true, true,
+    true, true, true, true, true, true, true, true, true, true, true, true, true, true, true, true,
+    true, true, false, true, true, true, true, false, true, true, true, true, true, false, true,
+    true, true, true, true, true, true, true, true, true, true, true, true, false, true, true,
+    true, true, true, true, true, true, true, true, true, true, true, true, true, true, true, true,
+    true, true, true, true, true, true, true, true, true, true, true, true, true, true, true, true,
+    true, true, true, true, true, true, true, true, true, true, true, true, true, true, true, true,
+    true, true, true, true, true, true, true, true, true, true, true, true, true, true, true, true,
+    true, true, true, true, true, true, true, true, true, true, true, true, true, true, true, true,
+    true, true, true, true, true, true, true, true, true, true, true, true, true, true, true, true,
+    true, true, true, true, true, true, true, true, true, true, true, true, true, true, true, true,
+    true, true, true, true, true, true, true, true, true, true, true, true, true, true, true, true,
+    true, true, true, true, true, true, true, true, true, true, true, true, true, true, true, true,
+    true, true, true, true, true, true, true, true, true, true, true, true, true, true, true, true,
+    true, true, true, true, true, true, true, true, true, true, true, true, true, true, true, true,
+    true, true, true, true, true, true, true, true, true, true, true, true, true, true, true, true,
+    true, true,
+];
+
+// Whether the byte opens nothing and ends no chunk: a look-up, since most bytes are asked this.
 fn is_plain(byte: u8) -> bool
     ensures { result ≡ spec_run.is_plain byte }
 {
-    is_neither(b'"', b'\'', byte) && is_neither(b'-', b';', byte)
+    PLAIN_BYTES[byte as usize]
 }
 
-// How many bytes at the front stand before the first of these two.
-fn before(bytes: &[u8], one: u8, other: u8) -> usize
+/// How many bytes at the front stand before the first of these two.
+pub(crate) fn before(bytes: &[u8], one: u8, other: u8) -> usize
     ensures within { result ≤ length bytes.now }
     ensures passed { list_all (spec_run.is_neither one other) (take result bytes.now) ≡ true }
 {
@@ -91,8 +113,35 @@ fn before(bytes: &[u8], one: u8, other: u8) -> usize
     bytes.len()
 }
 
+// Whether all of these open nothing and end no chunk. Each is looked up, so that eight of them take
+// no more than one test.
+fn are_plain(bytes: &[u8]) -> bool
+    ensures { result ≡ list_all spec_run.is_plain bytes.now }
+{
+    let mut all = true;
+    'bytes: for byte in bytes {
+        all &= is_plain(*byte);
+    }
+    all
+}
+
+// How many bytes at the front, taken by eight, open nothing and end no chunk.
+fn plain_eights(bytes: &[u8]) -> usize
+    ensures within { result ≤ length bytes.now }
+    ensures passed { list_all spec_run.is_plain (take result bytes.now) ≡ true }
+{
+    let mut at = 0;
+    'eights: while bytes.len() - at >= 8 {
+        if !are_plain(&bytes[at..at + 8]) {
+            return at;
+        }
+        at += 8;
+    }
+    at
+}
+
 // How many bytes at the front stand before the first that opens something or ends the chunk.
-fn plain_len(bytes: &[u8]) -> usize
+fn plain_run(bytes: &[u8]) -> usize
     ensures within { result ≤ length bytes.now }
     ensures passed { list_all spec_run.is_plain (take result bytes.now) ≡ true }
 {
@@ -102,6 +151,15 @@ fn plain_len(bytes: &[u8]) -> usize
         }
     }
     bytes.len()
+}
+
+// The same, eight bytes at a time as long as these pass.
+fn plain_len(bytes: &[u8]) -> usize
+    ensures within { result ≤ length bytes.now }
+    ensures passed { list_all spec_run.is_plain (take result bytes.now) ≡ true }
+{
+    let eights = plain_eights(bytes);
+    eights + plain_run(&bytes[eights..])
 }
 
 // How many bytes at the front leave the state as it is, and end no chunk.

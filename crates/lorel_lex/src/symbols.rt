@@ -56,6 +56,7 @@ pub(crate) fn pair(bytes: &[u8]) -> Option<Sign>
 }
 
 /// The symbol at the front, with its length.
+#[inline(always)]
 pub(crate) fn symbol(bytes: &[u8]) -> Result<(Kind, usize), LexFault>
     requires some { 0 < length bytes.now }
     requires symbol { BeginsSymbol bytes.now }

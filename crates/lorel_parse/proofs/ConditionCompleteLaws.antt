@@ -9,11 +9,11 @@ use Rattle.lore_base.specs.Names.{is_reserved}
 use Rattle.lorel_parse.specs.Types.{Op, Eq, Ne, Lt, Le, Gt, Ge, Like, Kind}
 use Rattle.lorel_lex.specs.declared.token_types.Kind.TheVariants as k
 use Rattle.lorel_lex.specs.declared.token_types.Sign.TheVariants as s
-use Rattle.lorel_ast.specs.Grammar as g
-use Rattle.lorel_ast.specs.Trees as t
-use Rattle.lorel_ast.specs.Paths.{spell_name, text_of_name, spell_path, tree_path, nest_path}
-use Rattle.lorel_ast.specs.Literals.{spell_atom, value_of_atom}
-use Rattle.lorel_ast.specs.Conditions.{spell_op, spell_operand, tree_operand, nest_operand, spell_cond, spell_more_conjs, spell_conj, spell_more_unaries, spell_unary, tree_cond, trees_more_conjs, tree_conj, trees_more_unaries, tree_unary, nest_cond, nest_more_conjs, nest_conj, nest_more_unaries, nest_unary}
+use Rattle.lorel_trees.specs.Grammar as g
+use Rattle.lorel_trees.specs.Trees as t
+use Rattle.lorel_trees.specs.Paths.{spell_name, text_of_name, spell_path, tree_path, nest_path}
+use Rattle.lorel_trees.specs.Literals.{spell_atom, value_of_atom}
+use Rattle.lorel_trees.specs.Conditions.{spell_op, spell_operand, tree_operand, nest_operand, spell_cond, spell_more_conjs, spell_conj, spell_more_unaries, spell_unary, tree_cond, trees_more_conjs, tree_conj, trees_more_unaries, tree_unary, nest_cond, nest_more_conjs, nest_conj, nest_more_unaries, nest_unary}
 use Rattle.lorel_parse.specs.inside.Outcomes.{Outcome, Parse, next, sees, sees_word, expect_word}
 use Rattle.lorel_parse.specs.inside.Paths.{rooted}
 use Rattle.lorel_parse.specs.inside.Conditions.{begins_atom, operand, comparison, others_from, conj, cond, enclosed_path, quantified, enclosed, unary, condition}

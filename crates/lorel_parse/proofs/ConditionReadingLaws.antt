@@ -3,8 +3,8 @@ use Rattle.std.proofs.Common.{◌≡◌, ℕ, suc, true, false, List, [], ◌∷
 use Rattle.lorel_parse.specs.Types.{Op, Eq, Ne, Lt, Le, Gt, Ge, Like, Value, Kind}
 use Rattle.lorel_lex.specs.declared.token_types.Kind.TheVariants as k
 use Rattle.lorel_lex.specs.declared.token_types.Sign.TheVariants as s
-use Rattle.lorel_ast.specs.Conditions.{spell_op}
-use Rattle.lorel_ast.specs.Trees.{RootedTree, OperandTree, constant, at, CondTree, CondTrees, not, exists, for_all, compare, same, conds_from}
+use Rattle.lorel_trees.specs.Conditions.{spell_op}
+use Rattle.lorel_trees.specs.Trees.{RootedTree, OperandTree, constant, at, CondTree, CondTrees, not, exists, for_all, compare, same, conds_from}
 use Rattle.lorel_parse.specs.inside.Outcomes.{Outcome, Parse, next, sees, sees_word, expect, expect_word}
 use Rattle.lorel_parse.specs.inside.Names.{name, atom}
 use Rattle.lorel_parse.specs.inside.Paths.{rooted}

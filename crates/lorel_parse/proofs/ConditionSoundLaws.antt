@@ -6,11 +6,11 @@ use Rattle.std.proofs.lemmas.Bool.{cases_Bool}
 use Rattle.lorel_parse.specs.Types.{Op, Eq, Ne, Lt, Le, Gt, Ge, Like, Value, Kind, Sign}
 use Rattle.lorel_lex.specs.declared.token_types.Kind.TheVariants as k
 use Rattle.lorel_lex.specs.declared.token_types.Sign.TheVariants as s
-use Rattle.lorel_ast.specs.Grammar as g
-use Rattle.lorel_ast.specs.Trees as t
-use Rattle.lorel_ast.specs.Paths.{spell_name, text_of_name, spell_path, tree_path, nest_path}
-use Rattle.lorel_ast.specs.Literals.{spell_atom, value_of_atom}
-use Rattle.lorel_ast.specs.Conditions.{spell_op, spell_operand, tree_operand, nest_operand, spell_cond, spell_more_conjs, spell_conj, spell_more_unaries, spell_unary, tree_cond, trees_more_conjs, tree_conj, trees_more_unaries, tree_unary, nest_cond, nest_more_conjs, nest_conj, nest_more_unaries, nest_unary}
+use Rattle.lorel_trees.specs.Grammar as g
+use Rattle.lorel_trees.specs.Trees as t
+use Rattle.lorel_trees.specs.Paths.{spell_name, text_of_name, spell_path, tree_path, nest_path}
+use Rattle.lorel_trees.specs.Literals.{spell_atom, value_of_atom}
+use Rattle.lorel_trees.specs.Conditions.{spell_op, spell_operand, tree_operand, nest_operand, spell_cond, spell_more_conjs, spell_conj, spell_more_unaries, spell_unary, tree_cond, trees_more_conjs, tree_conj, trees_more_unaries, tree_unary, nest_cond, nest_more_conjs, nest_conj, nest_more_unaries, nest_unary}
 use Rattle.lorel_parse.specs.inside.Outcomes.{Outcome, Parse, and_then, next, found, token, sees, sees_word, expect, expect_word}
 use Rattle.lorel_parse.specs.inside.Names.{name, atom}
 use Rattle.lorel_parse.specs.inside.Paths.{rooted}
@@ -21,17 +21,17 @@ use Rattle.lorel_parse.proofs.NameLaws.{IsName, sound_name, IsAtom, sound_atom}
 use Rattle.lorel_parse.proofs.PathSoundLaws.{IsPath, sound_path}
 
 -- trees found before, and trees behind them
-abbrev behind : List t.CondTree → t.CondTrees → t.CondTrees
-behind [] others = others
-behind (first ∷ before) others = t.cond first (behind before others)
+abbrev followed : List t.CondTree → t.CondTrees → t.CondTrees
+followed [] others = others
+followed (first ∷ before) others = t.cond first (followed before others)
 
-behind-none : (before : List t.CondTree) → behind before t.no_cond ≡ t.conds_from before
-behind-none [] = refl
-behind-none (first ∷ before) = ap (t.cond first) (behind-none before)
+followed-none : (before : List t.CondTree) → followed before t.no_cond ≡ t.conds_from before
+followed-none [] = refl
+followed-none (first ∷ before) = ap (t.cond first) (followed-none before)
 
-behind-push : (before : List t.CondTree) (one : t.CondTree) (others : t.CondTrees) → behind (before ++ one ∷ []) others ≡ behind before (t.cond one others)
-behind-push [] one others = refl
-behind-push (first ∷ before) one others = ap (t.cond first) (behind-push before one others)
+followed-push : (before : List t.CondTree) (one : t.CondTree) (others : t.CondTrees) → followed (before ++ one ∷ []) others ≡ followed before (t.cond one others)
+followed-push [] one others = refl
+followed-push (first ∷ before) one others = ap (t.cond first) (followed-push before one others)
 
 -- derivations of the tokens that a parser took, which nest so deep at most
 
@@ -57,13 +57,13 @@ record AreUnaries (depth : ℕ) (kinds rest : List Kind) (before trees : List t.
   by : g.MoreUnaries
   deep : nest_more_unaries by ≤ depth
   spelled : kinds ≡ spell_more_unaries by rest
-  stands : behind before (trees_more_unaries by) ≡ t.conds_from trees
+  stands : followed before (trees_more_unaries by) ≡ t.conds_from trees
 
 record AreConjs (depth : ℕ) (kinds rest : List Kind) (before trees : List t.CondTree) : Type 0 where
   by : g.MoreConjs
   deep : nest_more_conjs by ≤ depth
   spelled : kinds ≡ spell_more_conjs by rest
-  stands : behind before (trees_more_conjs by) ≡ t.conds_from trees
+  stands : followed before (trees_more_conjs by) ≡ t.conds_from trees
 
 pub record IsCond (depth : ℕ) (kinds rest : List Kind) (tree : t.CondTree) : Type 0 where
   pub by : g.Cond
@@ -186,7 +186,7 @@ module _ (depth : ℕ) (single : Parse t.CondTree)
   unfolding others_from
   unaries_sound zero before kinds rest trees read =
       let parts = some_parts read in
-      record { by = g.no_unaries; deep = omega arith; spelled = parts.1; stands = behind-none before ∙ ap t.conds_from parts.0 }
+      record { by = g.no_unaries; deep = omega arith; spelled = parts.1; stands = followed-none before ∙ ap t.conds_from parts.0 }
   unaries_sound (suc turns) before kinds rest trees read =
       elim (cases_Bool (sees_word (codes "and") kinds)) [
         | inl seen ↦
@@ -198,11 +198,11 @@ module _ (depth : ℕ) (single : Parse t.CondTree)
               by = g.and first.by all.by;
               deep = let a = first.deep in let b = all.deep in omega arith;
               spelled = sees_this_word (codes "and") kinds seen ∙ ap (λ (left : List Kind). k.Word (codes "and") ∷ left) (first.spelled ∙ ap (spell_unary first.by) all.spelled);
-              stands = ap (λ (x : t.CondTree). behind before (t.cond x (trees_more_unaries all.by))) first.stands ∙ sym (behind-push before one (trees_more_unaries all.by)) ∙ all.stands;
+              stands = ap (λ (x : t.CondTree). followed before (t.cond x (trees_more_unaries all.by))) first.stands ∙ sym (followed-push before one (trees_more_unaries all.by)) ∙ all.stands;
             }
         | inr ended ↦
             let parts = some_parts (rw ended at read) in
-            record { by = g.no_unaries; deep = omega arith; spelled = parts.1; stands = behind-none before ∙ ap t.conds_from parts.0 }
+            record { by = g.no_unaries; deep = omega arith; spelled = parts.1; stands = followed-none before ∙ ap t.conds_from parts.0 }
       ]
 
   conj_sound : (kinds rest : List Kind) (tree : t.CondTree) → ◌≡◌ {A = Outcome t.CondTree} (conj single kinds) (Some (tree, rest)) → IsConj depth kinds rest tree
@@ -244,7 +244,7 @@ module _ (depth : ℕ) (single : Parse t.CondTree)
   unfolding others_from
   conjs_sound zero before kinds rest trees read =
       let parts = some_parts read in
-      record { by = g.no_conjs; deep = omega arith; spelled = parts.1; stands = behind-none before ∙ ap t.conds_from parts.0 }
+      record { by = g.no_conjs; deep = omega arith; spelled = parts.1; stands = followed-none before ∙ ap t.conds_from parts.0 }
   conjs_sound (suc turns) before kinds rest trees read =
       elim (cases_Bool (sees_word (codes "or") kinds)) [
         | inl seen ↦
@@ -256,11 +256,11 @@ module _ (depth : ℕ) (single : Parse t.CondTree)
               by = g.or first.by all.by;
               deep = let a = first.deep in let b = all.deep in omega arith;
               spelled = sees_this_word (codes "or") kinds seen ∙ ap (λ (left : List Kind). k.Word (codes "or") ∷ left) (first.spelled ∙ ap (spell_conj first.by) all.spelled);
-              stands = ap (λ (x : t.CondTree). behind before (t.cond x (trees_more_conjs all.by))) first.stands ∙ sym (behind-push before one (trees_more_conjs all.by)) ∙ all.stands;
+              stands = ap (λ (x : t.CondTree). followed before (t.cond x (trees_more_conjs all.by))) first.stands ∙ sym (followed-push before one (trees_more_conjs all.by)) ∙ all.stands;
             }
         | inr ended ↦
             let parts = some_parts (rw ended at read) in
-            record { by = g.no_conjs; deep = omega arith; spelled = parts.1; stands = behind-none before ∙ ap t.conds_from parts.0 }
+            record { by = g.no_conjs; deep = omega arith; spelled = parts.1; stands = followed-none before ∙ ap t.conds_from parts.0 }
       ]
 
   cond_sound : (kinds rest : List Kind) (tree : t.CondTree) → ◌≡◌ {A = Outcome t.CondTree} (spec.cond single kinds) (Some (tree, rest)) → IsCond depth kinds rest tree

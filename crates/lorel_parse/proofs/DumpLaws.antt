@@ -10,12 +10,12 @@ use Rattle.lore_base.specs.declared.modes.Mode.TheVariants.{Auto, Top, Bottom, G
 use Rattle.lorel_lex.specs.declared.token_types.Kind.{Kind}
 use Rattle.lorel_lex.specs.declared.token_types.Kind.TheVariants as k
 use Rattle.lorel_lex.specs.declared.token_types.Sign.TheVariants as s
-use Rattle.lorel_ast.specs.declared.dump_trees.DumpTree.{DumpTree}
-use Rattle.lorel_ast.specs.Grammar as g
-use Rattle.lorel_ast.specs.Repetitions.{spell_each, nest_each}
-use Rattle.lorel_ast.specs.Paths.{spell_name, text_of_name, spell_label, text_of_label, spell_labels, texts_of_labels}
-use Rattle.lorel_ast.specs.Literals.{spell_value, spell_atom, value_of_atom}
-use Rattle.lorel_ast.specs.Statements.{spell_mode, spell_oid, spell_dump_name, spell_dump_object, spell_dump_edge, entry_of_name, entry_of_edge, spell_dump_labels, spell_dump_names, spell_dump_objects, spell_dump_edges, spell_dump_text, tree_dump_text}
+use Rattle.lorel_trees.specs.declared.dump_trees.DumpTree.{DumpTree}
+use Rattle.lorel_trees.specs.Grammar as g
+use Rattle.lorel_trees.specs.Repetitions.{spell_each, nest_each}
+use Rattle.lorel_trees.specs.Paths.{spell_name, text_of_name, spell_label, text_of_label, spell_labels, texts_of_labels}
+use Rattle.lorel_trees.specs.Literals.{spell_value, spell_atom, value_of_atom}
+use Rattle.lorel_trees.specs.Statements.{spell_mode, spell_oid, spell_dump_name, spell_dump_object, spell_dump_edge, entry_of_name, entry_of_edge, spell_dump_labels, spell_dump_names, spell_dump_objects, spell_dump_edges, spell_dump_text, tree_dump_text}
 use Rattle.lorel_parse.specs.inside.Outcomes.{Outcome, Parse, and_then, next, sees, sees_word, expect, expect_word}
 use Rattle.lorel_parse.specs.inside.Repetitions.{mapped, both, behind_word, each}
 use Rattle.lorel_parse.specs.inside.Names.{name, label, atom}

@@ -6,11 +6,11 @@ use Rattle.lorel_lex.specs.declared.token_types.Kind.{Kind}
 use Rattle.lorel_lex.specs.declared.token_types.Kind.TheVariants as k
 use Rattle.lorel_lex.specs.declared.token_types.Sign.TheVariants as s
 use Rattle.lore_base.specs.declared.values.Value.{Value}
-use Rattle.lorel_ast.specs.Trees as t
-use Rattle.lorel_ast.specs.Trees.{LiteralTree, MemberTrees, members_from}
-use Rattle.lorel_ast.specs.Grammar as g
-use Rattle.lorel_ast.specs.Paths.{spell_label, text_of_label}
-use Rattle.lorel_ast.specs.Literals.{spell_atom, value_of_atom, spell_mark, spell_literal, tree_literal, nest_literal, spell_members, trees_members, nest_members, spell_more_members, trees_more_members, nest_more_members, spell_member, tree_member, nest_member}
+use Rattle.lorel_trees.specs.Trees as t
+use Rattle.lorel_trees.specs.Trees.{LiteralTree, MemberTrees, members_from}
+use Rattle.lorel_trees.specs.Grammar as g
+use Rattle.lorel_trees.specs.Paths.{spell_label, text_of_label}
+use Rattle.lorel_trees.specs.Literals.{spell_atom, value_of_atom, spell_mark, spell_literal, tree_literal, nest_literal, spell_members, trees_members, nest_members, spell_more_members, trees_more_members, nest_more_members, spell_member, tree_member, nest_member}
 use Rattle.lorel_parse.specs.inside.Outcomes.{Outcome, Parse, and_then, next, sees, expect}
 use Rattle.lorel_parse.specs.inside.Names.{label, atom}
 use Rattle.lorel_parse.specs.inside.Repetitions.{each, each_in}
@@ -336,6 +336,3 @@ literal_parser depth = record {
   sound = λ kinds rest tree read. literal_sound depth (inside depth) (inside_sound depth) kinds rest tree read;
   complete = λ value rest deep ends. complete_literal depth value rest deep ends;
 }
-
-pub literal_longer : (value : g.Literal) (rest : List Kind) → length rest ≤ length (spell_literal value rest)
-literal_longer value rest = omega (arith, longer_literal value rest)

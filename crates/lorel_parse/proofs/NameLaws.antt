@@ -4,9 +4,9 @@ use Rattle.std.proofs.lemmas.Bool.{cases_Bool}
 use Rattle.lore_base.specs.Names.{is_reserved}
 use Rattle.lorel_parse.specs.Types.{Value, Kind}
 use Rattle.lorel_lex.specs.declared.token_types.Kind.TheVariants as k
-use Rattle.lorel_ast.specs.Grammar as g
-use Rattle.lorel_ast.specs.Paths.{spell_name, text_of_name, spell_label, text_of_label}
-use Rattle.lorel_ast.specs.Literals.{spell_atom, value_of_atom}
+use Rattle.lorel_trees.specs.Grammar as g
+use Rattle.lorel_trees.specs.Paths.{spell_name, text_of_name, spell_label, text_of_label}
+use Rattle.lorel_trees.specs.Literals.{spell_atom, value_of_atom}
 use Rattle.lorel_parse.specs.inside.Outcomes.{Outcome, found}
 use Rattle.lorel_parse.specs.inside.Names.{name, label, atom}
 use Rattle.lorel_parse.proofs.OutcomeLaws.{some_parts, none_some}

@@ -37,10 +37,6 @@ expect_some sign kinds rest one read =
       | inr other ↦ absurd (none_some (rw other at read))
     ]
 
-pub expect-sees : (sign : Sign) (kinds : List Kind) → sees sign kinds ≡ true → ◌≡◌ {A = Outcome (Unit {0})} (expect sign kinds) (Some (tt, next kinds))
-unfolding expect
-expect-sees sign kinds seen = rw seen
-
 -- words
 
 pub sees_this_word : (wanted : List ℕ) (kinds : List Kind) → sees_word wanted kinds ≡ true → kinds ≡ k.Word wanted ∷ next kinds
@@ -56,7 +52,3 @@ expect_word_some wanted kinds rest one read =
       | inl seen ↦ let parts = some_parts (rw seen at read) in sees_this_word wanted kinds seen ∙ ap (λ (left : List Kind). k.Word wanted ∷ left) parts.1
       | inr other ↦ absurd (none_some (rw other at read))
     ]
-
-pub expect_word-sees : (wanted : List ℕ) (kinds : List Kind) → sees_word wanted kinds ≡ true → ◌≡◌ {A = Outcome (Unit {0})} (expect_word wanted kinds) (Some (tt, next kinds))
-unfolding expect_word
-expect_word-sees wanted kinds seen = rw seen

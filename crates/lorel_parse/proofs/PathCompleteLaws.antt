@@ -5,9 +5,9 @@ use Rattle.lorel_parse.specs.Types.{Plain, Wild, Kind}
 use Rattle.lore_base.specs.Paths.{PathTree, PathTrees, any, step, more, seq, alt, opt, star, plus, trees_of}
 use Rattle.lorel_lex.specs.declared.token_types.Kind.TheVariants as k
 use Rattle.lorel_lex.specs.declared.token_types.Sign.TheVariants as s
-use Rattle.lorel_ast.specs.Grammar as g
-use Rattle.lorel_ast.specs.Trees.{RootedTree}
-use Rattle.lorel_ast.specs.Paths.{spell_name, text_of_name, spell_label, text_of_label, spell_alt, spell_choices, spell_seq, spell_parts, spell_part, spell_base, spell_path, trees_alt, trees_choices, tree_seq, trees_parts, tree_part, tree_base, tree_path, nest_alt, nest_choices, nest_seq, nest_parts, nest_part, nest_base, nest_path}
+use Rattle.lorel_trees.specs.Grammar as g
+use Rattle.lorel_trees.specs.Trees.{RootedTree}
+use Rattle.lorel_trees.specs.Paths.{spell_name, text_of_name, spell_label, text_of_label, spell_alt, spell_choices, spell_seq, spell_parts, spell_part, spell_base, spell_path, trees_alt, trees_choices, tree_seq, trees_parts, tree_part, tree_base, tree_path, nest_alt, nest_choices, nest_seq, nest_parts, nest_part, nest_base, nest_path}
 use Rattle.lorel_parse.specs.inside.Outcomes.{Outcome, sees}
 use Rattle.lorel_parse.specs.inside.Paths.{begins_part, base, part, parts_from, sequence, choices_from, choices, inside, rooted}
 use Rattle.lorel_parse.proofs.NameLaws.{complete_name, longer_label}

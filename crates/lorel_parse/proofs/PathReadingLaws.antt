@@ -4,9 +4,9 @@ use Rattle.lorel_parse.specs.Types.{Plain, Wild, Kind}
 use Rattle.lore_base.specs.Paths.{PathTree, step, any, seq, alt, opt, star, plus, trees_of}
 use Rattle.lorel_lex.specs.declared.token_types.Kind.TheVariants as k
 use Rattle.lorel_lex.specs.declared.token_types.Sign.TheVariants as s
-use Rattle.lorel_ast.specs.Grammar as g
-use Rattle.lorel_ast.specs.Paths.{spell_label, text_of_label}
-use Rattle.lorel_ast.specs.Trees.{RootedTree}
+use Rattle.lorel_trees.specs.Grammar as g
+use Rattle.lorel_trees.specs.Paths.{spell_label, text_of_label}
+use Rattle.lorel_trees.specs.Trees.{RootedTree}
 use Rattle.lorel_parse.specs.inside.Outcomes.{Outcome, Parse, sees, expect}
 use Rattle.lorel_parse.specs.inside.Names.{name}
 use Rattle.lorel_parse.specs.inside.Paths.{one_step, repeated, begins_part, base, part, parts_from, parts, sequence, choices_from, more_choices, choices, inside, rooted}

@@ -7,9 +7,9 @@ use Rattle.lorel_parse.specs.Types.{Plain, Wild, Kind}
 use Rattle.lore_base.specs.Paths.{PathTree, PathTrees, any, step, more, none, seq, alt, opt, star, plus, trees_of}
 use Rattle.lorel_lex.specs.declared.token_types.Kind.TheVariants as k
 use Rattle.lorel_lex.specs.declared.token_types.Sign.TheVariants as s
-use Rattle.lorel_ast.specs.Grammar as g
-use Rattle.lorel_ast.specs.Trees.{RootedTree}
-use Rattle.lorel_ast.specs.Paths.{spell_name, text_of_name, spell_label, text_of_label, spell_alt, spell_choices, spell_seq, spell_parts, spell_part, spell_base, spell_path, trees_alt, trees_choices, tree_seq, trees_parts, tree_part, tree_base, tree_path, nest_alt, nest_choices, nest_seq, nest_parts, nest_part, nest_base, nest_path}
+use Rattle.lorel_trees.specs.Grammar as g
+use Rattle.lorel_trees.specs.Trees.{RootedTree}
+use Rattle.lorel_trees.specs.Paths.{spell_name, text_of_name, spell_label, text_of_label, spell_alt, spell_choices, spell_seq, spell_parts, spell_part, spell_base, spell_path, trees_alt, trees_choices, tree_seq, trees_parts, tree_part, tree_base, tree_path, nest_alt, nest_choices, nest_seq, nest_parts, nest_part, nest_base, nest_path}
 use Rattle.lorel_parse.specs.inside.Outcomes.{Outcome, Parse, and_then, next, sees, expect}
 use Rattle.lorel_parse.specs.inside.Names.{name}
 use Rattle.lorel_parse.specs.inside.Paths.{one_step, repeated, begins_part, base, part, parts_from, parts, sequence, choices_from, more_choices, choices, inside, rooted}
@@ -17,17 +17,17 @@ use Rattle.lorel_parse.proofs.OutcomeLaws.{some_parts, none_some, bind_some, see
 use Rattle.lorel_parse.proofs.NameLaws.{IsName, sound_name}
 
 -- trees found before, and trees behind them
-abbrev behind : List PathTree → PathTrees → PathTrees
-behind [] others = others
-behind (first ∷ before) others = more first (behind before others)
+abbrev followed : List PathTree → PathTrees → PathTrees
+followed [] others = others
+followed (first ∷ before) others = more first (followed before others)
 
-behind-none : (before : List PathTree) → behind before none ≡ trees_of before
-behind-none [] = refl
-behind-none (first ∷ before) = ap (more first) (behind-none before)
+followed-none : (before : List PathTree) → followed before none ≡ trees_of before
+followed-none [] = refl
+followed-none (first ∷ before) = ap (more first) (followed-none before)
 
-behind-push : (before : List PathTree) (one : PathTree) (others : PathTrees) → behind (before ++ one ∷ []) others ≡ behind before (more one others)
-behind-push [] one others = refl
-behind-push (first ∷ before) one others = ap (more first) (behind-push before one others)
+followed-push : (before : List PathTree) (one : PathTree) (others : PathTrees) → followed (before ++ one ∷ []) others ≡ followed before (more one others)
+followed-push [] one others = refl
+followed-push (first ∷ before) one others = ap (more first) (followed-push before one others)
 
 -- derivations of the tokens that a parser took, whose groups nest so deep at most
 
@@ -59,7 +59,7 @@ record AreChoices (depth : ℕ) (kinds rest : List Kind) (before trees : List Pa
   by : g.Choices
   deep : nest_choices by ≤ depth
   spelled : kinds ≡ spell_choices by rest
-  stands : behind before (trees_choices by) ≡ trees_of trees
+  stands : followed before (trees_choices by) ≡ trees_of trees
 
 record IsAlt (depth : ℕ) (kinds rest : List Kind) (trees : List PathTree) : Type 0 where
   by : g.Alt
@@ -221,7 +221,7 @@ module _ (depth : ℕ) (group : Parse (List PathTree))
   unfolding choices_from
   choices_from_sound zero before kinds rest trees read =
       let parts = some_parts read in
-      record { by = g.no_choices; deep = omega arith; spelled = parts.1; stands = behind-none before ∙ ap trees_of parts.0 }
+      record { by = g.no_choices; deep = omega arith; spelled = parts.1; stands = followed-none before ∙ ap trees_of parts.0 }
   choices_from_sound (suc turns) before kinds rest trees read =
       elim (cases_Bool (sees s.Bar kinds)) [
         | inl bar ↦
@@ -233,11 +233,11 @@ module _ (depth : ℕ) (group : Parse (List PathTree))
               by = g.bar first.by all.by;
               deep = let a = first.deep in let b = all.deep in omega arith;
               spelled = sees_sign s.Bar kinds bar ∙ ap (λ (left : List Kind). k.Symbol s.Bar ∷ left) (first.spelled ∙ ap (spell_seq first.by) all.spelled);
-              stands = ap (λ (t : PathTree). behind before (more t (trees_choices all.by))) first.stands ∙ sym (behind-push before one (trees_choices all.by)) ∙ all.stands;
+              stands = ap (λ (t : PathTree). followed before (more t (trees_choices all.by))) first.stands ∙ sym (followed-push before one (trees_choices all.by)) ∙ all.stands;
             }
         | inr ended ↦
             let parts = some_parts (rw ended at read) in
-            record { by = g.no_choices; deep = omega arith; spelled = parts.1; stands = behind-none before ∙ ap trees_of parts.0 }
+            record { by = g.no_choices; deep = omega arith; spelled = parts.1; stands = followed-none before ∙ ap trees_of parts.0 }
       ]
 
   choices_sound : (kinds rest : List Kind) (trees : List PathTree) → ◌≡◌ {A = Outcome (List PathTree)} (choices group kinds) (Some (trees, rest)) → IsAlt depth kinds rest trees

@@ -7,10 +7,10 @@ use Rattle.lorel_lex.specs.declared.token_types.Kind.{Kind}
 use Rattle.lorel_lex.specs.declared.token_types.Kind.TheVariants as k
 use Rattle.lorel_lex.specs.declared.token_types.Sign.{Sign}
 use Rattle.lorel_lex.specs.declared.token_types.Sign.TheVariants as s
-use Rattle.lorel_ast.specs.Repetitions.{spell_each, nest_each}
+use Rattle.lorel_trees.specs.Repetitions.{spell_each, nest_each}
 use Rattle.lorel_parse.specs.inside.Outcomes.{Outcome, Parse, and_then, next, sees, sees_word, expect, expect_word}
 use Rattle.lorel_parse.proofs.OutcomeLaws.{some_parts, none_some, bind_some, sees_sign, sees_this_word, expect_some, expect_word_some}
-use Rattle.lorel_parse.specs.inside.Repetitions.{mapped, both, behind, behind_word, closed, closed_word, each_in, each, some_of}
+use Rattle.lorel_parse.specs.inside.Repetitions.{mapped, both, behind_sign, behind_word, closed_sign, closed_word, each_in, each, some_of}
 
 pub sees-sign : (sign : Sign) (rest : List Kind) → sees sign (k.Symbol sign ∷ rest) ≡ true
 unfolding sees
@@ -68,7 +68,7 @@ module _ {D A : Type 0} {parse : Parse A} {spell : Spell D} {tree : D → A} {ne
     complete = λ d rest deep end. rw (one.complete d rest deep end);
   }
 
-  pub behind_parser : (sign : Sign) → IsParserOf parse spell tree nest depth Ends → IsParserOf (behind sign parse) (λ d rest. k.Symbol sign ∷ spell d rest) tree nest depth Ends
+  pub behind_parser : (sign : Sign) → IsParserOf parse spell tree nest depth Ends → IsParserOf (behind_sign sign parse) (λ d rest. k.Symbol sign ∷ spell d rest) tree nest depth Ends
   behind_parser sign one = record {
     sound = λ kinds rest found read.
         let more : Unit {0} → Parse A = λ _ left. parse left in
@@ -89,7 +89,7 @@ module _ {D A : Type 0} {parse : Parse A} {spell : Spell D} {tree : D → A} {ne
   }
 
   pub closed_parser : (sign : Sign) → ((rest : List Kind) → Ends (k.Symbol sign ∷ rest)) → IsParserOf parse spell tree nest depth Ends
-      → IsParserOf (closed sign parse) (λ d rest. spell d (k.Symbol sign ∷ rest)) tree nest depth Anything
+      → IsParserOf (closed_sign sign parse) (λ d rest. spell d (k.Symbol sign ∷ rest)) tree nest depth Anything
   closed_parser sign ends one = record {
     sound = λ kinds rest found read.
         let more : A → Parse A = λ a left. and_then (expect sign left) (λ _ end. Some (a, end)) in
@@ -154,10 +154,6 @@ module _ {D A : Type 0} {parse : Parse A} {spell : Spell D} {tree : D → A} {ne
 
 -- repetitions
 module _ {A : Type 0} (leads : List Kind → Bool) (one : Parse A) where
-  pub each_in-zero : (before : List A) (kinds : List Kind) → ◌≡◌ {A = Outcome (List A)} (each_in leads one 0 before kinds) (Some (before, kinds))
-  unfolding each_in
-  each_in-zero before kinds = refl
-
   pub each_in-end : (turns : ℕ) (before : List A) (kinds : List Kind) → leads kinds ≡ false → ◌≡◌ {A = Outcome (List A)} (each_in leads one turns before kinds) (Some (before, kinds))
   unfolding each_in
   each_in-end zero before kinds ended = refl

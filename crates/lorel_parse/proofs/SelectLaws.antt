@@ -7,15 +7,15 @@ use Rattle.lore_base.specs.declared.limits.TheConstants.{NESTING}
 use Rattle.lorel_lex.specs.declared.token_types.Kind.{Kind}
 use Rattle.lorel_lex.specs.declared.token_types.Kind.TheVariants as k
 use Rattle.lorel_lex.specs.declared.token_types.Sign.TheVariants as s
-use Rattle.lorel_ast.specs.Trees.{RootedTree, CondTree, ItemTree, FromTree, TailTree, SelectTree}
-use Rattle.lorel_ast.specs.Trees as t
-use Rattle.lorel_ast.specs.Grammar as g
-use Rattle.lorel_ast.specs.Repetitions.{spell_each, nest_each}
-use Rattle.lorel_ast.specs.Paths.{spell_name, text_of_name, spell_label, text_of_label, spell_path, tree_path, nest_path}
-use Rattle.lorel_ast.specs.Conditions.{spell_cond, tree_cond, nest_cond}
-use Rattle.lorel_ast.specs.Selects.{spell_range, tree_range, nest_range, spell_from, spell_where, nest_where, spell_tail, tree_tail, nest_tail, spell_item, tree_item, nest_item, spell_select, tree_select, nest_select}
+use Rattle.lorel_trees.specs.Trees.{RootedTree, CondTree, ItemTree, FromTree, TailTree, SelectTree}
+use Rattle.lorel_trees.specs.Trees as t
+use Rattle.lorel_trees.specs.Grammar as g
+use Rattle.lorel_trees.specs.Repetitions.{spell_each, nest_each}
+use Rattle.lorel_trees.specs.Paths.{spell_name, text_of_name, spell_label, text_of_label, spell_path, tree_path, nest_path}
+use Rattle.lorel_trees.specs.Conditions.{spell_cond, tree_cond, nest_cond}
+use Rattle.lorel_trees.specs.Selects.{spell_range, tree_range, nest_range, spell_from, spell_where, nest_where, spell_tail, tree_tail, nest_tail, spell_item, tree_item, nest_item, spell_select, tree_select, nest_select}
 use Rattle.lorel_parse.specs.inside.Outcomes.{Outcome, Parse, and_then, next, sees, sees_word}
-use Rattle.lorel_parse.specs.inside.Repetitions.{mapped, both, behind, closed, each, some_of}
+use Rattle.lorel_parse.specs.inside.Repetitions.{mapped, both, behind_sign, closed_sign, each, some_of}
 use Rattle.lorel_parse.specs.inside.Names.{name, label}
 use Rattle.lorel_parse.specs.inside.Paths.{rooted}
 use Rattle.lorel_parse.specs.inside.Conditions.{condition}
@@ -306,7 +306,7 @@ path_of_some [] seen = absurd (cc)
 path_of_some (k.PathOf ∷ kinds) seen = refl
 path_of_some (_ ∷ kinds) seen = absurd (cc)
 
-path_of_parser : IsParserOf (mapped t.path_of (behind s.LeftParen (closed s.RightParen name))) (λ d rest. k.Symbol s.LeftParen ∷ spell_name d (k.Symbol s.RightParen ∷ rest))
+path_of_parser : IsParserOf (mapped t.path_of (behind_sign s.LeftParen (closed_sign s.RightParen name))) (λ d rest. k.Symbol s.LeftParen ∷ spell_name d (k.Symbol s.RightParen ∷ rest))
     (λ d. t.path_of (text_of_name d)) flat NESTING Anything
 path_of_parser = mapped_parser t.path_of (behind_parser s.LeftParen (closed_parser s.RightParen (λ rest. tt) name_parser))
 
@@ -327,7 +327,7 @@ item_sound kinds rest tree read =
           record { by = g.object x.by; deep = x.deep; spelled = x.spelled; stands = x.stands }
     ]
 
-item-path_of : (kinds : List Kind) → item (k.PathOf ∷ kinds) ≡ mapped t.path_of (behind s.LeftParen (closed s.RightParen name)) kinds
+item-path_of : (kinds : List Kind) → item (k.PathOf ∷ kinds) ≡ mapped t.path_of (behind_sign s.LeftParen (closed_sign s.RightParen name)) kinds
 unfolding item
 item-path_of kinds = rw (item_path_of kinds)
 

@@ -9,19 +9,19 @@ use Rattle.lorel_lex.specs.declared.token_types.Kind.{Kind}
 use Rattle.lorel_lex.specs.declared.token_types.Kind.TheVariants as k
 use Rattle.lorel_lex.specs.declared.token_types.Sign.{Sign}
 use Rattle.lorel_lex.specs.declared.token_types.Sign.TheVariants as s
-use Rattle.lorel_ast.specs.Trees as t
-use Rattle.lorel_ast.specs.Trees.{RootedTree, StatementTree, statement_tree}
-use Rattle.lorel_ast.specs.Grammar as g
-use Rattle.lorel_ast.specs.Paths.{spell_name, text_of_name, spell_label, text_of_label, spell_labels, texts_of_labels, spell_parts, spell_path, tree_path, nest_path}
-use Rattle.lorel_ast.specs.Literals.{spell_value, spell_literal, tree_literal, nest_literal}
-use Rattle.lorel_ast.specs.Selects.{spell_tail, tree_tail, nest_tail, spell_select, tree_select, nest_select}
-use Rattle.lorel_ast.specs.Statements.{spell_mode, spell_dump_text, tree_dump_text, spell_statement, tree_statement, nest_statement}
-use Rattle.lorel_ast.specs.Tokens.{HasTokens, IsUnambiguous}
+use Rattle.lorel_trees.specs.Trees as t
+use Rattle.lorel_trees.specs.Trees.{RootedTree, StatementTree, statement_tree}
+use Rattle.lorel_trees.specs.Grammar as g
+use Rattle.lorel_trees.specs.Paths.{spell_name, text_of_name, spell_label, text_of_label, spell_labels, texts_of_labels, spell_parts, spell_path, tree_path, nest_path}
+use Rattle.lorel_trees.specs.Literals.{spell_value, spell_literal, tree_literal, nest_literal}
+use Rattle.lorel_trees.specs.Selects.{spell_tail, tree_tail, nest_tail, spell_select, tree_select, nest_select}
+use Rattle.lorel_trees.specs.Statements.{spell_mode, spell_dump_text, tree_dump_text, spell_statement, tree_statement, nest_statement}
+use Rattle.lorel_trees.specs.Tokens.{HasTokens}
 use Rattle.lorel_parse.specs.declared.faults.ParseFault.{ParseFault}
 use Rattle.lorel_parse.specs.declared.faults.ParseFault.TheVariants.{Syntax}
 use Rattle.lorel_parse.specs.inside.Outcomes as outcomes
 use Rattle.lorel_parse.specs.inside.Outcomes.{Outcome, Parse, and_then, next, sees, sees_word, expect, expect_word, found}
-use Rattle.lorel_parse.specs.inside.Repetitions.{mapped, both, behind, behind_word}
+use Rattle.lorel_parse.specs.inside.Repetitions.{mapped, both, behind_sign, behind_word}
 use Rattle.lorel_parse.specs.inside.Names.{name, label}
 use Rattle.lorel_parse.specs.inside.Literals.{sees_value, literal, inside, new_value}
 use Rattle.lorel_parse.specs.inside.Paths.{rooted}
@@ -587,9 +587,6 @@ none_has kinds refused tree has = none_some (sym refused ∙ reads_statement tre
 pub left_has : (kinds left : List Kind) (read : StatementTree) → ◌≡◌ {A = Outcome StatementTree} (spec.statement kinds) (Some (read, left)) → 0 < length left
     → (tree : StatementTree) → HasTokens tree kinds → ⊥
 left_has kinds left read found some tree has = let none = ap length (some_parts (sym found ∙ reads_statement tree kinds has)).1 in omega arith
-
-pub unambiguous : IsUnambiguous
-unambiguous one other kinds has also = (some_parts (sym (reads_statement one kinds has) ∙ reads_statement other kinds also)).0
 
 pub refused_at : (outcome : Outcome StatementTree) (fault : ParseFault) (left : List Kind) → outcomes.Reads statement_tree outcome (Err fault) left → fault ≡ Syntax → outcome ≡ None
 refused_at outcome fault left reads is = let P : ParseFault → Type 0 = λ f. outcomes.Reads statement_tree outcome (Err f) left in subst P is reads

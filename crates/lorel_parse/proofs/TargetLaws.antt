@@ -5,11 +5,11 @@ use Rattle.lorel_parse.specs.Types.{Plain, Wild, Kind}
 use Rattle.lore_base.specs.Paths.{PathTree, step, any, seq, alt, opt, star, plus}
 use Rattle.lorel_lex.specs.declared.token_types.Kind.TheVariants as k
 use Rattle.lorel_lex.specs.declared.token_types.Sign.TheVariants as s
-use Rattle.lorel_ast.specs.Grammar as g
-use Rattle.lorel_ast.specs.Trees.{RootedTree}
-use Rattle.lorel_ast.specs.Paths.{spell_label, text_of_label, spell_path, tree_path, nest_path}
-use Rattle.lorel_ast.specs.Laws.{IsJoined}
-use Rattle.lorel_ast.proofs.TargetLaws.{longer_path, is_joined, splits}
+use Rattle.lorel_trees.specs.Grammar as g
+use Rattle.lorel_trees.specs.Trees.{RootedTree}
+use Rattle.lorel_trees.specs.Paths.{spell_label, text_of_label, spell_path, tree_path, nest_path}
+use Rattle.lorel_trees.specs.Targets.{IsJoined}
+use Rattle.lorel_trees.proofs.TargetLaws.{longer_path, is_joined, splits}
 use Rattle.lorel_parse.specs.inside.Outcomes.{Outcome}
 use Rattle.lorel_parse.specs.inside.Paths.{rooted}
 use Rattle.lorel_parse.specs.inside.Targets.{plain_label, split_last, aimed}

@@ -1,5 +1,5 @@
 ghost use Rattle.std.specs.Prelude.{◌≡◌, codes};
-ghost use Rattle.lorel_ast.specs.Trees.{rooted_tree, operand_tree, cond_tree, cond_trees};
+ghost use Rattle.lorel_trees.specs.Trees.{rooted_tree, operand_tree, cond_tree, cond_trees};
 ghost use Rattle.lorel_parse.specs.inside.Conditions as spec;
 ghost use Rattle.lorel_parse.specs.inside.Conditions.{unary, conj};
 ghost use Rattle.lorel_parse.specs.inside.Outcomes.{Reads, Finds};
@@ -9,25 +9,18 @@ use crate::faults::ParseFault;
 use crate::names::{atom, name};
 use crate::paths::rooted;
 use lore_base::{OemText, Op};
-use lorel_ast::{Cond, CondList, Operand, Rooted};
 use lorel_lex::{Kind, Sign};
+use lorel_trees::{Cond, CondList, Operand, Rooted};
 use std::alloc::Global;
 
 /// A condition that nests at most `depth` levels.
-#[tactic(auto, unfolding(crate::specs::inside::Conditions::condition))]
+#[cycle(condition)]
+#[tactic(auto, unfolding(crate::specs::inside::Conditions::list))]
 pub(crate) fn condition(
     alloc: Global,
     tokens: &mut Cursor<'_>,
     depth: u32,
 ) -> Result<Cond, ParseFault>
-    ensures { Reads cond_tree (spec.condition depth tokens.old) result tokens.new }
-{
-    disjunction(alloc, tokens, depth)
-}
-
-#[cycle(condition)]
-#[tactic(auto, unfolding(crate::specs::inside::Conditions::list))]
-fn disjunction(alloc: Global, tokens: &mut Cursor<'_>, depth: u32) -> Result<Cond, ParseFault>
     ensures { Reads cond_tree (spec.cond (unary depth) tokens.old) result tokens.new }
 {
     let first = conjunction(alloc, tokens, depth)?;
@@ -189,7 +182,7 @@ fn enclosed_condition(
     if depth == 0 {
         return Err(ParseFault::Syntax);
     }
-    disjunction(alloc, tokens, depth - 1)
+    condition(alloc, tokens, depth - 1)
 }
 
 #[tactic(auto, unfolding(crate::specs::inside::Conditions::comparison))]
@@ -201,7 +194,7 @@ fn comparison(alloc: Global, tokens: &mut Cursor<'_>, depth: u32) -> Result<Cond
 }
 
 // What may stand behind the left side: `==` behind a path, or an operator.
-#[tactic(auto, unfolding(crate::specs::inside::Conditions::behind_left))]
+#[tactic(auto, unfolding(crate::specs::inside::Conditions::behind_left, crate::specs::inside::Conditions::same_as))]
 fn behind_left(
     alloc: Global,
     tokens: &mut Cursor<'_>,
@@ -215,25 +208,12 @@ fn behind_left(
         Operand::Atom(value) => compared(alloc, tokens, depth, Operand::Atom(value)),
         Operand::At(path) => {
             if tokens.eat(Sign::SameAs) {
-                return same_as(alloc, tokens, depth, path);
+                let right = rooted(alloc, tokens, depth)?;
+                return Ok(Cond::Same { left: path, right });
             }
             compared(alloc, tokens, depth, Operand::At(path))
         }
     }
-}
-
-#[tactic(auto, unfolding(crate::specs::inside::Conditions::same_as))]
-fn same_as(
-    alloc: Global,
-    tokens: &mut Cursor<'_>,
-    depth: u32,
-    left: Rooted,
-) -> Result<Cond, ParseFault>
-    ensures { let outcome = spec.same_as depth (rooted_tree left) tokens.old in
-        Reads cond_tree outcome result tokens.new }
-{
-    let right = rooted(alloc, tokens, depth)?;
-    Ok(Cond::Same { left, right })
 }
 
 #[tactic(auto, unfolding(crate::specs::inside::Conditions::compared))]
@@ -293,14 +273,5 @@ fn operand(alloc: Global, tokens: &mut Cursor<'_>, depth: u32) -> Result<Operand
 fn begins_atom(tokens: &Cursor<'_>) -> bool
     ensures { result ≡ spec.begins_atom tokens.now }
 {
-    match tokens.peek() {
-        Some(kind) => is_atom(kind),
-        None => false,
-    }
-}
-
-fn is_atom(kind: &Kind) -> bool
-    ensures { result ≡ spec.is_atom kind.now }
-{
-    matches!(kind, Kind::Number(_) | Kind::Chars(_))
+    matches!(tokens.peek(), Some(Kind::Number(_) | Kind::Chars(_)))
 }

@@ -59,8 +59,8 @@ impl<'t> Cursor<'t> {
         ensures { result ≡ spec.sees sign self.now }
     {
         match self.peek() {
-            Some(kind) => is_symbol(kind, sign),
-            None => false,
+            Some(Kind::Symbol(other)) => *other == sign,
+            _ => false,
         }
     }
 
@@ -70,8 +70,8 @@ impl<'t> Cursor<'t> {
         ensures { result ≡ spec.sees_word wanted.now self.now }
     {
         match self.peek() {
-            Some(kind) => is_word(kind, wanted),
-            None => false,
+            Some(Kind::Word(text)) => text.as_bytes() == wanted,
+            _ => false,
         }
     }
 
@@ -132,23 +132,5 @@ impl<'t> Cursor<'t> {
         };
         self.skip();
         Ok(kind)
-    }
-}
-
-fn is_symbol(kind: &Kind, sign: Sign) -> bool
-    ensures { result ≡ spec.is_symbol sign kind.now }
-{
-    match kind {
-        Kind::Symbol(other) => *other == sign,
-        _ => false,
-    }
-}
-
-fn is_word(kind: &Kind, wanted: &[u8]) -> bool
-    ensures { result ≡ spec.is_word wanted.now kind.now }
-{
-    match kind {
-        Kind::Word(text) => text.as_bytes() == wanted,
-        _ => false,
     }
 }

@@ -7,8 +7,8 @@ use crate::faults::ParseFault;
 use crate::literals::{local, new_value};
 use crate::names::{label, name};
 use lore_base::{Mode, ObjectList, OemText, Oid, TextList, Value};
-use lorel_ast::{DumpEdges, DumpTree, NamedList};
 use lorel_lex::Kind;
+use lorel_trees::{DumpEdges, DumpTree, NamedList};
 use std::alloc::Global;
 
 /// A number.
@@ -154,42 +154,29 @@ pub(crate) fn dump_text(alloc: Global, tokens: &mut Cursor<'_>) -> Result<DumpTr
     let nodes = counted(tokens, b"nodes")?;
     tokens.expect_word(b"plan")?;
     let mode = mode(tokens)?;
-    let lists = lists(alloc, tokens)?;
+    let (labels, names, objects, edges) = lists(alloc, tokens)?;
     tokens.expect_word(b"end")?;
     Ok(DumpTree {
         version,
         next,
         nodes,
         mode,
-        labels: lists.labels,
-        names: lists.names,
-        objects: lists.objects,
-        edges: lists.edges,
-    })
-}
-
-// The lists of a dump text.
-#[derive(Drop)]
-struct DumpLists {
-    labels: TextList,
-    names: NamedList,
-    objects: ObjectList,
-    edges: DumpEdges,
-}
-
-#[tactic(auto, unfolding(crate::specs::inside::Statements::lists))]
-fn lists(alloc: Global, tokens: &mut Cursor<'_>) -> Result<DumpLists, ParseFault>
-    ensures { let outcome = spec.lists tokens.old in
-        Reads (λ l. (l.labels, (l.names, (l.objects, l.edges)))) outcome result tokens.new }
-{
-    let labels = dump_labels(alloc, tokens)?;
-    let names = dump_names(alloc, tokens)?;
-    let objects = dump_objects(alloc, tokens)?;
-    let edges = dump_edges(alloc, tokens)?;
-    Ok(DumpLists {
         labels,
         names,
         objects,
         edges,
     })
+}
+
+type DumpLists = (TextList, NamedList, ObjectList, DumpEdges);
+
+#[tactic(auto, unfolding(crate::specs::inside::Statements::lists))]
+fn lists(alloc: Global, tokens: &mut Cursor<'_>) -> Result<DumpLists, ParseFault>
+    ensures { Reads (λ l. (l.0, (l.1, (l.2, l.3)))) (spec.lists tokens.old) result tokens.new }
+{
+    let labels = dump_labels(alloc, tokens)?;
+    let names = dump_names(alloc, tokens)?;
+    let objects = dump_objects(alloc, tokens)?;
+    let edges = dump_edges(alloc, tokens)?;
+    Ok((labels, names, objects, edges))
 }

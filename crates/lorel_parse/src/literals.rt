@@ -1,5 +1,5 @@
 ghost use Rattle.std.specs.Prelude.{◌≡◌};
-ghost use Rattle.lorel_ast.specs.Trees.{literal_tree, member_tree, member_trees};
+ghost use Rattle.lorel_trees.specs.Trees.{literal_tree, member_tree, member_trees};
 ghost use Rattle.lorel_parse.specs.inside.Literals as spec;
 ghost use Rattle.lorel_parse.specs.inside.Outcomes.{Reads};
 
@@ -7,8 +7,8 @@ use crate::cursor::Cursor;
 use crate::faults::ParseFault;
 use crate::names::{atom, label};
 use lore_base::Value;
-use lorel_ast::{Literal, Member, MemberList};
 use lorel_lex::{Kind, Sign};
+use lorel_trees::{Literal, Member, MemberList};
 use std::alloc::Global;
 
 /// The local that stands next.
@@ -38,19 +38,7 @@ pub(crate) fn new_value(alloc: Global, tokens: &mut Cursor<'_>) -> Result<Value,
 fn sees_local(tokens: &Cursor<'_>) -> bool
     ensures { result ≡ spec.sees_local tokens.now }
 {
-    match tokens.peek() {
-        Some(kind) => is_local(kind),
-        None => false,
-    }
-}
-
-fn is_local(kind: &Kind) -> bool
-    ensures { result ≡ spec.is_local kind.now }
-{
-    match kind {
-        Kind::Local(_) => true,
-        _ => false,
-    }
+    matches!(tokens.peek(), Some(Kind::Local(_)))
 }
 
 // Whether an atom or a brace stands next.
@@ -59,18 +47,8 @@ fn sees_value(tokens: &Cursor<'_>) -> bool
     ensures { result ≡ spec.sees_value tokens.now }
 {
     match tokens.peek() {
-        Some(kind) => is_value(kind),
-        None => false,
-    }
-}
-
-fn is_value(kind: &Kind) -> bool
-    ensures { result ≡ spec.is_value kind.now }
-{
-    match kind {
-        Kind::Number(_) => true,
-        Kind::Chars(_) => true,
-        Kind::Symbol(sign) => *sign == Sign::LeftBrace,
+        Some(Kind::Number(_) | Kind::Chars(_)) => true,
+        Some(Kind::Symbol(sign)) => *sign == Sign::LeftBrace,
         _ => false,
     }
 }

@@ -1,14 +1,14 @@
 ghost use Rattle.std.specs.Prelude.{◌≡◌, map, IfOk, IfErr, All};
 ghost use Rattle.lorel_lex.specs.Tokens.{HasForm};
-ghost use Rattle.lorel_ast.specs.Trees.{StatementTree, statement_tree};
-ghost use Rattle.lorel_ast.specs.Tokens.{HasTokens};
-ghost use Rattle.lorel_ast.specs.Sound.{IsSound};
+ghost use Rattle.lorel_trees.specs.Trees.{StatementTree, statement_tree};
+ghost use Rattle.lorel_trees.specs.Tokens.{HasTokens};
+ghost use Rattle.lorel_trees.specs.Sound.{IsSound};
 
 use crate::cursor::Cursor;
 use crate::faults::ParseFault;
 use crate::statements::statement;
-use lorel_ast::Statement;
 use lorel_lex::TokenList;
+use lorel_trees::Statement;
 use std::alloc::Global;
 
 /// The statement that has these tokens.
@@ -30,6 +30,8 @@ pub fn parse(alloc: Global, tokens: &TokenList) -> Result<Statement, ParseFault>
     if cursor.len() == 0 {
         Ok(statement)
     } else {
+        // A drop that is written out is proved once; else it is proved in this function, at length.
+        drop(statement);
         Err(ParseFault::Syntax)
     }
 }

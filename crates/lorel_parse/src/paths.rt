@@ -1,6 +1,6 @@
 ghost use Rattle.std.specs.Prelude.{◌≡◌, List};
 ghost use Rattle.lore_base.specs.Paths.{path_tree, path_trees};
-ghost use Rattle.lorel_ast.specs.Trees.{rooted_tree};
+ghost use Rattle.lorel_trees.specs.Trees.{rooted_tree};
 ghost use Rattle.lorel_parse.specs.inside.Paths as spec;
 ghost use Rattle.lorel_parse.specs.inside.Outcomes.{Reads};
 
@@ -8,8 +8,8 @@ use crate::cursor::Cursor;
 use crate::faults::ParseFault;
 use crate::names::name;
 use lore_base::{Path, PathList, Pattern, TryCopy};
-use lorel_ast::Rooted;
 use lorel_lex::{Kind, Sign};
+use lorel_trees::Rooted;
 use std::alloc::Global;
 
 /// A path: its start and its parts. Its groups nest at most `depth` levels.

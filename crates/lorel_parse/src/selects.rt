@@ -1,7 +1,7 @@
 ghost use Rattle.std.specs.Prelude.{◌≡◌, map, option_map};
 ghost use Rattle.lorel_lex.specs.declared.token_types.Sign.TheVariants as s;
-ghost use Rattle.lorel_ast.specs.Trees.{rooted_tree, item_tree, from_tree, cond_tree};
-ghost use Rattle.lorel_ast.specs.Trees.{tail_tree, select_tree};
+ghost use Rattle.lorel_trees.specs.Trees.{rooted_tree, item_tree, from_tree, cond_tree};
+ghost use Rattle.lorel_trees.specs.Trees.{tail_tree, select_tree};
 ghost use Rattle.lorel_parse.specs.inside.Selects as spec;
 ghost use Rattle.lorel_parse.specs.inside.Repetitions.{each};
 ghost use Rattle.lorel_parse.specs.inside.Outcomes.{Reads, sees};
@@ -9,11 +9,12 @@ ghost use Rattle.lorel_parse.specs.inside.Outcomes.{Reads, sees};
 use crate::conditions::condition;
 use crate::cursor::Cursor;
 use crate::faults::ParseFault;
-use crate::names::{is_reserved, name};
+use crate::names::name;
 use crate::paths::rooted;
+use lore_base::is_reserved;
 use lore_base::limits::NESTING;
-use lorel_ast::{Cond, FromItem, FromList, Item, ItemList, Rooted, Select, Tail};
 use lorel_lex::{Kind, Sign};
+use lorel_trees::{Cond, FromItem, FromList, Item, ItemList, Rooted, Select, Tail};
 use std::alloc::Global;
 
 /// Whether an identifier stands next that isn't reserved.
@@ -22,16 +23,7 @@ pub(crate) fn sees_name(tokens: &Cursor<'_>) -> bool
     ensures { result ≡ spec.sees_name tokens.now }
 {
     match tokens.peek() {
-        Some(kind) => is_name(kind),
-        None => false,
-    }
-}
-
-fn is_name(kind: &Kind) -> bool
-    ensures { result ≡ spec.is_name kind.now }
-{
-    match kind {
-        Kind::Word(text) => !is_reserved(text.as_bytes()),
+        Some(Kind::Word(text)) => !is_reserved(text.as_bytes()),
         _ => false,
     }
 }
@@ -40,19 +32,7 @@ fn is_name(kind: &Kind) -> bool
 fn sees_path_of(tokens: &Cursor<'_>) -> bool
     ensures { result ≡ spec.sees_path_of tokens.now }
 {
-    match tokens.peek() {
-        Some(kind) => is_path_of(kind),
-        None => false,
-    }
-}
-
-fn is_path_of(kind: &Kind) -> bool
-    ensures { result ≡ spec.is_path_of kind.now }
-{
-    match kind {
-        Kind::PathOf => true,
-        _ => false,
-    }
+    matches!(tokens.peek(), Some(Kind::PathOf))
 }
 
 #[tactic(auto, unfolding(crate::specs::inside::Selects::range))]
@@ -124,7 +104,7 @@ fn more_ranges(
     Ok(found)
 }
 
-#[tactic(auto, unfolding(crate::specs::inside::Selects::such_that))]
+#[tactic(auto, unfolding(crate::specs::inside::Selects::such_that, crate::specs::inside::Conditions::condition))]
 fn such_that(alloc: Global, tokens: &mut Cursor<'_>) -> Result<Option<Cond>, ParseFault>
     ensures { Reads (option_map cond_tree) (spec.such_that tokens.old) result tokens.new }
 {

@@ -1,5 +1,5 @@
 ghost use Rattle.std.specs.Prelude.{◌≡◌, []};
-ghost use Rattle.lorel_ast.specs.Trees.{rooted_tree, statement_tree};
+ghost use Rattle.lorel_trees.specs.Trees.{rooted_tree, statement_tree};
 ghost use Rattle.lorel_parse.specs.inside.Statements as spec;
 ghost use Rattle.lorel_parse.specs.inside.Outcomes.{Reads};
 
@@ -9,12 +9,12 @@ use crate::faults::ParseFault;
 use crate::literals::{literal, new_value};
 use crate::names::{label, name};
 use crate::paths::rooted;
-use crate::selects::{sees_name, tail};
+use crate::selects::{sees_name, select, tail};
 use crate::targets::aimed;
 use lore_base::limits::NESTING;
 use lore_base::{OemText, TextList};
-use lorel_ast::{LabelPath, Rooted, Statement};
 use lorel_lex::{Kind, Sign};
+use lorel_trees::{LabelPath, Rooted, Statement};
 use std::alloc::Global;
 
 /// A statement, by its first word.
@@ -29,7 +29,7 @@ pub(crate) fn statement(alloc: Global, tokens: &mut Cursor<'_>) -> Result<Statem
 }
 
 // The forms that change the database, or another form that this word begins.
-#[tactic(auto, unfolding(crate::specs::inside::Statements::changing))]
+#[tactic(auto, unfolding(crate::specs::inside::Statements::changing, crate::specs::inside::Statements::unname, crate::specs::inside::Statements::update))]
 fn changing(alloc: Global, tokens: &mut Cursor<'_>, first: &[u8]) -> Result<Statement, ParseFault>
     ensures { Reads statement_tree (spec.changing first.now tokens.old) result tokens.new }
 {
@@ -40,30 +40,33 @@ fn changing(alloc: Global, tokens: &mut Cursor<'_>, first: &[u8]) -> Result<Stat
         return bind(alloc, tokens);
     }
     if first == b"unname".as_slice() {
-        return unname(alloc, tokens);
+        let name = name(alloc, tokens)?;
+        return Ok(Statement::Unname { name });
     }
     if first == b"update".as_slice() {
-        return update(alloc, tokens);
+        let path = rooted(alloc, tokens, NESTING)?;
+        return changed(alloc, tokens, path);
     }
     asking(alloc, tokens, first)
 }
 
 // The forms that ask, or another form that this word begins.
-#[tactic(auto, unfolding(crate::specs::inside::Statements::asking))]
+#[tactic(auto, unfolding(crate::specs::inside::Statements::asking, crate::specs::inside::Statements::select, crate::specs::inside::Statements::explain, crate::specs::inside::Statements::browse))]
 fn asking(alloc: Global, tokens: &mut Cursor<'_>, first: &[u8]) -> Result<Statement, ParseFault>
     ensures { Reads statement_tree (spec.asking first.now tokens.old) result tokens.new }
 {
     if first == b"select".as_slice() {
-        return select(alloc, tokens);
+        return Ok(Statement::Select(select(alloc, tokens)?));
     }
     if first == b"explain".as_slice() {
-        return explain(alloc, tokens);
+        tokens.expect_word(b"select")?;
+        return Ok(Statement::Explain(select(alloc, tokens)?));
     }
     if first == b"guide".as_slice() {
         return Ok(Statement::Guide);
     }
     if first == b"browse".as_slice() {
-        return browse(alloc, tokens);
+        return Ok(Statement::Browse(label_path(alloc, tokens)?));
     }
     if first == b"sample".as_slice() {
         return sample(alloc, tokens);
@@ -72,7 +75,7 @@ fn asking(alloc: Global, tokens: &mut Cursor<'_>, first: &[u8]) -> Result<Statem
 }
 
 // The forms that set limits, dump, restore and make data.
-#[tactic(auto, unfolding(crate::specs::inside::Statements::administering))]
+#[tactic(auto, unfolding(crate::specs::inside::Statements::administering, crate::specs::inside::Statements::restore))]
 fn administering(
     alloc: Global,
     tokens: &mut Cursor<'_>,
@@ -87,7 +90,7 @@ fn administering(
         return Ok(Statement::Dump);
     }
     if first == b"restore".as_slice() {
-        return restore(alloc, tokens);
+        return Ok(Statement::Restore(dump_text(alloc, tokens)?));
     }
     if first == b"generate".as_slice() {
         return generate(tokens);
@@ -113,23 +116,6 @@ fn bind(alloc: Global, tokens: &mut Cursor<'_>) -> Result<Statement, ParseFault>
     tokens.expect(Sign::Assign)?;
     let path = rooted(alloc, tokens, NESTING)?;
     Ok(Statement::Name { name, path })
-}
-
-#[tactic(auto, unfolding(crate::specs::inside::Statements::unname))]
-fn unname(alloc: Global, tokens: &mut Cursor<'_>) -> Result<Statement, ParseFault>
-    ensures { Reads statement_tree (spec.unname tokens.old) result tokens.new }
-{
-    Ok(Statement::Unname {
-        name: name(alloc, tokens)?,
-    })
-}
-
-#[tactic(auto, unfolding(crate::specs::inside::Statements::update))]
-fn update(alloc: Global, tokens: &mut Cursor<'_>) -> Result<Statement, ParseFault>
-    ensures { Reads statement_tree (spec.update tokens.old) result tokens.new }
-{
-    let path = rooted(alloc, tokens, NESTING)?;
-    changed(alloc, tokens, path)
 }
 
 // What stands behind the path of an update. The target of `+=` and `-=` is the path without its
@@ -215,21 +201,6 @@ fn removed(
     })
 }
 
-#[tactic(auto, unfolding(crate::specs::inside::Statements::select))]
-fn select(alloc: Global, tokens: &mut Cursor<'_>) -> Result<Statement, ParseFault>
-    ensures { Reads statement_tree (spec.select tokens.old) result tokens.new }
-{
-    Ok(Statement::Select(crate::selects::select(alloc, tokens)?))
-}
-
-#[tactic(auto, unfolding(crate::specs::inside::Statements::explain))]
-fn explain(alloc: Global, tokens: &mut Cursor<'_>) -> Result<Statement, ParseFault>
-    ensures { Reads statement_tree (spec.explain tokens.old) result tokens.new }
-{
-    tokens.expect_word(b"select")?;
-    Ok(Statement::Explain(crate::selects::select(alloc, tokens)?))
-}
-
 #[tactic(auto, unfolding(crate::specs::inside::Statements::labels, crate::specs::inside::Repetitions::each, crate::specs::inside::Repetitions::each_in))]
 fn labels(alloc: Global, tokens: &mut Cursor<'_>) -> Result<TextList, ParseFault>
     ensures { Reads (λ labels. labels) (spec.labels [] tokens.old) result tokens.new }
@@ -255,13 +226,6 @@ fn label_path(alloc: Global, tokens: &mut Cursor<'_>) -> Result<LabelPath, Parse
     Ok(LabelPath { start, labels })
 }
 
-#[tactic(auto, unfolding(crate::specs::inside::Statements::browse))]
-fn browse(alloc: Global, tokens: &mut Cursor<'_>) -> Result<Statement, ParseFault>
-    ensures { Reads statement_tree (spec.browse tokens.old) result tokens.new }
-{
-    Ok(Statement::Browse(label_path(alloc, tokens)?))
-}
-
 #[tactic(auto, unfolding(crate::specs::inside::Statements::sample))]
 fn sample(alloc: Global, tokens: &mut Cursor<'_>) -> Result<Statement, ParseFault>
     ensures { Reads statement_tree (spec.sample tokens.old) result tokens.new }
@@ -280,13 +244,6 @@ fn set(tokens: &mut Cursor<'_>) -> Result<Statement, ParseFault>
     }
     tokens.expect_word(b"plan")?;
     Ok(Statement::SetPlan(mode(tokens)?))
-}
-
-#[tactic(auto, unfolding(crate::specs::inside::Statements::restore))]
-fn restore(alloc: Global, tokens: &mut Cursor<'_>) -> Result<Statement, ParseFault>
-    ensures { Reads statement_tree (spec.restore tokens.old) result tokens.new }
-{
-    Ok(Statement::Restore(dump_text(alloc, tokens)?))
 }
 
 #[tactic(auto, unfolding(crate::specs::inside::Statements::generate))]

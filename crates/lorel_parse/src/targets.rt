@@ -1,12 +1,12 @@
 ghost use Rattle.std.specs.Prelude.{◌≡◌};
 ghost use Rattle.lore_base.specs.Paths.{path_tree};
-ghost use Rattle.lorel_ast.specs.Trees.{rooted_tree};
+ghost use Rattle.lorel_trees.specs.Trees.{rooted_tree};
 ghost use Rattle.lorel_parse.specs.inside.Outcomes.{Finds};
 ghost use Rattle.lorel_parse.specs.inside.Targets as spec;
 
 use crate::faults::ParseFault;
 use lore_base::{OemText, Path, Pattern};
-use lorel_ast::Rooted;
+use lorel_trees::Rooted;
 
 /// The target of an addition or a removal and its label, from the path that stands before the
 /// symbol: the path without its last part, which must be a plain label.
@@ -28,16 +28,7 @@ fn plain_label(last: Path) -> Option<OemText>
     ensures { result ≡ spec.plain_label (path_tree last) }
 {
     match last {
-        Path::Step(pattern) => plain_text(pattern),
+        Path::Step(Pattern::Plain(text)) => Some(text),
         _ => None,
-    }
-}
-
-fn plain_text(pattern: Pattern) -> Option<OemText>
-    ensures { result ≡ spec.plain_text pattern }
-{
-    match pattern {
-        Pattern::Plain(text) => Some(text),
-        Pattern::Wild(_) => None,
     }
 }

@@ -1,5 +1,5 @@
 -- Ascending edges: their order, and lists of which one comes behind the other.
-use Rattle.std.proofs.Common.{◌≡◌, ℕ, ◌-◌, ◌<◌, ◌↔◌, true, Less, List, ◌++◌, length, get_or, AllPairs, Contains, Some, zero, suc, refl, ap, ◌∙◌, ◌⊎◌, inl, inr, arith, length-append}
+use Rattle.std.proofs.Common.{◌≡◌, ℕ, ◌+◌, ◌-◌, ◌<◌, ◌↔◌, true, Less, Equal, List, ◌++◌, length, get_or, Contains, Some, zero, suc, refl, ap, ◌∙◌, ◌⊎◌, inl, inr, arith, length-append}
 use Rattle.std.specs.Cmp.{IsTotalOrder}
 use Rattle.std.specs.List.{slice_get}
 use Rattle.std.proofs.lemmas.Bool.{cases_lt}
@@ -8,6 +8,7 @@ use Rattle.std.proofs.lemmas.Cmp.{nat_cmp_total, on_total, then_total}
 use Rattle.std.proofs.lemmas.List.{get_or_append_left, get_or-append_right}
 use Rattle.std.proofs.lemmas.List.Elements.{Contains-append_cases, Contains-append_left, Contains-append_right}
 use Rattle.std.proofs.lemmas.Option.{get_or_from_slice_get}
+use Rattle.lore_base.proofs.ListLaws.{AllPairs-append}
 use Rattle.oem_graph.specs.Types.{Edge}
 use Rattle.oem_graph.specs.inside.EdgeTests.{edge_eq}
 use Rattle.lore_base.specs.Walks.{edge_cmp}
@@ -23,18 +24,30 @@ edge_same a b h =
     let child : a.child.0 ≡ b.child.0 = grind (arith, nat_tests) in
     λ i. record { parent = record { 0 = parent i }; label = record { 0 = label i }; child = record { 0 = child i } }
 
--- pairs within the parts and across them are the pairs of the whole
-pub AllPairs-append : {X : Type 0} (R : X → X → Type 0) (xs ys : List X) → AllPairs R xs → AllPairs R ys
-    → ((i j : ℕ) (d : X) → i < length xs → j < length ys → R (get_or xs i d) (get_or ys j d)) → AllPairs R (xs ++ ys)
-AllPairs-append R xs ys first second across i j d lt len =
-    let total = length-append xs ys in
-    elim (cases_lt j (length xs)) [
-      | inl early ↦ let early_i : i < length xs = omega arith in rw (get_or_append_left xs ys d i early_i, get_or_append_left xs ys d j early) (first i j d lt early)
-      | inr late ↦ elim (cases_lt i (length xs)) [
-        | inl early_i ↦ rw (get_or_append_left xs ys d i early_i, get_or-append_right xs ys (length xs) j d refl late) (across i (j - length xs) d early_i (omega arith))
-        | inr late_i ↦ rw (get_or-append_right xs ys (length xs) i d refl late_i, get_or-append_right xs ys (length xs) j d refl late) (second (i - length xs) (j - length xs) d (omega arith) (omega arith))
-      ]
-    ]
+pub equal_edges : (a b : Edge) → edge_cmp a b ≡ Equal → a ≡ b
+equal_edges a b h = edge_same a b (grind (arith, nat_tests))
+
+-- the parts of ascending edges ascend, and each edge of the first is below each of the second
+pub ascend-front : (xs ys : List Edge) → AreAscendingEdges (xs ++ ys) → AreAscendingEdges xs
+ascend-front xs ys ascend i j d lt len =
+    rw (← get_or_append_left xs ys d i (omega arith), ← get_or_append_left xs ys d j len) (ascend i j d lt (omega (arith, length-append xs ys)))
+
+pub ascend-back : (xs ys : List Edge) → AreAscendingEdges (xs ++ ys) → AreAscendingEdges ys
+ascend-back xs ys ascend i j d lt len =
+    let i_at = get_or-append_right xs ys (length xs) (length xs + i) d refl (omega arith) in
+    let j_at = get_or-append_right xs ys (length xs) (length xs + j) d refl (omega arith) in
+    let both = ascend (length xs + i) (length xs + j) d (omega arith) (omega (arith, length-append xs ys)) in
+    let i_is : length xs + i - length xs ≡ i = omega arith in
+    let j_is : length xs + j - length xs ≡ j = omega arith in
+    rw (i_at, j_at, i_is, j_is) at both
+
+pub ascend-across : (xs ys : List Edge) → AreAscendingEdges (xs ++ ys) → (i j : ℕ) (d : Edge) → i < length xs → j < length ys → edge_cmp (get_or xs i d) (get_or ys j d) ≡ Less
+ascend-across xs ys ascend i j d lt_i lt_j =
+    let i_at = get_or_append_left xs ys d i lt_i in
+    let j_at = get_or-append_right xs ys (length xs) (length xs + j) d refl (omega arith) in
+    let both = ascend i (length xs + j) d (omega arith) (omega (arith, length-append xs ys)) in
+    let j_is : length xs + j - length xs ≡ j = omega arith in
+    rw (i_at, j_at, j_is) at both
 
 -- each of ascending edges is the last one or comes before it, and the first one comes before each other
 up_to_last : (xs : List Edge) → AreAscendingEdges xs → (last above : Edge) → slice_get xs (length xs - 1) ≡ Some last → edge_cmp last above ≡ Less
@@ -46,7 +59,7 @@ up_to_last xs ascend last above at below i d lt =
       | inr late ↦ let here : i ≡ length xs - 1 = omega arith in rw (ap (λ k. get_or xs k d) here ∙ read) below
     ]
 
-from_first : (ys : List Edge) → AreAscendingEdges ys → (first below : Edge) → slice_get ys 0 ≡ Some first → edge_cmp below first ≡ Less
+pub from_first : (ys : List Edge) → AreAscendingEdges ys → (first below : Edge) → slice_get ys 0 ≡ Some first → edge_cmp below first ≡ Less
     → (j : ℕ) (d : Edge) → j < length ys → edge_cmp below (get_or ys j d) ≡ Less
 from_first ys ascend first below at above zero d lt = rw (get_or_from_slice_get ys 0 first d at) above
 from_first ys ascend first below at above (suc j) d lt =

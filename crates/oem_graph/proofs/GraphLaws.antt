@@ -1,12 +1,12 @@
--- The new graph is sound.
+-- The new graph is in order, and has few edges.
 use Rattle.std.proofs.Common.{arith}
 use Rattle.std.specs.List.Sorted.{IsStrictlySortedBy}
 use Rattle.lore_base.specs.Databases.{new_graph}
-use Rattle.oem_graph.specs.Graphs.{IsSound}
+use Rattle.oem_graph.specs.Graphs.{IsIndexable}
 
-pub sound-new : IsSound new_graph
+pub indexable-new : IsIndexable new_graph
 unfolding IsStrictlySortedBy
-sound-new = record {
+indexable-new = record {
   ordered = record {
     names_ascend = tt;
     objects_ascend = λ i j d lt len. absurd (omega arith);

@@ -1,5 +1,6 @@
 pub mod ObjectLaws
 pub mod EdgeLaws
+pub mod StrandLaws
 pub mod SearchLaws
 pub mod RunLaws
 pub mod NameLaws

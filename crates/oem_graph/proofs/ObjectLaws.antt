@@ -1,6 +1,6 @@
 -- Ascending objects: how many there are, which value an object has, and what made objects behind them keep.
 use Rattle.std.proofs.Common.{◌≡◌, ℕ, ◌+◌, ◌<◌, ◌≤◌, List, [], ◌∷◌, ◌++◌, length, get_or, All, Contains, zero, suc, sym, ap, ◌∙◌, inl, inr, arith}
-use Rattle.std.proofs.Common.{Err, nat_cmp, Less, Equal, Greater}
+use Rattle.std.proofs.Common.{Err, true, eqb, nat_cmp, Less, Equal, Greater}
 use Rattle.std.specs.List.Sorted.{IsBinarySearchResult, IsNonDecreasingBy}
 use Rattle.std.specs.Ordering.{ordering_index}
 use Rattle.std.proofs.lemmas.Bool.{cases_lt}
@@ -8,7 +8,7 @@ use Rattle.std.proofs.lemmas.Bool.Decides.{nat_tests}
 use Rattle.std.proofs.lemmas.Cmp.{ranked}
 use Rattle.std.proofs.lemmas.List.{get_or_default}
 use Rattle.std.proofs.lemmas.List.Elements.{All-append}
-use Rattle.oem_graph.proofs.EdgeLaws.{AllPairs-append}
+use Rattle.lore_base.proofs.ListLaws.{AllPairs-append}
 use Rattle.oem_graph.specs.Types.{Oid, Value}
 use Rattle.lore_base.specs.Databases.{AreAscendingObjects, IsLive}
 use Rattle.lore_base.specs.ChangeSets.{AreNumberedFrom}
@@ -51,6 +51,13 @@ found_value objects oid place d lt equal =
     let number : (get_or objects place d).0.0 ≡ oid.0 = ranked _ _ Equal (sym equal) in
     let same : ◌≡◌ {A = Oid × Value} (get_or objects place d) (oid, value) = ap (λ n. (record { 0 = n }, value)) number in
     (place, lt, get_or_default objects place (oid, value) d lt ∙ same)
+
+-- an object that stands at a place has the value that stands there
+pub here_value : (objects : List (Oid × Value)) (oid : Oid) (place : ℕ) (object : Oid × Value) → place < length objects → object ≡ get_or objects place object → eqb object.0.0 oid.0 ≡ true → Contains objects (oid, object.1)
+here_value objects oid place object lt is tested =
+    let number : object.0.0 ≡ oid.0 = grind (arith, nat_tests) in
+    let same : ◌≡◌ {A = Oid × Value} object (oid, object.1) = ap (λ n. (record { 0 = n }, object.1)) number in
+    (place, lt, get_or_default objects place (oid, object.1) object lt ∙ sym is ∙ same)
 
 comparison_rises : (a b n : ℕ) → a ≤ b → ordering_index (nat_cmp a n) ≤ ordering_index (nat_cmp b n)
 comparison_rises a b n h = grind (arith, nat_tests)

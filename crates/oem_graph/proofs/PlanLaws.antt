@@ -2,7 +2,7 @@
 use Rattle.std.proofs.Common.{◌≡◌, ℕ, ◌+◌, ◌≤◌, ◌↔◌, ◌⊎◌, inl, inr, List, [], ◌∷◌, ◌++◌, length, Contains, refl, sym, ap, ◌∙◌, subst, arith}
 use Rattle.oem_graph.specs.Types.{Oid, Edge, Value, Changes}
 use Rattle.lore_base.specs.Databases.{OemGraph, IsOrdered, AreAscendingEdges}
-use Rattle.lore_base.specs.ChangeSets.{Fits, IsGraphThen, names_after}
+use Rattle.lore_base.specs.ChangeSets.{FitsGraph, IsGraphThen, names_after}
 use Rattle.lore_base.proofs.MemberLaws.{Contains-none}
 use Rattle.oem_graph.specs.Plans.{PlannedChange, staying, objects_then, LeadsTo, LeadsFrom}
 use Rattle.oem_graph.proofs.NameLaws.{IsNameTable-names_after}
@@ -26,7 +26,7 @@ module _ (graph : OemGraph) (changes : Changes) (plan : PlannedChange) (brings :
   objects_brought : objects_then graph plan ≡ graph.objects ++ changes.made
   objects_brought = rw (brings.objects_gone, brings.objects_come) (ap (λ (l : List (Oid × Value)). l ++ changes.made) (staying-none graph.objects))
 
-  pub leads-brought : IsOrdered graph → Fits graph changes → LeadsFrom graph plan
+  pub leads-brought : IsOrdered graph → FitsGraph graph changes → LeadsFrom graph plan
   leads-brought ordered fits = record {
     names_ascend = rw brings.names (IsNameTable-names_after graph.names changes.named ordered.names_ascend);
     objects_ascend = rw objects_brought (ascend-made graph.objects changes.made graph.next ordered.objects_ascend ordered.objects_numbered fits.numbered);

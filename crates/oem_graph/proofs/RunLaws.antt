@@ -2,7 +2,7 @@
 use Rattle.std.proofs.Common.{◌≡◌, ℕ, ◌+◌, ◌<◌, ◌≤◌, Bool, true, false, nat_eq, nat_cmp, Less, ltb, leb, List, [], ◌∷◌, ◌++◌, length, get_or, take, drop, All, refl, sym, ap, subst, ◌∙◌, inl, inr, arith, length-take, length-drop}
 use Rattle.std.specs.declared.cmp.Ordering.{Ordering}
 use Rattle.std.specs.Ordering.{ordering_then}
-use Rattle.std.specs.List.{filter, AllWithin}
+use Rattle.std.specs.List.{filter, AllWithin, HoldsAt}
 use Rattle.std.specs.List.Sorted.{IsNonDecreasingBy, IsPartitionPoint}
 use Rattle.std.proofs.lemmas.Bool.{cases_lt}
 use Rattle.std.proofs.lemmas.Bool.Decides.{nat_tests}
@@ -26,7 +26,7 @@ All-front P xs n h k d lt =
     let below : k < n = omega (arith, length-take n xs) in
     subst P (sym (get_or-take n xs k d below)) (h k d (omega arith) below)
 
-All-back : {X : Type 0} (P : X → Type 0) (xs : List X) (n : ℕ) → AllWithin P xs n (length xs) → All P (drop n xs)
+pub All-back : {X : Type 0} (P : X → Type 0) (xs : List X) (n : ℕ) → AllWithin P xs n (length xs) → All P (drop n xs)
 All-back P xs n h k d lt =
     subst P (sym (get_or-drop n xs k d)) (h (n + k) d (omega arith) (omega (arith, length-drop n xs)))
 
@@ -49,6 +49,23 @@ ne_of_lower a n h = grind (arith, nat_tests)
 
 ne_of_higher : (a n : ℕ) → leb a n ≡ false → nat_eq a n ≡ false
 ne_of_higher a n h = grind (arith, nat_tests)
+
+le_of_same : (a n : ℕ) → a ≡ n → leb a n ≡ true
+le_of_same a n h = grind (arith, nat_tests)
+
+above_of : (a b n : ℕ) → ltb a n ≡ false → (a ≡ n → ⊥) → a ≤ b → leb b n ≡ false
+above_of a b n low other le = grind (arith, nat_tests)
+
+-- where no parent is below the object, its run ends at the first edge with another parent
+pub run_ends : (edges : List Edge) (oid : Oid) (len : ℕ) → IsNonDecreasingBy (λ e. e.parent.0) edges → All (λ e. ltb e.parent.0 oid.0 ≡ false) edges
+    → AllWithin (λ e. e.parent.0 ≡ oid.0) edges 0 len → (len < length edges → HoldsAt (λ e. e.parent.0 ≡ oid.0 → ⊥) edges len)
+    → IsPartitionPoint (λ e. leb e.parent.0 oid.0 ≡ true) (λ e. leb e.parent.0 oid.0 ≡ false) edges len
+run_ends edges oid len rise none_lower run end = (
+  λ k d from below. le_of_same (get_or edges k d).parent.0 oid.0 (run k d from below),
+  λ k d from below.
+      let inside : len < length edges = omega arith in
+      above_of (get_or edges len d).parent.0 (get_or edges k d).parent.0 oid.0 (none_lower len d inside) (end inside d) (rise len k d from below),
+)
 
 -- the edges from the first whose parent isn't below the object, up to the first of these whose parent is above it
 pub run_is : (edges : List Edge) (oid : Oid) (start len : ℕ)

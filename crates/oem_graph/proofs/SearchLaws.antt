@@ -1,5 +1,5 @@
 -- A binary search among ascending edges tells which edges stand there.
-use Rattle.std.proofs.Common.{◌≡◌, ℕ, ◌<◌, ◌≤◌, ◌⊎◌, ◌↔◌, ◌||◌, not, Bool, true, false, cond, subst, Less, Equal, Err, List, [], ◌∷◌, length, get_or, Contains, refl, sym, ap, ◌∙◌, inl, inr, arith}
+use Rattle.std.proofs.Common.{◌≡◌, ℕ, ◌<◌, ◌≤◌, ◌⊎◌, ◌||◌, not, Bool, true, false, cond, subst, Less, Equal, Err, List, [], ◌∷◌, ◌++◌, length, get_or, Contains, refl, sym, ap, ◌∙◌, inl, inr, arith}
 use Rattle.std.proofs.lemmas.Bool.{true≢false}
 use Rattle.std.specs.List.{filter}
 use Rattle.std.proofs.lemmas.List.Kept.{AllPairs-filter}
@@ -10,10 +10,11 @@ use Rattle.std.proofs.lemmas.Bool.Decides.{nat_tests}
 use Rattle.std.proofs.lemmas.List.{get_or_default}
 use Rattle.oem_graph.specs.Types.{Edge}
 use Rattle.oem_graph.specs.inside.EdgeTests.{edge_eq, is_listed, AreFresh}
+use Rattle.oem_graph.specs.inside.Strands.{AreSorted}
 use Rattle.lore_base.specs.Walks.{edge_cmp}
 use Rattle.lore_base.specs.Databases.{AreAscendingEdges}
 use Rattle.lore_base.proofs.MemberLaws.{Contains-none, Contains-head, Contains-tail, Contains-cases, Contains-same, Contains-filter, unfiltered}
-use Rattle.oem_graph.proofs.EdgeLaws.{edge_same}
+use Rattle.oem_graph.proofs.EdgeLaws.{edge_same, equal_edges, ascend-across}
 
 eq_self : (edge : Edge) → edge_eq edge edge ≡ true
 eq_self edge = grind (arith, nat_tests)
@@ -42,16 +43,13 @@ comparisons_rise edges ascend x i j d le lt = elim (cases_lt i j) [
   | inr ge ↦ let same : i ≡ j = omega arith in omega (arith, ap (λ k. ordering_index (edge_cmp (get_or edges k d) x)) same)
 ]
 
-equal_same : (a b : Edge) → edge_cmp a b ≡ Equal → edge_eq a b ≡ true
-equal_same a b h = grind (arith, nat_tests)
-
 cmp_self : (a : Edge) → edge_cmp a a ≡ Equal
 cmp_self a = grind (arith, nat_tests)
 
 -- what stands at a place and compares equal is the edge
 pub found_edge : (edges : List Edge) (edge : Edge) (place : ℕ) (d : Edge) → place < length edges → edge_cmp (get_or edges place d) edge ≡ Equal → Contains edges edge
 found_edge edges edge place d lt equal =
-    (place, lt, get_or_default edges place edge d lt ∙ edge_same (get_or edges place d) edge (equal_same (get_or edges place d) edge equal))
+    (place, lt, get_or_default edges place edge d lt ∙ equal_edges (get_or edges place d) edge equal)
 
 -- where a search ends at a gap the edge does not stand there
 pub none_found : (edges : List Edge) → AreAscendingEdges edges → (edge : Edge) (place : ℕ) → IsBinarySearchResult (λ e. edge_cmp e edge) edges (Err place) → Contains edges edge → ⊥
@@ -96,14 +94,26 @@ module _ (kept more fresh : List Edge) (is : fresh ≡ filter (λ edge. not (is_
   fresh-few = rw is (length-filtered (λ edge. not (is_listed kept edge)) more)
 
 -- added edges that were sorted, each once, and lost those that are kept
-pub fresh-sorted : (kept added all sorted fresh : List Edge) → all ≡ added → AreAscendingEdges sorted
-    → ((edge : Edge) → Contains sorted edge ↔ Contains all edge) → length sorted ≤ length all
-    → fresh ≡ filter (λ edge. not (is_listed kept edge)) sorted → AreFresh kept added fresh
-fresh-sorted kept added all sorted fresh same ascend members few is = record {
-  ascend = fresh-ascend kept sorted fresh is ascend;
-  come = λ edge at.
-      let passed = fresh-come kept sorted fresh is edge at in
-      (subst (λ (l : List Edge). Contains l edge) same ((members edge).0 passed.0), passed.1);
-  rest = λ edge at. fresh-rest kept sorted fresh is edge ((members edge).1 (subst (λ (l : List Edge). Contains l edge) (sym same) at));
-  few = omega (arith, fresh-few kept sorted fresh is, few, ap length same);
+pub fresh-sorted : (kept added sorted fresh : List Edge) → AreSorted added sorted → fresh ≡ filter (λ edge. not (is_listed kept edge)) sorted → AreFresh kept added fresh
+fresh-sorted kept added sorted fresh all is = record {
+  ascend = fresh-ascend kept sorted fresh is all.ascend;
+  come = λ edge at. (let passed = fresh-come kept sorted fresh is edge at in ((all.members edge).0 passed.0, passed.1));
+  rest = λ edge at. fresh-rest kept sorted fresh is edge ((all.members edge).1 at);
+  few = omega (arith, fresh-few kept sorted fresh is, all.few);
+}
+
+-- what comes behind the edges that are kept is not among them
+apart : (kept more : List Edge) → AreAscendingEdges (kept ++ more) → (edge : Edge) → Contains more edge → Contains kept edge → ⊥
+apart kept more ascend edge at there =
+    let less = rw (there.2, at.2) at (ascend-across kept more ascend there.0 at.0 edge there.1 at.1) in
+    let none : Less ≡ Equal = sym less ∙ cmp_self edge in
+    cc
+
+-- added edges that were sorted, each once, and come behind those that are kept
+pub fresh-behind : (kept added sorted : List Edge) → AreSorted added sorted → AreAscendingEdges (kept ++ sorted) → AreFresh kept added sorted
+fresh-behind kept added sorted all ascend = record {
+  ascend = all.ascend;
+  come = λ edge at. ((all.members edge).0 at, apart kept sorted ascend edge at);
+  rest = λ edge at. inr ((all.members edge).1 at);
+  few = all.few;
 }

@@ -8,7 +8,7 @@ pub record RoomyGraph : Type 0 where
   pub object_room : ℕ
   pub edge_room : ℕ
 
--- the graph is in order, and a number of 32 bits counts its edges
-pub record IsSound (graph : OemGraph) : Type 0 where
+-- the graph is in order, and numbers of 32 bits tell its objects and its edges by their places
+pub record IsIndexable (graph : OemGraph) : Type 0 where
   pub ordered : IsOrdered graph
   pub few_edges : length graph.edges < 2 ^ 32

@@ -5,8 +5,12 @@ ghost use Rattle.oem_graph.specs.Types.{Edge as TheEdge};
 ghost use Rattle.lore_base.specs.Databases.{AreAscendingEdges};
 ghost use Rattle.oem_graph.specs.inside.EdgeTests.{is_listed, AreFresh};
 
+use crate::edge_strands::sorted_set;
 use lore_base::{Edge, EdgeBuf, NoMemory, RoomyList};
 use std::alloc::Global;
+
+// How many strands are taken out of the added edges before what is left is sorted as any list.
+const STRANDS: u8 = 8;
 
 // Whether the edges of `more` come behind all that are kept, told by the last of these and the
 // first of those.
@@ -50,14 +54,16 @@ fn without_kept(alloc: Global, kept: &[Edge], more: &[Edge]) -> Result<EdgeBuf, 
     Ok(fresh)
 }
 
-// The added edges that aren't kept, in ascending order, each once.
+// The added edges that aren't kept, in ascending order, each once. Where all come behind those that
+// are kept, the usual case of a load, none of them is looked for.
 pub(crate) fn fresh_edges(alloc: Global, kept: &[Edge], added: &[Edge]) -> Result<EdgeBuf, NoMemory>
     requires { AreAscendingEdges kept.now }
     ensures { IfOk result (λ fresh. AreFresh kept.now added.now fresh) }
 {
-    let mut sorted = EdgeBuf::with_capacity(alloc, added.len())?;
-    sorted.append(added)?;
-    sorted.sort_set();
+    let sorted = sorted_set(alloc, added, STRANDS)?;
+    if come_behind(sorted.as_slice(), kept) {
+        return Ok(sorted);
+    }
     let fresh = without_kept(alloc, kept, sorted.as_slice())?;
     Ok(fresh)
 }

@@ -20,8 +20,8 @@ pub(crate) fn copied_objects(
     Ok(copy)
 }
 
-// The value of the object among ascending objects, found by binary search; None exactly where it
-// isn't there.
+// The value of the object among ascending objects; None exactly where it isn't there. It is looked
+// for first where it stands while numbers have no gap, and then by binary search.
 pub(crate) fn value_in(objects: &[(Oid, Value)], oid: Oid) -> Option<&Value>
     requires { AreAscendingObjects objects.now }
     ensures found { IfSome result (λ value. Contains objects.now (oid, value.now)) }
@@ -29,8 +29,31 @@ pub(crate) fn value_in(objects: &[(Oid, Value)], oid: Oid) -> Option<&Value>
     ensures only { (value : TheValue) → Contains objects.now (oid, value)
         → option_copied result ≡ Some value }
 {
+    if let Some(value) = value_at(objects, likely_place(objects, oid), oid) {
+        return Some(value);
+    }
     match objects.binary_search_by_key(&oid, |object| object.0) {
         Ok(place) => Some(&objects[place].1),
         Err(_) => None,
+    }
+}
+
+// As far behind the first object as the number is above that one's.
+fn likely_place(objects: &[(Oid, Value)], oid: Oid) -> usize {
+    match objects.first() {
+        Some(first) => oid.0.saturating_sub(first.0.0) as usize,
+        None => 0,
+    }
+}
+
+// The object's value, where the object stands at this place.
+fn value_at(objects: &[(Oid, Value)], place: usize, oid: Oid) -> Option<&Value>
+    ensures { IfSome result (λ value. Contains objects.now (oid, value.now)) }
+{
+    let object = objects.get(place)?;
+    if object.0 == oid {
+        Some(&object.1)
+    } else {
+        None
     }
 }

@@ -1,19 +1,16 @@
-ghost use Rattle.std.specs.Prelude.{◌≡◌, ◌+◌, ◌<◌, ◌≤◌, ◌^◌, [], ◌++◌, length, Contains, IfSome};
-ghost use Rattle.std.specs.Prelude.{IfNone, IfOk, OnOk, OnErr};
-ghost use Rattle.std.specs.Option.{option_copied};
-ghost use Rattle.oem_graph.specs.Types.{Edge as TheEdge, Value as TheValue};
-ghost use Rattle.lore_base.specs.Lists.{Extends};
+ghost use Rattle.std.specs.Prelude.{◌≡◌, ◌+◌, ◌<◌, ◌≤◌, ◌^◌, [], length, Contains, IfOk, OnOk};
+ghost use Rattle.oem_graph.specs.Types.{Edge as TheEdge};
 ghost use Rattle.lore_base.specs.Names.{object_of};
-ghost use Rattle.lore_base.specs.Walks.{out_of};
-ghost use Rattle.lore_base.specs.Databases.{OemGraph, new_graph, IsLive};
-ghost use Rattle.lore_base.specs.ChangeSets.{Fits, OnlyAdds, IsGraphThen, AreDead};
-ghost use Rattle.oem_graph.specs.Graphs.{IsSound};
+ghost use Rattle.lore_base.specs.Databases.{OemGraph, new_graph};
+ghost use Rattle.lore_base.specs.ChangeSets.{FitsGraph, OnlyAdds, IsGraphThen, AreDead};
+ghost use Rattle.oem_graph.specs.Graphs.{IsIndexable};
 ghost use Rattle.oem_graph.specs.Plans.{LeadsFrom, LeadsTo, HasRoom};
 
 use crate::edge_runs::run_of;
 use crate::edge_sets::{add_edges, fresh_edges};
 use crate::graph_plan::GraphPlan;
 use crate::object_lists::{copied_objects, value_in};
+use index_traits::{Adjacent, ValueOf};
 use lore_base::{
     Changes, Edge, EdgeBuf, Names, NoMemory, OemText, Oid, OidBuf, RoomyList, Steps, Value,
 };
@@ -32,7 +29,7 @@ pub struct Graph {
 }
 
 impl Model for Graph {
-    ghost use Rattle.oem_graph.specs.Graphs.{RoomyGraph, IsSound};
+    ghost use Rattle.oem_graph.specs.Graphs.{RoomyGraph, IsIndexable};
 
     ghost Value = { RoomyGraph };
 
@@ -47,7 +44,7 @@ impl Model for Graph {
       edge_room = g.edges.room;
     } };
 
-    ghost invariant = { λ g. IsSound (record {
+    ghost invariant = { λ g. IsIndexable (record {
       names = g.names;
       objects = g.objects.items;
       edges = g.edges.items;
@@ -68,16 +65,6 @@ impl Graph {
         }
     }
 
-    /// The object's value; None exactly where the object isn't live. Takes no memory.
-    pub fn value(&self, oid: Oid) -> Option<&Value>
-        ensures found { IfSome result (λ value. Contains self.now.graph.objects (oid, value.now)) }
-        ensures none { IfNone result (¬ IsLive self.now.graph.objects oid) }
-        ensures only { (value : TheValue) → Contains self.now.graph.objects (oid, value)
-            → option_copied result ≡ Some value }
-    {
-        value_in(self.objects.as_slice(), oid)
-    }
-
     /// The table of names.
     pub fn names(&self) -> &Names
         ensures { result.now ≡ self.now.graph.names }
@@ -95,7 +82,7 @@ impl Graph {
     /// The number of live objects.
     pub fn objects(&self) -> u32
         ensures count { result ≡ length self.now.graph.objects }
-        ensures sound { IsSound self.now.graph }
+        ensures indexable { IsIndexable self.now.graph }
     {
         self.objects.len() as u32
     }
@@ -103,7 +90,7 @@ impl Graph {
     /// The number of edges.
     pub fn edges(&self) -> u32
         ensures count { result ≡ length self.now.graph.edges }
-        ensures sound { IsSound self.now.graph }
+        ensures indexable { IsIndexable self.now.graph }
     {
         self.edges.len() as u32
     }
@@ -111,38 +98,19 @@ impl Graph {
     /// The number that the next object gets, 1 to 4,294,967,296.
     pub fn next(&self) -> u64
         ensures number { result ≡ self.now.graph.next }
-        ensures sound { IsSound self.now.graph }
+        ensures indexable { IsIndexable self.now.graph }
     {
         self.next
-    }
-
-    /// Appends the edges that leave the object to `buf`, ascending by label and child. Counts one
-    /// step, and one more for each edge. A number that isn't live has no edges.
-    pub fn out_edges<L: Ledger>(
-        &self,
-        oid: Oid,
-        buf: &mut EdgeBuf,
-        steps: &mut Steps<L>,
-    ) -> Result<(), NoMemory>
-        ensures edges { OnOk result (buf.new ≡ buf.old ++ out_of oid self.now.graph.edges) }
-        ensures steps { OnOk result
-            (steps.new ≡ steps.old + 1 + length (out_of oid self.now.graph.edges)) }
-        ensures err { OnErr result (Extends buf.old buf.new) }
-        ensures unticked { OnErr result (steps.new ≡ steps.old) }
-    {
-        let run = run_of(self.edges.as_slice(), oid);
-        buf.append(run)?;
-        steps.tick(1 + run.len() as u64);
-        Ok(())
     }
 
     /// Works out what goes and what comes with these changes, which only make, add and bind. `dead`
     /// lists the objects that no name walks to once they are made, and is empty. The graph stays as
     /// it is.
     ///
-    /// It sorts the added edges, and copies the names and the made objects.
+    /// It sorts the added edges, which takes linear time where they come in text order, and copies
+    /// the names and the made objects.
     pub fn prepare(&self, changes: &Changes, dead: &OidBuf) -> Result<GraphPlan, NoMemory>
-        requires fits { Fits self.now.graph changes.now }
+        requires fits { FitsGraph self.now.graph changes.now }
         requires only_adds { OnlyAdds changes.now }
         requires dead { AreDead self.now.graph changes.now dead.now }
         requires none_dead { dead.now ≡ [] }
@@ -186,5 +154,29 @@ impl Graph {
         self.next += made.len() as u64;
         self.objects.take_reserved(made);
         add_edges(&mut self.edges, fresh.as_slice());
+    }
+}
+
+impl Adjacent for Graph {
+    ghost edges = { λ g. g.graph.edges };
+
+    fn out_edges<L: Ledger>(
+        &self,
+        oid: Oid,
+        buf: &mut EdgeBuf,
+        steps: &mut Steps<L>,
+    ) -> Result<(), NoMemory> {
+        let run = run_of(self.edges.as_slice(), oid);
+        buf.append(run)?;
+        steps.tick(1 + run.len() as u64);
+        Ok(())
+    }
+}
+
+impl ValueOf for Graph {
+    ghost objects = { λ g. g.graph.objects };
+
+    fn value_of(&self, oid: Oid) -> Option<&Value> {
+        value_in(self.objects.as_slice(), oid)
     }
 }

@@ -1,9 +1,5 @@
-//! Tests of the parser: texts that are statements, and texts that are none, each lexed and parsed.
+//! Tests of the parser: each public call once with ample memory. The cases stand in `print_cases`.
 #![tactic(auto)]
 
 #[cfg(test)]
-mod nesting;
-#[cfg(test)]
-mod printing;
-#[cfg(test)]
-mod texts;
+mod statements;

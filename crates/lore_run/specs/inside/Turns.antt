@@ -31,7 +31,7 @@ standing held tally written database =
     record { held = held; tally = tally; written = written; database = database }
 
 -- bytes that no `;` ends, within the limit of a chunk
-pub record IsRest (held : List ℕ) : Type 0 where
+pub record IsUnended (held : List ℕ) : Type 0 where
   pub unended : IsOpen held
   pub sized : length held ≤ CHUNK_BYTES
 
@@ -94,7 +94,7 @@ pub record StopsIn (status : Status) (before : Standing) (bytes : List ℕ) (aft
   pub back : List ℕ
   pub parts : bytes ≡ front ++ back
   pub middle : Standing
-  pub rest : IsRest middle.held
+  pub rest : IsUnended middle.held
   pub advanced : Advances before front middle
   pub stopped : StopsAt status middle back after
 
@@ -128,7 +128,7 @@ pub record RunsSoFar (before : Outside) (count : ℕ) (left : Option (List ℕ))
   pub took : Consumes before.left left taken
   pub counted : count ≡ length taken
   pub within : count ≤ SCRIPT_BYTES
-  pub rest : IsRest now.held
+  pub rest : IsUnended now.held
   pub advanced : Advances (beginning before.written) taken now
 
 -- the outcome of a run that ends here

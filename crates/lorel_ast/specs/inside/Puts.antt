@@ -1,12 +1,12 @@
 -- What a function that writes tokens promises.
 use Rattle.std.specs.Prelude.{◌≡◌, ℕ, List, ◌∷◌, ◌++◌, codes}
-use Rattle.lorel_ast.specs.Types.{Kind, Sign}
+use Rattle.lorel_trees.specs.Types.{Kind, Sign}
 use Rattle.lorel_lex.specs.declared.token_types.Kind.TheVariants as k
 use Rattle.lorel_lex.specs.declared.token_types.Sign.TheVariants as s
 use Rattle.lorel_lex.specs.Writing.{spaced}
-use Rattle.lorel_ast.specs.Trees.{RootedTree}
-use Rattle.lorel_ast.specs.declared.dump_trees.DumpTree.{DumpTree}
-use Rattle.lorel_ast.specs.Statements.{spell_dump_objects}
+use Rattle.lorel_trees.specs.Trees.{RootedTree}
+use Rattle.lorel_trees.specs.declared.dump_trees.DumpTree.{DumpTree}
+use Rattle.lorel_trees.specs.Statements.{spell_dump_objects}
 use Rattle.lorel_ast.specs.Printing.{print_label, print_labels, print_rooted, print_dump_labels}
 use Rattle.lorel_ast.specs.Printing.{print_dump_names, print_dump_edges}
 
@@ -18,6 +18,11 @@ Puts print old new = (rest : List Kind) → old ++ spaced (print rest) ≡ new +
 abbrev pub print_target : RootedTree → List ℕ → Sign → List Kind → List Kind
 print_target target label sign rest =
     k.Word (codes "update") ∷ print_rooted target (k.Symbol s.Dot ∷ print_label label (k.Symbol sign ∷ rest))
+
+-- `name in path :`
+abbrev pub print_quantified : List ℕ → RootedTree → List Kind → List Kind
+print_quantified variable path rest = k.Word variable ∷ k.Word (codes "in")
+    ∷ print_rooted path (k.Symbol s.Colon ∷ rest)
 
 -- a command and a label path
 abbrev pub print_label_path : (command start : List ℕ) → List (List ℕ) → List Kind → List Kind

@@ -4,17 +4,16 @@ use Rattle.std.specs.Prelude.{[], ◌∷◌, ◌++◌, length, take, drop, slice
 use Rattle.std.specs.Prelude.{Result, Ok, Err}
 use Rattle.std.specs.List.{list_all, list_any, starts_with}
 use Rattle.std.specs.Char.{is_ascii_digit}
-use Rattle.lorel_lex.specs.Types.{Token, Kind, Symbol, Sign, LeftBrace, RightBrace, LeftParen, RightParen}
+use Rattle.lorel_lex.specs.Types.{Kind, Symbol, Sign, LeftBrace, RightBrace, LeftParen, RightParen}
 use Rattle.lorel_lex.specs.Types.{Comma, Dot, Colon, Assign, Equal, SameAs, NotEqual, Less, LessEqual}
 use Rattle.lorel_lex.specs.Types.{Greater, GreaterEqual, PlusAssign, MinusAssign, Question, Star, Plus, Bar}
 use Rattle.lorel_lex.specs.Types.{Hash, At, LexFault, BadToken, TextTooLong, NoMemory, ByteClass, Letter}
 use Rattle.lorel_lex.specs.Types.{Digit, Minus, Ampersand, DoubleQuote, SingleQuote, Other, WORD_BYTES}
 use Rattle.lorel_lex.specs.declared.words.Letters.{Letters}
 use Rattle.lorel_lex.specs.declared.words.Letters.TheVariants.{Identifier, Pattern, PathWord}
-use Rattle.lorel_lex.specs.Gaps.{IsBlank}
 use Rattle.lore_base.specs.Quotes.{IsContents, IsQuoted}
 use Rattle.lorel_lex.specs.Shapes.{is_pattern_start, is_pattern_byte, begins, IsToken}
-use Rattle.lorel_lex.specs.Tokens.{IsFirst, Keeps, IsFaultAt, IsNext, IsFaultBehind}
+use Rattle.lorel_lex.specs.Tokens.{IsFirst, Keeps, IsFaultAt}
 
 -- which tokens a byte may begin
 abbrev pub class_of : ℕ → ByteClass
@@ -37,13 +36,6 @@ abbrev pub ReadsFirst : List ℕ → Result (Kind × ℕ) LexFault → Type 0
 ReadsFirst bytes (Ok found) = IsShape bytes found.0 found.1
     × ((fault : LexFault) → Keeps fault found.0 (drop found.1 bytes))
 ReadsFirst bytes (Err fault) = fault ≢ NoMemory → IsFaultAt fault bytes
-
--- what a function that reads the next token from a place on ensures: None where only blank bytes and comments
--- are left
-abbrev pub ReadsNext : ℕ → List ℕ → Result (Option Token) LexFault → Type 0
-ReadsNext at bytes (Ok None) = IsBlank bytes
-ReadsNext at bytes (Ok (Some token)) = (rest : List ℕ) × IsNext at bytes token rest
-ReadsNext at bytes (Err fault) = fault ≢ NoMemory → IsFaultBehind at bytes [] fault
 
 -- this many bytes at the front pass the test, and the next one, if there is one, doesn't
 pub record EndsRun (test : ℕ → Bool) (bytes : List ℕ) (len : ℕ) : Type 0 where

@@ -4,8 +4,8 @@ use Rattle.std.specs.Prelude.{codes, Option, Some, None}
 use Rattle.lorel_parse.specs.Types.{Op, Eq, Ne, Lt, Le, Gt, Ge, Like, Kind, Sign}
 use Rattle.lorel_lex.specs.declared.token_types.Kind.TheVariants as k
 use Rattle.lorel_lex.specs.declared.token_types.Sign.TheVariants as s
-use Rattle.lorel_ast.specs.Trees.{RootedTree, OperandTree, constant, at, CondTree, CondTrees, or, and, not}
-use Rattle.lorel_ast.specs.Trees.{exists, for_all, compare, same, conds_from}
+use Rattle.lorel_trees.specs.Trees.{RootedTree, OperandTree, constant, at, CondTree, CondTrees, or, and, not}
+use Rattle.lorel_trees.specs.Trees.{exists, for_all, compare, same, conds_from}
 use Rattle.lorel_parse.specs.inside.Outcomes.{Parse, and_then, next, is_next, sees, sees_word, expect}
 use Rattle.lorel_parse.specs.inside.Outcomes.{expect_word, refuse, token}
 use Rattle.lorel_parse.specs.inside.Names.{name, atom}

@@ -7,8 +7,8 @@ use Rattle.lorel_lex.specs.contracts.token_types.Sign.{the_type}
 use Rattle.lorel_lex.specs.declared.token_types.Kind.{Kind}
 use Rattle.lorel_lex.specs.declared.token_types.Kind.TheVariants as k
 use Rattle.lorel_lex.specs.declared.token_types.Sign.TheVariants as s
-use Rattle.lorel_ast.specs.Trees as t
-use Rattle.lorel_ast.specs.Trees.{LiteralTree, members_from}
+use Rattle.lorel_trees.specs.Trees as t
+use Rattle.lorel_trees.specs.Trees.{LiteralTree, members_from}
 use Rattle.lorel_parse.specs.inside.Outcomes.{Parse, and_then, next, is_next, token, sees, expect, refuse}
 use Rattle.lorel_parse.specs.inside.Names.{label, atom}
 use Rattle.lorel_parse.specs.inside.Repetitions.{both, each}

@@ -5,7 +5,7 @@ use Rattle.lorel_parse.specs.Types.{Plain, Wild, Kind}
 use Rattle.lore_base.specs.Paths.{PathTree, step, any, seq, alt, opt, star, plus, trees_of}
 use Rattle.lorel_lex.specs.declared.token_types.Kind.TheVariants as k
 use Rattle.lorel_lex.specs.declared.token_types.Sign.TheVariants as s
-use Rattle.lorel_ast.specs.Trees.{RootedTree}
+use Rattle.lorel_trees.specs.Trees.{RootedTree}
 use Rattle.lorel_parse.specs.inside.Outcomes.{Parse, and_then, next, sees, expect, refuse, token}
 use Rattle.lorel_parse.specs.inside.Names.{name}
 

@@ -14,16 +14,16 @@ both first second kinds = and_then (first kinds) (λ one rest.
     and_then (second rest) (λ other behind. Some ((one, other), behind)))
 
 -- behind this symbol
-abbrev pub behind : {A : Type 0} → Sign → Parse A → Parse A
-behind sign parse kinds = and_then (expect sign kinds) (λ _ rest. parse rest)
+abbrev pub behind_sign : {A : Type 0} → Sign → Parse A → Parse A
+behind_sign sign parse kinds = and_then (expect sign kinds) (λ _ rest. parse rest)
 
 -- behind this word
 abbrev pub behind_word : {A : Type 0} → List ℕ → Parse A → Parse A
 behind_word word parse kinds = and_then (expect_word word kinds) (λ _ rest. parse rest)
 
 -- before this symbol
-abbrev pub closed : {A : Type 0} → Sign → Parse A → Parse A
-closed sign parse kinds = and_then (parse kinds) (λ found rest.
+abbrev pub closed_sign : {A : Type 0} → Sign → Parse A → Parse A
+closed_sign sign parse kinds = and_then (parse kinds) (λ found rest.
     and_then (expect sign rest) (λ _ behind. Some (found, behind)))
 
 -- before this word

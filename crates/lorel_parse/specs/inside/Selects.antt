@@ -5,9 +5,9 @@ use Rattle.lore_base.specs.declared.limits.TheConstants.{NESTING}
 use Rattle.lorel_lex.specs.declared.token_types.Kind.{Kind}
 use Rattle.lorel_lex.specs.declared.token_types.Kind.TheVariants as k
 use Rattle.lorel_lex.specs.declared.token_types.Sign.TheVariants as s
-use Rattle.lorel_ast.specs.Trees.{RootedTree, CondTree, ItemTree, object, path_of, FromTree, TailTree, SelectTree}
+use Rattle.lorel_trees.specs.Trees.{RootedTree, CondTree, ItemTree, object, path_of, FromTree, TailTree, SelectTree}
 use Rattle.lorel_parse.specs.inside.Outcomes.{Parse, and_then, next, is_next, sees, sees_word}
-use Rattle.lorel_parse.specs.inside.Repetitions.{mapped, both, behind, closed, some_of}
+use Rattle.lorel_parse.specs.inside.Repetitions.{mapped, both, behind_sign, closed_sign, some_of}
 use Rattle.lorel_parse.specs.inside.Names.{name}
 use Rattle.lorel_parse.specs.inside.Paths.{rooted}
 use Rattle.lorel_parse.specs.inside.Conditions.{condition}
@@ -63,7 +63,7 @@ tail = mapped tail_of (both ranges such_that)
 
 unfoldable pub item : Parse ItemTree
 item kinds =
-    if sees_path_of kinds then mapped path_of (behind s.LeftParen (closed s.RightParen name)) (next kinds)
+    if sees_path_of kinds then mapped path_of (behind_sign s.LeftParen (closed_sign s.RightParen name)) (next kinds)
     else mapped object (rooted NESTING) kinds
 
 unfoldable pub items : Parse (List ItemTree)

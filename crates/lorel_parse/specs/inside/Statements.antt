@@ -9,11 +9,11 @@ use Rattle.lore_base.specs.declared.modes.Mode.TheVariants.{Auto, Top, Bottom, G
 use Rattle.lorel_lex.specs.declared.token_types.Kind.{Kind}
 use Rattle.lorel_lex.specs.declared.token_types.Kind.TheVariants as k
 use Rattle.lorel_lex.specs.declared.token_types.Sign.TheVariants as s
-use Rattle.lorel_ast.specs.declared.dump_trees.DumpTree.{DumpTree}
-use Rattle.lorel_ast.specs.Trees as t
-use Rattle.lorel_ast.specs.Trees.{RootedTree, StatementTree}
+use Rattle.lorel_trees.specs.declared.dump_trees.DumpTree.{DumpTree}
+use Rattle.lorel_trees.specs.Trees as t
+use Rattle.lorel_trees.specs.Trees.{RootedTree, StatementTree}
 use Rattle.lorel_parse.specs.inside.Outcomes.{Parse, and_then, next, sees, sees_word, expect, found, token}
-use Rattle.lorel_parse.specs.inside.Repetitions.{mapped, both, behind, behind_word, closed_word, each}
+use Rattle.lorel_parse.specs.inside.Repetitions.{mapped, both, behind_sign, behind_word, closed_word, each}
 use Rattle.lorel_parse.specs.inside.Names.{name, label}
 use Rattle.lorel_parse.specs.inside.Literals.{local, new_value, literal, inside}
 use Rattle.lorel_parse.specs.inside.Paths.{rooted}
@@ -119,10 +119,10 @@ dump_text = closed_word (codes "end") (mapped dump_of (both head lists))
 -- each form behind its first word
 
 unfoldable pub load : Parse StatementTree
-load = mapped (λ parts. t.load parts.0 parts.1) (both name (behind s.Assign (literal (inside NESTING))))
+load = mapped (λ parts. t.load parts.0 parts.1) (both name (behind_sign s.Assign (literal (inside NESTING))))
 
 unfoldable pub bind : Parse StatementTree
-bind = mapped (λ parts. t.bind parts.0 parts.1) (both name (behind s.Assign (rooted NESTING)))
+bind = mapped (λ parts. t.bind parts.0 parts.1) (both name (behind_sign s.Assign (rooted NESTING)))
 
 unfoldable pub unname : Parse StatementTree
 unname = mapped t.unname name

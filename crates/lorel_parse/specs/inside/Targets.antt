@@ -2,7 +2,7 @@
 use Rattle.std.specs.Prelude.{ℕ, List, [], ◌∷◌, Option, Some, None, option_map}
 use Rattle.lorel_parse.specs.Types.{Pattern, Plain, Wild}
 use Rattle.lore_base.specs.Paths.{PathTree, step}
-use Rattle.lorel_ast.specs.Trees.{RootedTree}
+use Rattle.lorel_trees.specs.Trees.{RootedTree}
 use Rattle.lorel_parse.specs.inside.Outcomes.{Parse, and_then, found}
 use Rattle.lorel_parse.specs.inside.Paths.{rooted}
 

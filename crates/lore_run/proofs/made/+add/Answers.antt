@@ -1,8 +1,8 @@
-use Rattle.std.proofs.Common.{◌+◌, false, map, drop, sym, ap, subst, ◌∙◌, arith}
-use Rattle.lorel_ast.specs.Trees.{MemberTrees, literal_tree, member_tree, member_trees, members_from}
+use Rattle.std.proofs.Common.{◌+◌, map, drop, sym, ap, subst, ◌∙◌, arith}
+use Rattle.lorel_trees.specs.Trees.{MemberTrees, literal_tree, member_tree, member_trees, members_from}
 use Rattle.lore_run.specs.Built.{have_local}
 use Rattle.lore_run.specs.Made.{members_size, bodies, member_bodies, arcs, member_arcs}
-use Rattle.lore_run.specs.inside.Parts.{Grows}
+use Rattle.lore_run.specs.inside.Making.{Grows}
 use Rattle.lore_run.proofs.MadeLaws.{plain_member, length-arcs}
 use Rattle.lore_run.proofs.GrowthLaws.{Grows-none, Grows-left, labels_grow}
 use Rattle.lore_run.proofs.FoldLaws.{left_more, left_none}
@@ -11,7 +11,7 @@ use Rattle.lore_run.proofs.made.+add.Goals as goal
 pub add_members-members-preserved : goal.add_members-members-preserved
 add_members-members-preserved t c =
     let m = c.member-item.result in
-    let known = c.args.labels.now.texts in
+    let known = c.args.labels.now in
     let n = c.members.next in
     let literal = literal_tree m.literal in
     let items = c.as_slice-member-items.result.now in
@@ -24,7 +24,7 @@ add_members-members-preserved t c =
     let inner = c.in_ok-next.ensures.grows in
     let behind = c.in_ok-next.ensures.after in
     let few = c.in_ok-add_edge.ensures.few in
-    let fewer = labels_grow known (bodies n literal) (arcs n literal) c.add_edge.new.part c.add_object.new.part inner in
+    let fewer = labels_grow known (bodies n literal) (arcs n literal) c.add_edge.new.so_far c.add_object.new.so_far inner in
     let count = length-arcs n literal plain.0 in
     record {
       plain = plain.1;
@@ -33,12 +33,12 @@ add_members-members-preserved t c =
       room = omega (arith, sizes, few, fewer, count, c.members.invariant.room);
       grows = Grows-left known c.args.parent.0 n c.in_ok-next.next m.label literal (members_from (map member_tree (drop c.members.member-index items))) others
           (member_bodies c.args.first all) (member_arcs c.args.parent.0 c.args.first all)
-          c.args.part.now c.members.part c.add_edge.new.part c.add_object.new.part left behind edge inner c.members.invariant.grows;
+          c.args.so_far.now c.members.so_far c.add_edge.new.so_far c.add_object.new.so_far left behind edge inner c.members.invariant.grows;
     }
 
 pub add_members-returns-clause-grows : goal.add_members-returns-clause-grows
 add_members-returns-clause-grows t c =
     let none_left = left_none c.as_slice-member-items.result.now c.members.member-index c.members-test.false in
-    c.members.invariant.grows c.members.part
-    (subst (λ (ms : MemberTrees). Grows c.args.labels.now.texts (member_bodies c.members.next ms) (member_arcs c.args.parent.0 c.members.next ms) c.members.part c.members.part)
-    (sym none_left) (Grows-none c.args.labels.now.texts c.members.part))
+    c.members.invariant.grows c.members.so_far
+    (subst (λ (ms : MemberTrees). Grows c.args.labels.now (member_bodies c.members.next ms) (member_arcs c.args.parent.0 c.members.next ms) c.members.so_far c.members.so_far)
+    (sym none_left) (Grows-none c.args.labels.now c.members.so_far))

@@ -1,9 +1,9 @@
-use Rattle.std.proofs.Common.{◌≡◌, ◌+◌, ◌≤◌, ◌^◌, false, length, map, drop}
-use Rattle.lorel_ast.specs.Trees.{member_tree, member_trees, members_from}
-use Rattle.lore_run.specs.declared.made.Part.{Part}
+use Rattle.std.proofs.Common.{◌≡◌, ◌+◌, ◌≤◌, ◌<◌, ◌^◌, false, length, map, drop}
+use Rattle.lorel_trees.specs.Trees.{member_tree, member_trees, members_from}
+use Rattle.lore_run.specs.declared.made.Made.{Made}
 use Rattle.lore_run.specs.Built.{have_local}
 use Rattle.lore_run.specs.Made.{members_size, member_bodies, member_arcs}
-use Rattle.lore_run.specs.inside.Parts.{Grows}
+use Rattle.lore_run.specs.inside.Making.{Grows}
 use Rattle.lore_run.proofs.made.+add.Given as goal
 
 abbrev pub invariant-add_members-members : goal.invariant-add_members-members
@@ -14,7 +14,7 @@ invariant-add_members-members l =
       plain : have_local left ≡ false;
       after : l.next + members_size left ≡ l.fn.first + members_size all;
       numbers : l.next + members_size left ≤ 2 ^ 32;
-      room : length l.labels.texts + length l.part.labels.texts + members_size left ≤ 2 ^ 32;
-      grows : (new : Part) → Grows l.labels.texts (member_bodies l.next left) (member_arcs l.parent.0 l.next left) l.part new
-          → Grows l.labels.texts (member_bodies l.fn.first all) (member_arcs l.parent.0 l.fn.first all) l.fn.part new;
+      room : length l.labels + length l.so_far.labels + members_size left < 2 ^ 32;
+      grows : (new : Made) → Grows l.labels (member_bodies l.next left) (member_arcs l.parent.0 l.next left) l.so_far new
+          → Grows l.labels (member_bodies l.fn.first all) (member_arcs l.parent.0 l.fn.first all) l.fn.so_far new;
     }

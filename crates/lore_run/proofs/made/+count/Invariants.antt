@@ -1,5 +1,5 @@
 use Rattle.std.proofs.Common.{◌≡◌, ◌+◌, ◌-◌, ◌^◌, ◌<◌, min, map, drop}
-use Rattle.lorel_ast.specs.Trees.{member_tree, member_trees, members_from}
+use Rattle.lorel_trees.specs.Trees.{member_tree, member_trees, members_from}
 use Rattle.lore_run.specs.Made.{members_size}
 use Rattle.lore_run.proofs.made.+count.Given as goal
 

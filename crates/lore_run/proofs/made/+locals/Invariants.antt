@@ -1,5 +1,5 @@
 use Rattle.std.proofs.Common.{◌≡◌, map, drop}
-use Rattle.lorel_ast.specs.Trees.{member_tree, member_trees, members_from}
+use Rattle.lorel_trees.specs.Trees.{member_tree, member_trees, members_from}
 use Rattle.lore_run.specs.Built.{have_local}
 use Rattle.lore_run.proofs.made.+locals.Given as goal
 

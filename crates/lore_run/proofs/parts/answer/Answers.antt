@@ -1,25 +1,41 @@
-use Rattle.std.proofs.Common.{inl, inr, refl}
+use Rattle.std.proofs.Common.{inl, inr, refl, ap, ◌∙◌}
 use Rattle.std.proofs.lemmas.Result.{IfOk-weaker}
-use Rattle.lorel_ast.specs.Trees.{statement_tree}
+use Rattle.lorel_parse.specs.Faults.{refusal_of}
+use Rattle.lorel_trees.specs.Trees.{statement_tree}
+use Rattle.lore_run.specs.Types.{Refused}
 use Rattle.lore_run.specs.Runs.{chunk, Yields}
 use Rattle.lore_run.specs.Statements.{Executes}
+use Rattle.lore_run.specs.inside.Turns.{IsRefusalOf}
+use Rattle.lore_run.proofs.ParsedLaws.{parse_refusal}
 use Rattle.lore_run.proofs.parts.answer.Goals as goal
 
-pub returns-in-Ok-parse-clause-ok : goal.returns-in-Ok-parse-clause-ok
-returns-in-Ok-parse-clause-ok g c =
+pub returns-in-Ok-parsed-clause-ok : goal.returns-in-Ok-parsed-clause-ok
+returns-in-Ok-parsed-clause-ok g c =
     let before = c.args.session.now in
-    let after = c.execute.new.self in
-    let tree = statement_tree c.in-Ok-parse.statement in
-    IfOk-weaker c.execute.result (λ reply. Executes before tree reply after) (λ reply. Yields before (chunk c.args.text.now) reply after)
+    let after = c.execute-reply.new.self in
+    let tree = statement_tree c.in-Ok-parsed.statement in
+    IfOk-weaker c.execute-reply.result (λ reply. Executes before tree reply after) (λ reply. Yields before (chunk c.args.text.now) reply after)
     (λ reply executed. inr (inr (record {
       tokens = c.in-Ok.tokens;
       lexed = c.in-Ok.ensures.found;
       statement = tree;
-      parsed = c.in-Ok-parse.ensures.tree;
+      parsed = c.in-Ok-parsed.ensures.tree;
       executed = executed;
     })))
-    c.execute.ensures.ok
+    c.execute-reply.ensures.ok
 
-pub returns-in-Err-Syntax-clause-ok : goal.returns-in-Err-Syntax-clause-ok
-returns-in-Err-Syntax-clause-ok g c =
-    inr (inl (record { tokens = c.in-Ok.tokens; lexed = c.in-Ok.ensures.found; none = c.in-Err-Syntax.ensures.none c.in-Err-Syntax.field-0-is; refused = refl; same = refl }))
+pub returns-in-Err-parsed-clause-ok : goal.returns-in-Err-parsed-clause-ok
+returns-in-Err-parsed-clause-ok g c =
+    let session = c.args.session.now in
+    let fault = c.in-Err-parsed.fault in
+    IfOk-weaker c.refused-in-Err-parsed.result (λ reply. IsRefusalOf (refusal_of fault) reply) (λ reply. Yields session (chunk c.args.text.now) reply session)
+    (λ reply refused.
+    let syntax = parse_refusal fault refused.0 refused.1 in
+    inr (inl (record {
+      tokens = c.in-Ok.tokens;
+      lexed = c.in-Ok.ensures.found;
+      none = c.in-Err-parsed.ensures.none syntax.0;
+      refused = refused.2 ∙ ap Refused syntax.1;
+      same = refl;
+    })))
+    c.refused-in-Err-parsed.ensures

@@ -1,7 +1,7 @@
-use Rattle.std.proofs.Common.{◌≡◌, ◌≤◌, ◌∷◌, length, take, refl, sym, ap, ◌∙◌, subst, arith, lit≤, length-append, length-drop}
+use Rattle.std.proofs.Common.{◌≤◌, ◌∷◌, length, take, refl, sym, ap, ◌∙◌, subst, arith, lit≤, length-append, length-drop}
 use Rattle.std.proofs.lemmas.List.{take_rest, length-take}
 use Rattle.lorel_lex.specs.Progress.{Progress}
-use Rattle.lore_run.specs.inside.Turns.{IsRest}
+use Rattle.lore_run.specs.inside.Turns.{IsUnended}
 use Rattle.lore_run.proofs.RunLaws.{advances_none, few_done, refusals_le}
 use Rattle.lore_run.proofs.PieceLaws.{advances_more, advances_whole, stops_no_memory, stops_replying}
 use Rattle.lore_run.proofs.pieces.run_piece.Goals as goal
@@ -51,7 +51,7 @@ chunks-preserved-in-Ok g c =
       within = omega (arith, ends.uses, ap length ends.parts, length-append ends.front (59 ∷ ends.back), ap length (take_rest piece c.chunks.at), length-drop c.chunks.at piece);
       whole = ap (λ (p : Progress). p.whole) taken;
       failed = ap (λ (p : Progress). p.failed) taken ∙ ap (λ (p : Progress). p.failed) ends.held;
-      rest = subst IsRest (sym (ap (λ (p : Progress). p.held) taken)) (record { unended = tt; sized = lit≤ tt });
+      rest = subst IsUnended (sym (ap (λ (p : Progress). p.held) taken)) (record { unended = tt; sized = lit≤ tt });
       advanced = advances_whole _ c.chunks.reader c.feed-fed.new.self c.take.new.self c.in-Some.chunk c.chunks.tally c.run_chunk.new.tally
           (g.K.Sink.written c.chunks.sink) (g.K.Sink.written c.run_chunk.new.sink) c.chunks.session c.run_chunk.new.session piece c.chunks.at _
           c.chunks.invariant.advanced ends c.in-Some.ensures.chunk taken replied;
@@ -69,7 +69,7 @@ chunks-preserved g c =
       within = omega (arith, ends.uses, ap length ends.parts, length-append ends.front (59 ∷ ends.back), ap length (take_rest piece c.chunks.at), length-drop c.chunks.at piece);
       whole = ap (λ (p : Progress). p.whole) taken;
       failed = ap (λ (p : Progress). p.failed) taken ∙ ap (λ (p : Progress). p.failed) ends.held;
-      rest = subst IsRest (sym (ap (λ (p : Progress). p.held) taken)) (record { unended = tt; sized = lit≤ tt });
+      rest = subst IsUnended (sym (ap (λ (p : Progress). p.held) taken)) (record { unended = tt; sized = lit≤ tt });
       advanced = advances_whole _ c.chunks.reader c.feed-fed.new.self c.take.new.self c.in-Some.chunk c.chunks.tally c.run_chunk.new.tally
           (g.K.Sink.written c.chunks.sink) (g.K.Sink.written c.run_chunk.new.sink) c.chunks.session c.run_chunk.new.session piece c.chunks.at _
           c.chunks.invariant.advanced ends c.in-Some.ensures.chunk taken replied;

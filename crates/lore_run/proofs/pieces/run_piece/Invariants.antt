@@ -1,5 +1,5 @@
 use Rattle.std.proofs.Common.{◌≡◌, false, ◌-◌, ◌≤◌, length, take}
-use Rattle.lore_run.specs.inside.Turns.{standing, IsRest, Advances}
+use Rattle.lore_run.specs.inside.Turns.{standing, IsUnended, Advances}
 use Rattle.lore_run.proofs.pieces.run_piece.Given as goal
 
 abbrev pub decreases-chunks : goal.decreases-chunks
@@ -10,7 +10,7 @@ invariant-chunks g l = record {
   within : l.at ≤ length l.piece;
   whole : l.reader.whole ≡ false;
   failed : l.reader.failed ≡ false;
-  rest : IsRest l.reader.held;
+  rest : IsUnended l.reader.held;
   advanced : Advances (standing l.fn.reader.held l.fn.tally (g.K.Sink.written l.fn.sink) l.fn.session) (take l.at l.piece)
       (standing l.reader.held l.tally (g.K.Sink.written l.sink) l.session);
   fewer : l.tally.refused ≤ l.tally.done;

@@ -8,5 +8,5 @@ use Rattle.lore_run.proofs.rendering.put_value_of.Goals as goal
 pub returns : goal.returns
 returns g c =
     let objects = c.args.graph.now.graph.objects in
-    let value = ap (λ (r : Bor Value). r.now) c.unwrap_or.ensures ∙ value_of-found objects c.args.oid c.value.result _ c.value.ensures.found c.value.ensures.only refl in
+    let value = ap (λ (r : Bor Value). r.now) c.unwrap_or.ensures ∙ value_of-found objects c.args.oid c.value_of.result _ c.value_of.ensures.found c.value_of.ensures.only refl in
     Puts-same _ _ _ _ c.put_value.result (ap printed value) c.put_value.ensures

@@ -1,4 +1,4 @@
-use Rattle.std.proofs.Common.{◌≡◌, ℕ, ◌+◌, ◌≤◌, List, [], ◌∷◌, length, take, refl, sym, ◌∙◌, ap, subst, arith, length-take}
+use Rattle.std.proofs.Common.{◌≡◌, ℕ, ◌+◌, ◌≤◌, List, [], ◌∷◌, length, take, refl, ◌∙◌, ap, subst, arith, length-take}
 use Rattle.std.specs.Io.KnownBytes.{Consumes}
 use Rattle.lore_base.specs.declared.limits.TheConstants.{SCRIPT_BYTES}
 use Rattle.lorel_lex.specs.Progress.{Progress}

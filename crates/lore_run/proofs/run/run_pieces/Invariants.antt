@@ -1,6 +1,5 @@
-use Rattle.std.proofs.Common.{◌≡◌, false, ◌+◌, ◌-◌, ◌≤◌, length}
+use Rattle.std.proofs.Common.{◌≡◌, false, ◌-◌, ◌≤◌}
 use Rattle.lore_base.specs.declared.limits.TheConstants.{SCRIPT_BYTES}
-use Rattle.lore_run.specs.declared.pieces.TheConstants.{PIECE_BYTES}
 use Rattle.lore_run.specs.Endings.{outside}
 use Rattle.lore_run.specs.inside.Turns.{standing, RunsSoFar}
 use Rattle.lore_run.proofs.run.run_pieces.Given as goal

@@ -1,6 +1,6 @@
 use Rattle.std.proofs.Common.{◌≡◌, List, ◌++◌, drop}
 use Rattle.lorel_lex.specs.Writing.{spaced}
-use Rattle.lorel_ast.specs.Types.{Kind}
+use Rattle.lorel_trees.specs.Types.{Kind}
 use Rattle.lorel_ast.specs.Printing.{print_dump_edges}
 use Rattle.lorel_ast.proofs.print_dumps.put_dump_edges.Given as goal
 

@@ -1,7 +1,7 @@
 use Rattle.std.proofs.Common.{◌≡◌, List, ◌++◌, map, drop}
 use Rattle.lorel_lex.specs.Writing.{spaced}
-use Rattle.lorel_ast.specs.Types.{Kind}
-use Rattle.lorel_ast.specs.Trees.{member_tree, member_trees, members_from}
+use Rattle.lorel_trees.specs.Types.{Kind}
+use Rattle.lorel_trees.specs.Trees.{member_tree, member_trees, members_from}
 use Rattle.lorel_ast.specs.Printing.{print_members, print_more_members}
 use Rattle.lorel_ast.proofs.print_literals.+literal.Given as goal
 

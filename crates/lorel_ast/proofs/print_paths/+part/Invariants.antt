@@ -1,7 +1,7 @@
 use Rattle.std.proofs.Common.{◌≡◌, List, ◌++◌, map, drop}
 use Rattle.lore_base.specs.Paths.{path_tree, path_trees, trees_of}
 use Rattle.lorel_lex.specs.Writing.{spaced}
-use Rattle.lorel_ast.specs.Types.{Kind}
+use Rattle.lorel_trees.specs.Types.{Kind}
 use Rattle.lorel_ast.specs.Printing.{print_parts, print_alt, print_bars}
 use Rattle.lorel_ast.proofs.print_paths.+part.Given as goal
 

@@ -1,6 +1,6 @@
 use Rattle.std.proofs.Common.{◌≡◌, List, ◌++◌, drop}
 use Rattle.lorel_lex.specs.Writing.{spaced}
-use Rattle.lorel_ast.specs.Types.{Kind}
+use Rattle.lorel_trees.specs.Types.{Kind}
 use Rattle.lorel_ast.specs.Printing.{print_labels}
 use Rattle.lorel_ast.proofs.print_paths.put_labels.Given as goal
 

@@ -1,7 +1,7 @@
 use Rattle.std.proofs.Common.{◌≡◌, List, ◌++◌, map, drop}
 use Rattle.lorel_lex.specs.Writing.{spaced}
-use Rattle.lorel_ast.specs.Types.{Kind}
-use Rattle.lorel_ast.specs.Trees.{from_tree}
+use Rattle.lorel_trees.specs.Types.{Kind}
+use Rattle.lorel_trees.specs.Trees.{from_tree}
 use Rattle.lorel_ast.specs.Printing.{print_from, print_more_ranges}
 use Rattle.lorel_ast.proofs.print_selects.put_from.Given as goal
 

@@ -1,7 +1,7 @@
 use Rattle.std.proofs.Common.{◌≡◌, List, ◌++◌, map, drop}
 use Rattle.lorel_lex.specs.Writing.{spaced}
-use Rattle.lorel_ast.specs.Types.{Kind}
-use Rattle.lorel_ast.specs.Trees.{item_tree}
+use Rattle.lorel_trees.specs.Types.{Kind}
+use Rattle.lorel_trees.specs.Trees.{item_tree}
 use Rattle.lorel_ast.specs.Printing.{print_items, print_more_items}
 use Rattle.lorel_ast.proofs.print_selects.put_items.Given as goal
 

@@ -3,7 +3,7 @@ use Rattle.std.specs.Prelude.{IfOk}
 use Rattle.lorel_lex.specs.Writing.{spaced, line_text}
 use Rattle.lorel_lex.proofs.ReadBackLaws.{line_of_spaced}
 use Rattle.lorel_ast.specs.Printing as canon
-use Rattle.lorel_ast.specs.Trees.{statement_tree}
+use Rattle.lorel_trees.specs.Trees.{statement_tree}
 use Rattle.lorel_ast.proofs.print_statements.print_statement.Goals as goal
 
 pub returns : goal.returns

@@ -3,7 +3,7 @@ use Rattle.std.specs.Int.{w64}
 use Rattle.std.proofs.lemmas.Int.{to_z-of_z}
 use Rattle.lorel_lex.specs.Writing.{spaced}
 use Rattle.lorel_lex.specs.declared.token_types.Kind.TheVariants as k
-use Rattle.lorel_ast.specs.Trees.{StatementTree, statement_tree}
+use Rattle.lorel_trees.specs.Trees.{StatementTree, statement_tree}
 use Rattle.lorel_ast.specs.Printing as canon
 use Rattle.lorel_ast.proofs.print_statements.put_statement.Goals as goal
 

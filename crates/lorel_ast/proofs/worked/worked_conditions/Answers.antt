@@ -1,7 +1,7 @@
 -- The derivations of the worked statements.
 use Rattle.std.proofs.Common.{refl, lit≤, [], ◌∷◌, Some}
-use Rattle.lorel_ast.specs.Types.{Eq, Gt, Like, Lt, Ne}
-use Rattle.lorel_ast.specs.Grammar as g
+use Rattle.lorel_trees.specs.Types.{Eq, Gt, Like, Lt, Ne}
+use Rattle.lorel_trees.specs.Grammar as g
 use Rattle.lorel_ast.specs.WorkedConditions.{WorkedConditions}
 use Rattle.lorel_ast.proofs.Derivations.{name, step, path, number, text, only}
 use Rattle.lorel_ast.proofs.worked.worked_conditions.Goals as goal

@@ -1,6 +1,6 @@
 -- The derivations of the worked statements.
 use Rattle.std.proofs.Common.{refl, lit≤, [], ◌∷◌, Some, None}
-use Rattle.lorel_ast.specs.Grammar as g
+use Rattle.lorel_trees.specs.Grammar as g
 use Rattle.lorel_ast.specs.WorkedLoads.{WorkedLoads}
 use Rattle.lorel_ast.proofs.Derivations.{name, label, quoted, number, negative, text, braces}
 use Rattle.lorel_ast.proofs.worked.worked_loads.Goals as goal

@@ -1,7 +1,7 @@
 -- The derivations of the worked statements.
 use Rattle.std.proofs.Common.{refl, lit≤, codes, [], ◌∷◌, Some}
-use Rattle.lorel_ast.specs.Types.{Eq, Gt}
-use Rattle.lorel_ast.specs.Grammar as g
+use Rattle.lorel_trees.specs.Types.{Eq, Gt}
+use Rattle.lorel_trees.specs.Grammar as g
 use Rattle.lorel_ast.specs.WorkedPaths.{WorkedPaths}
 use Rattle.lorel_ast.proofs.Derivations.{name, label, quoted, step, path, sequence, choice, number, only, no_tail}
 use Rattle.lorel_ast.proofs.worked.worked_paths.Goals as goal

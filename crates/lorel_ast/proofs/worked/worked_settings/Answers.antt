@@ -1,8 +1,8 @@
 -- The derivations of the worked statements.
 use Rattle.std.proofs.Common.{refl, lit≤, pos, [], ◌∷◌}
-use Rattle.lorel_ast.specs.Types.{Auto, Bottom, Complex, Guided, Top}
+use Rattle.lorel_trees.specs.Types.{Auto, Bottom, Complex, Guided, Top}
 use Rattle.lore_base.specs.Walks.{oid_of}
-use Rattle.lorel_ast.specs.Grammar as g
+use Rattle.lorel_trees.specs.Grammar as g
 use Rattle.lorel_ast.specs.Worked.{whole, chars}
 use Rattle.lorel_ast.specs.WorkedSettings.{WorkedSettings}
 use Rattle.lorel_ast.proofs.Derivations.{name, label, quoted}

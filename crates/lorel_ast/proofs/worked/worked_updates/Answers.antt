@@ -1,7 +1,7 @@
 -- The derivations of the worked statements.
 use Rattle.std.proofs.Common.{refl, lit≤, [], ◌∷◌, Some, None}
-use Rattle.lorel_ast.specs.Types.{Complex, Eq, Ge, Le}
-use Rattle.lorel_ast.specs.Grammar as g
+use Rattle.lorel_trees.specs.Types.{Complex, Eq, Ge, Le}
+use Rattle.lorel_trees.specs.Grammar as g
 use Rattle.lorel_ast.specs.Worked.{whole, minus}
 use Rattle.lorel_ast.specs.WorkedUpdates.{WorkedUpdates}
 use Rattle.lorel_ast.proofs.Derivations.{name, label, quoted, step, path, number, text, braces, only, no_tail}

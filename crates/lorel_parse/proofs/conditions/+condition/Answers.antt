@@ -1,6 +1,6 @@
 use Rattle.std.proofs.Common.{◌≡◌, codes, ap, ◌∙◌, rules, arith}
 use Rattle.std.proofs.lemmas.Grind.{common_steps}
-use Rattle.lorel_ast.specs.Trees.{cond_trees}
+use Rattle.lorel_trees.specs.Trees.{cond_trees}
 use Rattle.lorel_parse.specs.inside.Conditions.{others_from, conj, cond, enclosed, unary}
 use Rattle.lorel_parse.proofs.TurnLaws.{one_more, deeper}
 use Rattle.lorel_parse.proofs.ConditionReadingLaws.{cond-enclosed_zero}
@@ -17,7 +17,7 @@ enclosed_condition-returns-then-depth-eq0 t c =
 
 pub enclosed_condition-returns : goal.enclosed_condition-returns
 unfolding enclosed
-enclosed_condition-returns t c = rw (deeper (λ n. cond (enclosed n) c.args.tokens.now) c.args.depth (omega arith)) c.disjunction.ensures
+enclosed_condition-returns t c = rw (deeper (λ n. cond (enclosed n) c.args.tokens.now) c.args.depth (omega arith)) c.condition.ensures
 
 pub more_conjunctions-conjunctions-preserved : goal.more_conjunctions-conjunctions-preserved
 unfolding others_from

@@ -1,5 +1,5 @@
 use Rattle.std.proofs.Common.{◌≡◌, ◌+◌, ◌-◌, ◌*◌, codes}
-use Rattle.lorel_ast.specs.Trees.{cond_trees}
+use Rattle.lorel_trees.specs.Trees.{cond_trees}
 use Rattle.lorel_parse.specs.inside.Conditions as spec
 use Rattle.lorel_parse.proofs.conditions.+condition.Given as goal
 
@@ -24,8 +24,8 @@ decreases-conjunction l = 8 * l.depth + 4
 abbrev pub decreases-more_conjunctions : goal.decreases-more_conjunctions
 decreases-more_conjunctions l = 8 * l.depth + 5
 
-abbrev pub decreases-disjunction : goal.decreases-disjunction
-decreases-disjunction l = 8 * l.depth + 6
+abbrev pub decreases-condition : goal.decreases-condition
+decreases-condition l = 8 * l.depth + 6
 
 abbrev pub invariant-more_singles-singles : goal.invariant-more_singles-singles
 invariant-more_singles-singles l =

@@ -1,7 +1,7 @@
 use Rattle.std.proofs.Common.{rules, arith}
 use Rattle.std.proofs.lemmas.Grind.{common_steps}
 use Rattle.lorel_lex.specs.declared.token_types.Sign.TheVariants as s
-use Rattle.lorel_ast.specs.Trees.{member_trees}
+use Rattle.lorel_trees.specs.Trees.{member_trees}
 use Rattle.lorel_parse.specs.inside.Outcomes.{sees}
 use Rattle.lorel_parse.specs.inside.Repetitions.{each_in}
 use Rattle.lorel_parse.specs.inside.Literals.{inside, member}

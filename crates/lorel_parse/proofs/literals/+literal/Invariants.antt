@@ -1,5 +1,5 @@
 use Rattle.std.proofs.Common.{◌≡◌, ◌+◌, ◌-◌, ◌*◌}
-use Rattle.lorel_ast.specs.Trees.{member_trees}
+use Rattle.lorel_trees.specs.Trees.{member_trees}
 use Rattle.lorel_lex.specs.declared.token_types.Sign.TheVariants as s
 use Rattle.lorel_parse.specs.inside.Outcomes.{sees}
 use Rattle.lorel_parse.specs.inside.Repetitions.{each_in}

@@ -1,6 +1,6 @@
 use Rattle.std.proofs.Common.{◌≡◌, ◌-◌, map}
 use Rattle.lorel_lex.specs.declared.token_types.Sign.TheVariants as s
-use Rattle.lorel_ast.specs.Trees.{item_tree}
+use Rattle.lorel_trees.specs.Trees.{item_tree}
 use Rattle.lorel_parse.specs.inside.Outcomes.{sees}
 use Rattle.lorel_parse.specs.inside.Repetitions.{each, each_in}
 use Rattle.lorel_parse.specs.inside.Selects as spec

@@ -1,6 +1,6 @@
 use Rattle.std.proofs.Common.{sym}
 use Rattle.lore_base.specs.Paths.{path_tree, path_trees}
-use Rattle.lorel_ast.specs.Trees.{rooted_tree}
+use Rattle.lorel_trees.specs.Trees.{rooted_tree}
 use Rattle.lorel_parse.proofs.TargetLaws.{aimed-label, aimed-none}
 use Rattle.lorel_parse.proofs.targets.aimed.Goals as goal
 

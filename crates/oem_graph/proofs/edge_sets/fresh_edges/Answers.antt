@@ -1,11 +1,8 @@
-use Rattle.std.proofs.Common.{ap, ◌++◌, ◌∙◌}
-use Rattle.oem_graph.proofs.EdgeLaws.{edge_same}
-use Rattle.oem_graph.proofs.SearchLaws.{fresh-sorted}
+use Rattle.oem_graph.proofs.SearchLaws.{fresh-sorted, fresh-behind}
 use Rattle.oem_graph.proofs.edge_sets.fresh_edges.Goals as goal
 
+pub returns-then-come_behind : goal.returns-then-come_behind
+returns-then-come_behind c = fresh-behind _ _ _ c.in_ok-sorted.ensures (rw c.as_slice.ensures at c.if-come_behind.ensures)
+
 pub returns : goal.returns
-returns c =
-    let sorted = c.sort_set.ensures in
-    fresh-sorted c.args.kept.now c.args.added.now c.append.new.self c.sort_set.new.self c.in_ok-fresh.fresh
-    (c.in_ok-append.ensures.ok ∙ ap (λ l. l ++ c.args.added.now) c.in_ok-sorted.ensures) sorted.ascend (sorted.members edge_same) sorted.few
-    (rw c.as_slice.ensures at c.in_ok-fresh.ensures)
+returns c = fresh-sorted _ _ _ _ c.in_ok-sorted.ensures (rw c.as_slice-2.ensures at c.in_ok-fresh.ensures)

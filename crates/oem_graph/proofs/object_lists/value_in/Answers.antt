@@ -3,6 +3,9 @@ use Rattle.std.proofs.lemmas.List.Sorted.{answers_always}
 use Rattle.oem_graph.proofs.ObjectLaws.{one_value, found_value, none_live}
 use Rattle.oem_graph.proofs.object_lists.value_in.Goals as goal
 
+pub returns-in-Some-clause-only : goal.returns-in-Some-clause-only
+returns-in-Some-clause-only c value at = ap Some (one_value _ c.requires _ _ _ c.in-Some.ensures at)
+
 pub returns-in-Ok-clause-found : goal.returns-in-Ok-clause-found
 returns-in-Ok-clause-found c =
     let equal = c.in-Ok.ensures.position (λ object. object.0) (answers_always _ _ _ (λ f a r g called. search rules)) in

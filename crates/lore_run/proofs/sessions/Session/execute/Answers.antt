@@ -1,16 +1,16 @@
 use Rattle.std.proofs.Common.{subst}
-use Rattle.lorel_ast.specs.declared.statements.Statement.{Statement}
-use Rattle.lorel_ast.specs.Trees.{load, literal_tree, statement_tree}
-use Rattle.lorel_ast.specs.Sound.{IsSound}
-use Rattle.lorel_ast.proofs.CanonStatementLaws.{keeps_forms}
+use Rattle.lorel_trees.specs.declared.statements.Statement.{Statement}
+use Rattle.lorel_trees.specs.Trees.{load, literal_tree, statement_tree}
+use Rattle.lorel_trees.specs.Sound.{IsSound}
+use Rattle.lorel_trees.proofs.FormLaws.{sound_statement}
 use Rattle.lore_run.proofs.sessions.Session.execute.Goals as goal
 
 pub load-requires-clause-name : goal.load-requires-clause-name
 load-requires-clause-name g c =
     let sound = subst (λ (s : Statement). IsSound (statement_tree s)) c.in-Load.is c.requires in
-    (keeps_forms.statement (load c.in-Load.name (literal_tree c.in-Load.literal)) sound).0
+    (sound_statement (load c.in-Load.name (literal_tree c.in-Load.literal)) sound).0
 
 pub load-requires-clause-literal : goal.load-requires-clause-literal
 load-requires-clause-literal g c =
     let sound = subst (λ (s : Statement). IsSound (statement_tree s)) c.in-Load.is c.requires in
-    (keeps_forms.statement (load c.in-Load.name (literal_tree c.in-Load.literal)) sound).1
+    (sound_statement (load c.in-Load.name (literal_tree c.in-Load.literal)) sound).1

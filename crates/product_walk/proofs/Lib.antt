@@ -1,0 +1,5 @@
+pub mod ArcLaws
+pub mod MoverLaws
+pub mod StateLaws
+pub mod ProductLaws
+pub mod PathLaws

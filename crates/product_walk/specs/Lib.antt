@@ -1,0 +1,3 @@
+pub mod Types
+pub mod ProductWalks
+pub mod inside

@@ -1,0 +1,7 @@
+-- The declared types that definitions name, and the state at the end of an automaton.
+pub use Rattle.lore_base.specs.declared.edges.Oid.{Oid}
+pub use Rattle.lore_base.specs.declared.edges.Label.{Label}
+pub use Rattle.lore_base.specs.declared.edges.Edge.{Edge}
+pub use Rattle.path_expr.specs.declared.state_sets.States.{States}
+pub use Rattle.product_walk.specs.declared.state_marks.StateMarks.{StateMarks}
+pub use Rattle.path_expr.specs.declared.state_sets.TheConstants.{END}

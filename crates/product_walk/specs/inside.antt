@@ -1,0 +1,5 @@
+-- Definitions that no public contract cites.
+pub mod Arcs
+pub mod StateSets
+pub mod Products
+pub mod Movers
