@@ -58,8 +58,36 @@ impl<N: Copy + Eq + Hash, M: Marks> Found<N, M> {
         Ok(())
     }
 
-    // Meets all places.
+    // Takes the memory for so many places more where they outnumber those met. What is met stays the
+    // same.
+    fn reserve(&mut self, count: usize) -> Result<(), NoMemory>
+        ensures met { OnOk result (self.new.met.items ≡ self.old.met.items) }
+        ensures marked { OnOk result ((node : N)
+            → get N.eq self.new.marked node ≡ get N.eq self.old.marked node) }
+    {
+        if count <= self.met.len() {
+            return Ok(());
+        }
+        self.met.reserve(count)?;
+        self.marked.reserve(count)?;
+        Ok(())
+    }
+
+    // Meets all places. Many of them take their memory at once.
     pub(crate) fn meet_all(&mut self, places: &[(N, M)]) -> Result<(), NoMemory>
+        requires exact { (a b : N) → N.eq a b ≡ true → a ≡ b }
+        requires marked { AreMarks M.has (get N.eq self.old.marked) self.old.met.items }
+        ensures grows { OnOk result (Grows M.has (IsMet M.has places.now)
+            self.old.met.items self.new.met.items) }
+        ensures marked { OnOk result
+            (AreMarks M.has (get N.eq self.new.marked) self.new.met.items) }
+    {
+        self.reserve(places.len())?;
+        self.meet_each(places)
+    }
+
+    // Meets one place after another.
+    fn meet_each(&mut self, places: &[(N, M)]) -> Result<(), NoMemory>
         requires exact { (a b : N) → N.eq a b ≡ true → a ≡ b }
         requires marked { AreMarks M.has (get N.eq self.old.marked) self.old.met.items }
         ensures grows { OnOk result (Grows M.has (IsMet M.has places.now)

@@ -180,7 +180,8 @@ fn escape_of(byte: u8) -> Option<&'static [u8]>
     }
 }
 
-/// Puts some words and the decimal digits of a number behind them.
+/// Puts some words and the decimal digits of a number behind them. Inlined, since each row has one.
+#[inline(always)]
 fn put_count<I: Integer, O: Out>(words: &[u8], number: I, out: &mut O) -> Result<(), Failed>
     ensures { Puts (O.delivery out.old)
         (words.now ++ I.text number)
@@ -190,7 +191,8 @@ fn put_count<I: Integer, O: Out>(words: &[u8], number: I, out: &mut O) -> Result
     put_number(number, out)
 }
 
-/// Puts the decimal digits of a number.
+/// Puts the decimal digits of a number. Inlined, since each row has one or two.
+#[inline(always)]
 fn put_number<I: Integer, O: Out>(number: I, out: &mut O) -> Result<(), Failed>
     ensures { Puts (O.delivery out.old)
         (I.text number)

@@ -49,6 +49,7 @@ fn push_ends<D: Arcs, T: LabelTest>(
         out.old.items out.new.items) }
     ensures same { mover.new ≡ mover.old }
 {
+    out.reserve(edges.len())?;
     'edges: for edge in edges {
         let after = mover.after(states, edge.label)?;
         push_end(out, direction.far_end(edge), after)?;

@@ -55,7 +55,7 @@ pub(crate) fn append_ended(
         (ListsInOrder (λ oid. IsMet HasState met.now (oid, END))) buf.old buf.new) }
     ensures err { OnErr result (buf.new ≡ buf.old) }
 {
-    let mut ended = OidBuf::new(alloc);
+    let mut ended = OidBuf::with_capacity(alloc, met.len())?;
     'places: for place in met {
         push_ended(&mut ended, *place)?;
     }

@@ -1,4 +1,4 @@
-use Rattle.std.proofs.Common.{get_or, take, refl, subst, sym, ◌∙◌}
+use Rattle.std.proofs.Common.{[], get_or, take, refl, subst, sym, ◌∙◌}
 use Rattle.std.proofs.lemmas.List.{take_more}
 use Rattle.graph_search.specs.Closures.{Lists}
 use Rattle.path_expr.specs.Machines.{IsStep}
@@ -11,7 +11,9 @@ use Rattle.product_walk.proofs.product.push_ends.Goals as goal
 
 pub edges-init : goal.edges-init
 edges-init g c = record {
-  lists = ends_none c.args.mover.now.labels c.args.mover.now.machine g.D.Arcs.far c.args.states c.args.out.now.items;
+  lists = subst (λ l. Lists HasState (IsNext c.args.mover.now.labels c.args.mover.now.machine g.D.Arcs.far [] c.args.states) c.args.out.now.items l)
+      (sym c.reserve.ensures.items)
+      (ends_none c.args.mover.now.labels c.args.mover.now.machine g.D.Arcs.far c.args.states c.args.out.now.items);
   same = refl;
 }
 

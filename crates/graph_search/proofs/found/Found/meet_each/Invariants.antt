@@ -2,7 +2,7 @@ use Rattle.std.proofs.Common.{take}
 use Rattle.indexmap.specs.IndexMap.{get}
 use Rattle.graph_search.specs.Closures.{IsMet}
 use Rattle.graph_search.specs.inside.Searches.{Grows, AreMarks}
-use Rattle.graph_search.proofs.found.Found.meet_all.Given as goal
+use Rattle.graph_search.proofs.found.Found.meet_each.Given as goal
 
 abbrev pub invariant-places : goal.invariant-places
 invariant-places g l = record {
