@@ -67,7 +67,8 @@ fn check(alloc: Global, path: &'static str, words: &[&str], wanted: bool) -> Res
 
 #[test]
 fn paths_spell_these_words(rt: HostRuntime) -> Result<(), Fail> {
-    let table: [(&str, &[&str]); 13] = [
+    let table: [(&str, &[&str]); 14] = [
+        ("", &[""]),
         ("a", &["a"]),
         ("#", &["", "a", "abz"]),
         ("%", &["a", "d"]),
@@ -117,5 +118,8 @@ fn a_path_may_have_sixty_four_leaves(rt: HostRuntime) -> Result<(), Fail> {
     assert_eq!(rt; is_accepted(&automaton, &leaves, &labels)?, true);
     assert_eq!(rt; is_accepted(&automaton, &leaves[1..], &labels)?, false);
     assert_eq!(rt; is_accepted(&automaton, &[b'a'; 65], &labels)?, false);
+    let reversed = automaton.reversed(rt.alloc())?;
+    assert_eq!(rt; is_accepted(&reversed, &leaves, &labels)?, true);
+    assert_eq!(rt; is_accepted(&reversed, &leaves[1..], &labels)?, false);
     Ok(())
 }
