@@ -75,7 +75,22 @@ def cases():
     yield "two thousand statements and a thousand names", script, 0, b"".join(replies)
     yield ("four thousand labels", [braces("L", (f"l{i} {i}" for i in range(4_096))), b"select L.l4095;"], 0,
            b"ok objects 4097 edges 4096\n&4097 4095\nrows 1\n")
-    yield "a select of a hundred thousand items", [b"select ", b"A, " * 99_999, b"A;"], 1, b"refused 5 Syntax\n"
+    yield ("a select of a hundred thousand items", [b"load A := 1; select ", b"A, " * 99_999, b"A;"], 1,
+           b"ok objects 1 edges 0\nrefused 10 TooManyRanges\n")
+    pairs = "".join(f"&{i} 0 | &{j} 0\n" for i in range(2, 318) for j in range(2, 318))
+    yield ("as many rows as an answer may have, nearly", [braces("N", ["a 0"] * 316), b"select X, Y from N.a X, N.a Y;"], 0,
+           f"ok objects 317 edges 316\n{pairs}rows 99856\n".encode())
+    yield ("a row too many, and far too many", [braces("N", (f"a {i}" for i in range(4_000))), b"select Y, X from N.a X, N.a Y;",
+           b"select X, Y from N.a X, N.a Y where X <= 24 and Y < 4000;", b"select X, Y from N.a X, N.a Y where X <= 25;"], 1,
+           b"ok objects 4001 edges 4000\nrefused 13 TooManyRows\n"
+           + "".join(f"&{i} {i - 2} | &{j} {j - 2}\n" for i in range(2, 27) for j in range(2, 4_002)).encode()
+           + b"rows 100000\nrefused 13 TooManyRows\n")
+    yield ("millions of choices and few rows", [braces("N", (f"a {i % 5}" for i in range(1_500))), b"select X from N.a X, N.a Y;"], 0,
+           ("ok objects 1501 edges 1500\n" + "".join(f"&{i + 2} {i % 5}\n" for i in range(1_500)) + "rows 1500\n").encode())
+    steps = 200_000
+    chain = ", ".join(["G.a V0", *(f"V{i} V{i + 1}" for i in range(steps))])
+    yield (f"{steps} ranges that fuse to one", [b"load G := { a 1, a 2 };", f"select V{steps} from {chain};".encode()], 0,
+           b"ok objects 3 edges 2\n&2 1\n&3 2\nrows 2\n")
     yield ("a literal of a million members", [braces("A", (f"a {i}" for i in range(1_000_000)))], 1,
            b"refused 20 TooManyObjects\n")
     entries = CHUNK // len(b"label lost\n") - 100

@@ -106,7 +106,7 @@ fn texts_and_values_are_copied(rt: HostRuntime) -> Result<(), Fail> {
 }
 
 fn bind(alloc: Global, names: &mut Names, name: &[u8], oid: u32) -> Result<(), NoMemory> {
-    names.put(alloc, &OemText::from_bytes(alloc, name)?, Oid(oid))
+    names.put(OemText::from_bytes(alloc, name)?, Oid(oid))
 }
 
 fn found(alloc: Global, names: &Names, name: &[u8]) -> Result<Option<Oid>, NoMemory> {
@@ -122,10 +122,6 @@ fn bound(alloc: Global, names: &Names, table: &[(&[u8], u32)]) -> Result<Names, 
     Ok(more)
 }
 
-fn joined(alloc: Global, names: &Names, more: &Names) -> Result<Names, NoMemory> {
-    names.joined(alloc, more)
-}
-
 #[test]
 fn names_are_bound_and_bound_anew(rt: HostRuntime) -> Result<(), Fail> {
     let alloc = rt.alloc();
@@ -139,7 +135,7 @@ fn names_are_bound_and_bound_anew(rt: HostRuntime) -> Result<(), Fail> {
     assert_eq!(rt; found(alloc, &names, b"Guide")?, Some(Oid(9)));
     assert_eq!(rt; found(alloc, &names, b"Guid")?, None);
     let more = bound(alloc, &names, &[(b"Zagat", 3), (b"Guide", 4)])?;
-    let all = joined(alloc, &names, &more)?;
+    let all = names.joined(&more)?;
     assert_eq!(rt; all.len(), 3);
     assert_eq!(rt; found(alloc, &all, b"Guide")?, Some(Oid(4)));
     assert_eq!(rt; found(alloc, &all, b"Apartments")?, Some(Oid(5)));

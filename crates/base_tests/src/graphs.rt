@@ -58,7 +58,7 @@ fn first_changes(alloc: Global) -> Result<Changes, NoMemory>
     let mut changes = Changes::new(alloc);
     changes.made.push((Oid(1), Value::Complex))?;
     let name = OemText::from_bytes(alloc, b"G")?;
-    changes.named.put(alloc, &name, Oid(1))?;
+    changes.named.put(name, Oid(1))?;
     changes.added.push(loop_with(1))?;
     Ok(changes)
 }

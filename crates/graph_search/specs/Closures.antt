@@ -14,14 +14,14 @@ AreMarked has places = All (λ place. ((mark : ℕ) → has place.1 mark → ⊥
 abbrev pub AreApart : {X M : Type 0} → (M → ℕ → Type 0) → List (X × M) → Type 0
 AreApart has places = AllPairs (λ a b. a.0 ≡ b.0 → (mark : ℕ) → has a.1 mark → has b.1 mark → ⊥) places
 
--- the steps lead from x to y: each thing on the way leads to the next
+-- the way leads from x to y: each thing on it leads to the next
 abbrev pub LeadAlong : {X : Type 0} → (X → X → Type 0) → X → List X → X → Type 0
 LeadAlong leads x [] y = x ≡ y
 LeadAlong leads x (z ∷ zs) y = leads x z × LeadAlong leads z zs y
 
--- y is led to from one of the starts, in zero or more steps
+-- some way, perhaps the empty one, leads from one of the starts to y
 abbrev pub IsLedTo : {X : Type 0} → (X → X → Type 0) → (X → Type 0) → X → Type 0
-IsLedTo {X} leads Starts y = (start : X) × (steps : List X) × Starts start × LeadAlong leads start steps y
+IsLedTo {X} leads Starts y = (start : X) × (way : List X) × Starts start × LeadAlong leads start way y
 
 -- a place leads there: its node does, under one of its marks
 abbrev pub LeadsOn : {X M : Type 0} → (M → ℕ → Type 0) → (X × ℕ → X × ℕ → Type 0) → X × M → X × ℕ → Type 0

@@ -18,7 +18,8 @@ pub trait Adjacent {
     ghost edges: { Self → List TheEdge };
 
     /// Appends the edges that leave the object to `buf`, ascending by label and child. Counts one
-    /// step, and one more for each edge. A number that isn't live has no edges.
+    /// step, and one more for each edge. A number that isn't live has no edges. Where memory is
+    /// refused, `buf` holds what was there and perhaps more behind it, and no step is counted.
     fn out_edges<L: Ledger>(
         &self,
         oid: Oid,
@@ -40,7 +41,8 @@ pub trait Links {
 
     /// Appends the edges that enter the object to `buf`, with the label where one is given,
     /// ascending by label and parent. Counts one step, and one more for each edge. A number that
-    /// isn't live has no edges.
+    /// isn't live has no edges. Where memory is refused, `buf` holds what was there and perhaps more
+    /// behind it, and no step is counted.
     fn parents<L: Ledger>(
         &self,
         oid: Oid,
@@ -63,7 +65,8 @@ pub trait Paths {
     ghost reaches: { Self → PathTree → TheOid → TheOid → Type 0 };
 
     /// Appends the objects that the path reaches from the named object to `buf`, ascending, each
-    /// once. The path has at most 64 leaves.
+    /// once. The path has at most 64 leaves. Where memory is refused, `buf` holds what was there and
+    /// perhaps more behind it.
     fn select(
         &self,
         alloc: Global,

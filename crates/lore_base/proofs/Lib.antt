@@ -2,6 +2,8 @@ pub mod NameLaws
 pub mod WordLaws
 pub mod ListLaws
 pub mod CauseLaws
+pub mod DecimalLaws
+pub mod PutLaws
 pub mod MemberLaws
 pub mod SetLaws
 pub mod DeadLaws

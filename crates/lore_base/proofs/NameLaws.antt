@@ -1,56 +1,41 @@
--- A map whose keys are seen by their values: look-ups, insertions and the order of keys.
-use Rattle.std.proofs.Common.{◌≡◌, Bool, cond, List, [], ◌∷◌, map, Some, refl, ap}
-use Rattle.std.specs.Map.{lookup, keys_of}
+-- A table of names is made anew by binding its names in order.
+use Rattle.std.proofs.Common.{◌≡◌, ℕ, List, [], ◌∷◌, ◌++◌, refl, ap, sym, ◌∙◌, append_assoc}
+use Rattle.std.proofs.lemmas.List.{append-nil}
+use Rattle.std.specs.Map.{keys_of}
 use Rattle.std.specs.BTreeMap.{insert_entry}
-use Rattle.std.specs.List.{AllByRecursion, AllZip}
+use Rattle.std.specs.List.{AllByRecursion}
 use Rattle.std.specs.List.Sorted.{IsStrictlySortedBy}
-use Rattle.std.specs.Ordering.{match_ordering}
-use Rattle.std.specs.declared.cmp.Ordering.{Ordering}
-use Rattle.std.specs.declared.cmp.Ordering.TheVariants.{Less, Equal, Greater}
+use Rattle.std.specs.Ordering.{ordering_reverse}
+use Rattle.std.specs.declared.cmp.Ordering.TheVariants.{Less, Greater}
+use Rattle.std.proofs.lemmas.Cmp.{nat_list_cmp_total}
+use Rattle.lore_base.specs.Types.{Oid}
+use Rattle.lore_base.specs.Bytes.{bytes_cmp}
+use Rattle.lore_base.specs.Names.{IsNameTable}
+use Rattle.lore_base.specs.ChangeSets.{names_after}
 
-abbrev pub rekeyed : {K J X : Type 0} → (K → J) → List (K × X) → List (J × X)
-rekeyed f es = map (λ e. (f e.0, e.1)) es
+-- what is below all keys is below one among them
+below_one : (key : List ℕ) (done others : List (List ℕ × Oid)) (entry : List ℕ × Oid)
+    → AllByRecursion (λ other. bytes_cmp key other ≡ Less) (keys_of (done ++ entry ∷ others)) → bytes_cmp key entry.0 ≡ Less
+below_one key [] others entry h = h.0
+below_one key (_ ∷ done) others entry h = below_one key done others entry h.1
 
-pub lookup-rekeyed : {K J X : Type 0} (f : K → J) (test : J → Bool) (es : List (K × X)) → lookup test (rekeyed f es) ≡ lookup (λ k. test (f k)) es
-lookup-rekeyed f test [] = refl
-lookup-rekeyed f test (e ∷ es) = ap (λ o. cond (test (f e.0)) (Some e.1) o) (lookup-rekeyed f test es)
-
-pub insert_entry-rekeyed : {K J X : Type 0} (f : K → J) (cmp : J → J → Ordering) (es : List (K × X)) (k : K) (v : X)
-    → insert_entry cmp (rekeyed f es) (f k) v ≡ rekeyed f (insert_entry (λ a b. cmp (f a) (f b)) es k v)
-insert_entry-rekeyed f cmp [] k v = refl
-insert_entry-rekeyed f cmp (e ∷ es) k v =
-    let others = insert_entry-rekeyed f cmp es k v in
-    elim (cmp (f k) (f e.0)) as (λ o. match_ordering o ((f k, v) ∷ rekeyed f (e ∷ es)) ((f e.0, v) ∷ rekeyed f es) ((f e.0, e.1) ∷ insert_entry cmp (rekeyed f es) (f k) v)
-    ≡ rekeyed f (match_ordering o ((k, v) ∷ e ∷ es) ((e.0, v) ∷ es) (e ∷ insert_entry (λ a b. cmp (f a) (f b)) es k v)))
-    [ Less ↦ refl | Equal ↦ refl | Greater ↦ ap (λ l. (f e.0, e.1) ∷ l) others ]
-
-below_mapped : {K J : Type 0} (f : K → J) (cmp : J → J → Ordering) (k : K) (es : List K)
-    → AllByRecursion (λ y. cmp (f k) (f y) ≡ Less) es → AllByRecursion (λ y. cmp (f k) y ≡ Less) (map f es)
-below_mapped f cmp k [] h = h
-below_mapped f cmp k (e ∷ es) h = (h.0, below_mapped f cmp k es h.1)
-
-sorted_mapped : {K J : Type 0} (f : K → J) (cmp : J → J → Ordering) (ks : List K)
-    → IsStrictlySortedBy (λ a b. cmp (f a) (f b)) ks → IsStrictlySortedBy cmp (map f ks)
+-- a name that comes after those of a table is bound at its end
+insert_entry-last : (done others : List (List ℕ × Oid)) (entry : List ℕ × Oid) → IsNameTable (done ++ entry ∷ others)
+    → insert_entry bytes_cmp done entry.0 entry.1 ≡ done ++ entry ∷ []
 unfolding IsStrictlySortedBy
-sorted_mapped f cmp [] h = h
-sorted_mapped f cmp (k ∷ ks) h = (below_mapped f cmp k ks h.0, sorted_mapped f cmp ks h.1)
+insert_entry-last [] others entry h = refl
+insert_entry-last (first ∷ done) others entry h =
+    let less : bytes_cmp first.0 entry.0 ≡ Less = below_one first.0 done others entry h.0 in
+    let greater : bytes_cmp entry.0 first.0 ≡ Greater = nat_list_cmp_total.antisymm entry.0 first.0 ∙ ap ordering_reverse less in
+    rw greater (ap (λ later. first ∷ later) (insert_entry-last done others entry h.1))
 
-keys_of-rekeyed : {K J X : Type 0} (f : K → J) (es : List (K × X)) → keys_of (rekeyed f es) ≡ map f (keys_of es)
-keys_of-rekeyed f [] = refl
-keys_of-rekeyed f (e ∷ es) = ap (λ l. f e.0 ∷ l) (keys_of-rekeyed f es)
+-- names that come after those of a table are bound behind them, in their order
+names_after-later : (done more : List (List ℕ × Oid)) → IsNameTable (done ++ more) → names_after done more ≡ done ++ more
+names_after-later done [] h = sym (append-nil done)
+names_after-later done (entry ∷ others) h =
+    ap (λ names. names_after names others) (insert_entry-last done others entry h)
+    ∙ names_after-later (done ++ entry ∷ []) others (rw append_assoc h)
+    ∙ append_assoc done (entry ∷ []) others
 
-pub sorted_rekeyed : {K J X : Type 0} (f : K → J) (cmp : J → J → Ordering) (es : List (K × X))
-    → IsStrictlySortedBy (λ a b. cmp (f a) (f b)) (keys_of es) → IsStrictlySortedBy cmp (keys_of (rekeyed f es))
-sorted_rekeyed f cmp es h = rw (keys_of-rekeyed f es) (sorted_mapped f cmp (keys_of es) h)
-
--- a map whose keys and values are clones has the same entries, seen so
-pub rekeyed_clones : {K J X : Type 0} (f : K → J) (C : K → K → Type 0) (D : X → X → Type 0) (es fs : List (K × X))
-    → AllZip (λ p q. C p.0 q.0 × D p.1 q.1) es fs → ((x y : K) → C x y → f y ≡ f x) → ((v w : X) → D v w → w ≡ v) → rekeyed f fs ≡ rekeyed f es
-rekeyed_clones f C D [] [] h keys values = refl
-rekeyed_clones f C D [] (p ∷ fs) h keys values = absurd h
-rekeyed_clones f C D (e ∷ es) [] h keys values = absurd h
-rekeyed_clones f C D (e ∷ es) (p ∷ fs) h keys values =
-    let key = keys e.0 p.0 h.0.0 in
-    let value = values e.1 p.1 h.0.1 in
-    let others = rekeyed_clones f C D es fs h.1 keys values in
-    cc
+pub names_after-none : (names : List (List ℕ × Oid)) → IsNameTable names → names_after [] names ≡ names
+names_after-none names h = names_after-later [] names h

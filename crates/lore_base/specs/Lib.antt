@@ -2,9 +2,11 @@ pub mod Types
 pub mod Bytes
 pub mod inside
 pub mod Quotes
+pub mod Printed
 pub mod Chunks
 pub mod Lists
 pub mod Causes
+pub mod Pieces
 pub mod Refusals
 pub mod Names
 pub mod Walks

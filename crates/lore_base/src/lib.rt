@@ -7,8 +7,10 @@
 #![tactic(auto)]
 
 pub use change_set::Changes;
+pub use decimals::read_whole;
 pub use edges::{Edge, Label, Oid};
 pub use faults::Fault;
+pub use leaf_counts::{leaf_count, path_leaf_count};
 pub use lists::{CallList, EdgeBuf, Listing, ObjectList, OidBuf, TextList, TryCopy};
 pub use memory_ends::{MemSink, MemSource, SureSink, SureSource};
 pub use modes::Mode;
@@ -16,6 +18,7 @@ pub use name_table::Names;
 pub use names::{is_identifier, is_name, is_reserved};
 pub use no_memory::NoMemory;
 pub use operators::Op;
+pub use out::Out;
 pub use outside::{Failed, Sink, Source};
 pub use paths::{LabelTest, Path, PathList, Pattern};
 pub use refusals::Refusal;
@@ -27,9 +30,11 @@ pub use values::Value;
 pub use wildcards::{is_like, is_matched};
 
 mod change_set;
+mod decimals;
 mod edges;
 mod faults;
 pub mod laws;
+mod leaf_counts;
 pub mod limits;
 mod lists;
 mod memory_ends;
@@ -38,6 +43,7 @@ mod name_table;
 mod names;
 mod no_memory;
 mod operators;
+mod out;
 mod outside;
 mod paths;
 mod refusals;

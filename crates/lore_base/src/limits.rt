@@ -24,6 +24,15 @@ pub const NESTING: u32 = 64;
 /// Path leaves in one statement.
 pub const LEAVES: usize = 64;
 
+/// Ranges of a select after fusing.
+pub const RANGES: usize = 8;
+
+/// Items of one select.
+pub const ITEMS: usize = 8;
+
+/// Distinct rows of a select.
+pub const ROWS: usize = 100_000;
+
 /// Bytes of one chunk before its `;`.
 pub const CHUNK_BYTES: usize = 67_108_864;
 

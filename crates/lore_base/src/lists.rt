@@ -85,7 +85,8 @@ impl<T> Listing<T> {
         self.items.as_slice()
     }
 
-    /// The allocator that the list takes its memory from.
+    /// The allocator that the list takes its memory from. Contracts see of a list its items alone, so
+    /// no clause can say which it is; it decides no answer but want of memory.
     pub fn allocator(&self) -> Global {
         *self.items.allocator()
     }

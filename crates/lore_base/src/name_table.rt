@@ -13,19 +13,21 @@ use std::alloc::Global;
 use std::collections::BTreeMap;
 use std::marker::Model;
 
-/// Names with their objects, seen by contracts as a list of (text, object), ascending by bytes.
+/// Names with their objects, seen by contracts as a list of (text, object), ascending by bytes. A
+/// table takes its memory from the allocator that it was made with.
 #[derive(Drop)]
 pub struct Names {
-    objects: BTreeMap<Vec<u8>, Oid>,
+    alloc: Global,
+    objects: BTreeMap<OemText, Oid>,
 }
 
 impl Model for Names {
-    ghost use Rattle.std.specs.Prelude.{ℕ, List, map};
+    ghost use Rattle.std.specs.Prelude.{ℕ, List};
     ghost use Rattle.lore_base.specs.declared.edges.Oid.{Oid};
 
     ghost Value = { List (List ℕ × Oid) };
 
-    ghost view = { λ n. map (λ e. (e.0.items, e.1)) n.objects.entries };
+    ghost view = { λ n. n.objects.entries };
 }
 
 impl Names {
@@ -34,6 +36,7 @@ impl Names {
         ensures { result ≡ [] }
     {
         Names {
+            alloc,
             objects: BTreeMap::new(alloc),
         }
     }
@@ -50,28 +53,36 @@ impl Names {
     pub fn find(&self, name: &OemText) -> Option<Oid>
         ensures { result ≡ object_of self.now name.now }
     {
-        self.objects.get(name.as_bytes()).copied()
+        self.objects.get(name).copied()
     }
 
     /// Binds the name, in place of an older binding.
-    pub fn put(&mut self, alloc: Global, name: &OemText, oid: Oid) -> Result<(), NoMemory>
-        ensures ok { OnOk result (self.new ≡ insert_entry bytes_cmp self.old name.now oid) }
+    pub fn put(&mut self, name: OemText, oid: Oid) -> Result<(), NoMemory>
+        ensures ok { OnOk result (self.new ≡ insert_entry bytes_cmp self.old name oid) }
         ensures err { OnErr result (self.new ≡ self.old) }
     {
-        let bytes = Vec::from_slice(alloc, name.as_bytes())?;
-        self.objects.insert(bytes, oid)?;
+        self.objects.insert(name, oid)?;
         Ok(())
     }
 
     /// The names of this table with those of `more`, which take the place of older bindings.
-    pub fn joined(&self, alloc: Global, more: &Names) -> Result<Names, NoMemory>
+    pub fn joined(&self, more: &Names) -> Result<Names, NoMemory>
         ensures { IfOk result (λ names. names ≡ names_after self.now more.now) }
     {
-        let mut names = self.try_copy(alloc)?;
-        'entries: for (text, oid) in &more.objects {
-            names.put(alloc, &OemText::from_bytes(alloc, text.as_slice())?, *oid)?;
-        }
+        let mut names = self.try_copy(self.alloc)?;
+        names.put_all(more)?;
         Ok(names)
+    }
+
+    // Binds each name of `more`, in place of an older binding.
+    fn put_all(&mut self, more: &Names) -> Result<(), NoMemory>
+        ensures all { OnOk result (self.new ≡ names_after self.old more.now) }
+        ensures table { IsNameTable more.now }
+    {
+        'entries: for (name, oid) in &more.objects {
+            self.put(name.try_copy(self.alloc)?, *oid)?;
+        }
+        Ok(())
     }
 }
 
@@ -80,9 +91,9 @@ impl TryCopy for Names {
 
     ghost seen = { λ names. names };
 
-    fn try_copy(&self, _alloc: Global) -> Result<Self, NoMemory> {
-        Ok(Names {
-            objects: self.objects.clone()?,
-        })
+    fn try_copy(&self, alloc: Global) -> Result<Self, NoMemory> {
+        let mut names = Names::new(alloc);
+        names.put_all(self)?;
+        Ok(names)
     }
 }

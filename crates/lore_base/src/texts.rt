@@ -1,7 +1,9 @@
-ghost use Rattle.std.specs.Prelude.{◌≡◌, ℕ, List, IfOk};
+ghost use Rattle.std.specs.Prelude.{◌≡◌, ℕ, ◌<◌, List, ◌++◌, length, IfOk, OnOk, OnErr};
+ghost use Rattle.lore_base.specs.Pieces.{kept};
 
 use crate::lists::TryCopy;
 use crate::no_memory::NoMemory;
+use crate::out::Out;
 use arrayvec::ArrayVec;
 use std::alloc::Global;
 use std::marker::Model;
@@ -16,7 +18,7 @@ pub struct OemText {
 
 #[derive(Debug, Drop)]
 pub(crate) enum TextBytes {
-    Short(ArrayVec<u8, 8>),
+    Short(ArrayVec<u8, 8>, Global),
     Long(Box<Vec<u8>>),
 }
 
@@ -36,7 +38,7 @@ impl OemText {
     {
         if let Ok(short) = ArrayVec::try_from(bytes) {
             return Ok(OemText {
-                bytes: TextBytes::Short(short),
+                bytes: TextBytes::Short(short, alloc),
             });
         }
         let long = Box::new(alloc, Vec::from_slice(alloc, bytes)?)?;
@@ -51,7 +53,7 @@ impl OemText {
     {
         if let Ok(short) = ArrayVec::try_from(bytes.as_slice()) {
             return Ok(OemText {
-                bytes: TextBytes::Short(short),
+                bytes: TextBytes::Short(short, alloc),
             });
         }
         Ok(OemText {
@@ -64,7 +66,7 @@ impl OemText {
         ensures { result.now ≡ self.now }
     {
         match &self.bytes {
-            TextBytes::Short(short) => short.as_slice(),
+            TextBytes::Short(short, _) => short.as_slice(),
             TextBytes::Long(long) => long.as_slice(),
         }
     }
@@ -78,4 +80,44 @@ impl TryCopy for OemText {
     fn try_copy(&self, alloc: Global) -> Result<Self, NoMemory> {
         OemText::from_bytes(alloc, self.as_bytes())
     }
+}
+
+impl Out for OemText {
+    type Fault = NoMemory;
+
+    ghost state = { λ text. kept text };
+
+    ghost is_memory = { λ _. Unit {0} };
+
+    /// Puts the bytes behind those that are there. The text stays as it was where memory is refused.
+    fn put(&mut self, piece: &[u8]) -> Result<(), NoMemory>
+        ensures ok { OnOk result (self.new ≡ self.old ++ piece.now) }
+        ensures err { OnErr result (self.new ≡ self.old) }
+        ensures some { OnErr result (0 < length piece.now) }
+    {
+        if piece.is_empty() {
+            return Ok(());
+        }
+        match &mut self.bytes {
+            TextBytes::Short(short, alloc) => match short.try_extend_from_slice(piece) {
+                Ok(()) => {}
+                Err(_full) => {
+                    let long = joined(*alloc, short.as_slice(), piece)?;
+                    self.bytes = TextBytes::Long(Box::new(*alloc, long)?);
+                }
+            },
+            TextBytes::Long(long) => long.extend_from_slice(piece)?,
+        }
+        Ok(())
+    }
+}
+
+// These bytes and those behind them, in one vector.
+fn joined(alloc: Global, bytes: &[u8], more: &[u8]) -> Result<Vec<u8>, NoMemory>
+    ensures { IfOk result (λ whole. whole.items ≡ bytes.now ++ more.now) }
+{
+    let mut whole = Vec::with_capacity(alloc, bytes.len().saturating_add(more.len()))?;
+    whole.extend_from_slice(bytes)?;
+    whole.extend_from_slice(more)?;
+    Ok(whole)
 }

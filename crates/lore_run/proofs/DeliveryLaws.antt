@@ -1,112 +1,87 @@
--- Bytes that go to the sink in parts, one part after another.
-use Rattle.std.proofs.Common.{◌≡◌, ℕ, List, [], ◌++◌, length, take, Option, None, Some, Result, Ok, Err, refl, sym, ap, subst, ◌∙◌, arith}
-use Rattle.std.specs.Result.{IsErr, OnErr}
-use Rattle.std.specs.Io.KnownBytes.{Appends}
-use Rattle.std.proofs.lemmas.List.{append-nil, append_assoc, length-append}
-use Rattle.std.proofs.lemmas.Result.{MatchResult-from_err}
+-- Bytes that go to the sink by way of the buffer of replies.
+use Rattle.std.proofs.Common.{◌≡◌, ℕ, ◌+◌, ◌<◌, ◌≤◌, List, [], ◌++◌, length, take, Option, None, Some, Result, Ok, Err, refl, sym, ap, subst, ◌∙◌, inr, arith}
+use Rattle.std.specs.Result.{OnErr}
+use Rattle.std.specs.Io.KnownBytes.{Appends, append_known}
+use Rattle.std.proofs.lemmas.List.{append-nil, append_assoc, append_cancel_left, length-append}
 use Rattle.std.proofs.Math.Seq.{take-append_seam}
-use Rattle.lore_run.specs.inside.Deliveries.{Delivery, delivery, Takes, Breaks, Puts, AppendsProperFront}
+use Rattle.lore_base.specs.Causes.{Rose}
+use Rattle.lore_base.specs.Pieces.{OutState, Takes, Breaks}
+use Rattle.lore_base.proofs.PutLaws.{Appends-none, Appends-then}
+use Rattle.lore_run.specs.inside.Deliveries.{passing, HandsOn, AppendsProperFront}
 
-pub Appends-none : (known : Option (List ℕ)) → Appends known known []
-Appends-none None = tt
-Appends-none (Some xs) = sym (append-nil xs)
-
-pub Appends-then : (a b c : Option (List ℕ)) (xs ys : List ℕ) → Appends a b xs → Appends b c ys → Appends a c (xs ++ ys)
-Appends-then None b c xs ys g h = tt
-Appends-then (Some p) None c xs ys g h = absurd g
-Appends-then (Some p) (Some q) None xs ys g h = absurd h
-Appends-then (Some p) (Some q) (Some r) xs ys g h = h ∙ ap (λ l. l ++ ys) g ∙ append_assoc p xs ys
-
--- two parts: what is sent in both, and what is left of the second
-two_parts : (held xs middle ys sent more rest : List ℕ) → sent ++ middle ≡ held ++ xs → more ++ rest ≡ middle ++ ys
-    → (sent ++ more) ++ rest ≡ held ++ (xs ++ ys)
-two_parts held xs middle ys sent more rest first second =
-    append_assoc sent more rest ∙ ap (λ l. sent ++ l) second ∙ sym (append_assoc sent middle ys)
-    ∙ ap (λ l. l ++ ys) first ∙ append_assoc held xs ys
-
--- one part of the bytes, then the other
-pub Takes-then : {a b c : Delivery} {xs ys : List ℕ} → Takes a xs b → Takes b ys c → Takes a (xs ++ ys) c
-Takes-then {a} {b} {c} {xs} {ys} g h = record {
-  same = h.same ∙ g.same;
-  sent = g.sent ++ h.sent;
-  written = Appends-then a.written b.written c.written g.sent h.sent g.written h.written;
-  whole = two_parts a.held xs b.held ys g.sent h.sent c.held g.whole h.whole;
-  faultless = h.faultless ∙ g.faultless;
-}
-
--- a fault in the first part is one of both
-pub Breaks-early : {a b : Delivery} {xs : List ℕ} (ys : List ℕ) → Breaks a xs b → Breaks a (xs ++ ys) b
-Breaks-early {a} {b} {xs} ys g = record {
-  same = g.same;
-  sent = g.sent;
-  unsent = g.unsent ++ ys;
-  written = g.written;
-  whole = sym (append_assoc g.sent g.unsent ys) ∙ ap (λ l. l ++ ys) g.whole ∙ append_assoc a.held xs ys;
-  some_unsent = let some = g.some_unsent in omega (arith, length-append g.unsent ys);
-  later = g.later;
-  counted = g.counted;
-}
-
--- so is one in the second part
-pub Breaks-late : {a b c : Delivery} {xs ys : List ℕ} → Takes a xs b → Breaks b ys c → Breaks a (xs ++ ys) c
-Breaks-late {a} {b} {c} {xs} {ys} g h = record {
-  same = h.same ∙ g.same;
-  sent = g.sent ++ h.sent;
-  unsent = h.unsent;
-  written = Appends-then a.written b.written c.written g.sent h.sent g.written h.written;
-  whole = two_parts a.held xs b.held ys g.sent h.sent h.unsent g.whole h.whole;
-  some_unsent = h.some_unsent;
-  later = rw g.faultless at h.later;
-  counted = rw g.faultless at h.counted;
-}
-
--- one part was taken, and a call puts the other
-pub Puts-then : {A E : Type 0} {a b : Delivery} {xs : List ℕ} (c : Delivery) (ys : List ℕ) (result : Result A E) → Takes a xs b → Puts b ys c result → Puts a (xs ++ ys) c result
-Puts-then c ys (Ok x) g h = Takes-then g h
-Puts-then c ys (Err e) g h = Breaks-late g h
-
--- the error of a call is handed on
-pub Puts-broken : {A E : Type 0} {a b : Delivery} {xs : List ℕ} (result : Result A E) → IsErr result → Breaks a xs b → Puts a xs b result
-Puts-broken {a = a} {b = b} {xs = xs} result failed h = MatchResult-from_err result (λ _. Takes a xs b) (λ _. Breaks a xs b) failed (λ _. h)
-
--- the same bytes, written otherwise
-pub Takes-same : {a b : Delivery} {xs ys : List ℕ} → xs ≡ ys → Takes a xs b → Takes a ys b
-Takes-same {a} {b} e g = subst (λ (l : List ℕ). Takes a l b) e g
-
-pub Breaks-same : {a b : Delivery} {xs ys : List ℕ} → xs ≡ ys → Breaks a xs b → Breaks a ys b
-Breaks-same {a} {b} e g = subst (λ (l : List ℕ). Breaks a l b) e g
-
-pub Puts-same : {A E : Type 0} (a b : Delivery) (xs ys : List ℕ) (result : Result A E) → xs ≡ ys → Puts a xs b result → Puts a ys b result
-Puts-same a b xs ys result e h = subst (λ (l : List ℕ). Puts a l b result) e h
+-- some bytes were written, and what is held now is the rest of what was held and of those that came
+Appends-held : (a b : Option (List ℕ)) (sent before after bytes : List ℕ) → Appends a b sent → sent ++ after ≡ before ++ bytes
+    → Appends (append_known a before) (append_known b after) bytes
+Appends-held None b sent before after bytes g e = tt
+Appends-held (Some p) None sent before after bytes g e = absurd g
+Appends-held (Some p) (Some q) sent before after bytes g e =
+    ap (λ l. l ++ after) g ∙ append_assoc p sent after ∙ ap (λ l. p ++ l) e ∙ sym (append_assoc p before bytes)
 
 -- bytes that the buffer holds behind the others
-pub Takes-held : (sink : ℕ) (held more : List ℕ) (w : Option (List ℕ)) (f : ℕ) → Takes (delivery sink w held f) more (delivery sink w (held ++ more) f)
-Takes-held sink held more w f = record { same = refl; sent = []; written = Appends-none w; whole = refl; faultless = refl }
-
--- a write of a front of what is held
-pub Takes-written : {a : Delivery} {xs held : List ℕ} {s : ℕ} {w : Option (List ℕ)} {f : ℕ} (front rest : List ℕ) (v : Option (List ℕ)) (e : ℕ)
-    → Takes a xs (delivery s w held f) → Appends w v front → front ++ rest ≡ held → e ≡ f → Takes a xs (delivery s v rest e)
-Takes-written {a} {xs} {held} {s} {w} {f} front rest v e g written split same = record {
-  same = g.same;
-  sent = g.sent ++ front;
-  written = Appends-then a.written w v g.sent front g.written written;
-  whole = append_assoc g.sent front rest ∙ ap (λ l. g.sent ++ l) split ∙ g.whole;
-  faultless = same ∙ g.faultless;
+pub Takes-held : (sink : ℕ) (held more : List ℕ) (w : Option (List ℕ)) (f : ℕ) → Takes (passing sink w held f) more (passing sink w (held ++ more) f)
+Takes-held sink held more w f = record {
+  put = Appends-held w w [] held (held ++ more) more (Appends-none w) refl;
+  faults = refl;
+  passes = record { same_place = refl; more = []; passed = Appends-none w };
 }
 
--- a fault behind an empty buffer leaves a proper front of the bytes
-pub AppendsProperFront-broken : {a b : Delivery} {xs : List ℕ} → a.held ≡ [] → Breaks a xs b → AppendsProperFront a.written b.written xs
-AppendsProperFront-broken {a} {b} {xs} empty g =
-    let whole : g.sent ++ g.unsent ≡ xs = g.whole ∙ ap (λ l. l ++ xs) empty in
-    let some = g.some_unsent in
-    let front : g.sent ≡ take (length g.sent) xs = sym (take-append_seam g.sent g.unsent) ∙ ap (λ l. take (length g.sent) l) whole in
+-- held bytes went on, and no write failed
+pub Takes-handed : {a b : OutState} → HandsOn a b → b.faults ≡ a.faults → Takes a [] b
+Takes-handed {a} {b} h same = record { put = h.same_bytes; faults = same; passes = h.passes }
+
+-- held bytes went on, and a write failed before any of these were put
+pub Breaks-handed : {E : Type 0} (IsMemory : E → Type 0) {a b : OutState} (fault : E) (bytes : List ℕ) → HandsOn a b → 0 < length bytes → a.faults ≤ b.faults
+    → Rose a.faults b.faults → Breaks IsMemory a bytes b fault
+Breaks-handed IsMemory {a} {b} fault bytes h some later rose = record {
+  front = [];
+  missing = bytes;
+  parts = refl;
+  some_missing = some;
+  put = h.same_bytes;
+  later = later;
+  cause = inr rose;
+  passes = h.passes;
+}
+
+-- a front of the bytes was put, and some of them are held or were not put: a proper front was written
+front_written : (a b : Option (List ℕ)) (held bytes front missing sent : List ℕ) → Appends a b sent
+    → Appends (append_known a []) (append_known b held) front → front ++ missing ≡ bytes → 0 < length held + length missing → 0 < length bytes
+    → AppendsProperFront a b bytes
+front_written None b held bytes front missing sent g h e some bytes_some = record { count = 0; part = bytes_some; written = tt }
+front_written (Some p) None held bytes front missing sent g h e some bytes_some = absurd g
+front_written (Some p) (Some q) held bytes front missing sent g h e some bytes_some =
+    let put : p ++ (sent ++ held) ≡ p ++ front =
+    sym (append_assoc p sent held) ∙ ap (λ l. l ++ held) (sym g) ∙ h ∙ ap (λ l. l ++ front) (append-nil p) in
+    let same : sent ++ held ≡ front = append_cancel_left p (sent ++ held) front put in
+    let whole : sent ++ (held ++ missing) ≡ bytes = sym (append_assoc sent held missing) ∙ ap (λ l. l ++ missing) same ∙ e in
+    let is_front : sent ≡ take (length sent) bytes = sym (take-append_seam sent (held ++ missing)) ∙ ap (λ l. take (length sent) l) whole in
     record {
-      count = length g.sent;
-      part = omega (arith, length-append g.sent g.unsent, ap length whole);
-      written = subst (λ (l : List ℕ). Appends a.written b.written l) front g.written;
+      count = length sent;
+      part = omega (arith, length-append sent (held ++ missing), length-append held missing, ap length whole);
+      written = subst (λ (l : List ℕ). q ≡ p ++ l) is_front g;
     }
 
-pub OnErr-broken : {A E : Type 0} (a b : Delivery) (xs : List ℕ) (result : Result A E) → a.held ≡ [] → Puts a xs b result
-    → OnErr result (AppendsProperFront a.written b.written xs)
-OnErr-broken a b xs (Ok x) empty h = tt
-OnErr-broken a b xs (Err e) empty h = AppendsProperFront-broken empty h
+module _ (s r f g : ℕ) (a b : Option (List ℕ)) (before after bytes : List ℕ) (empty : before ≡ []) (some : 0 < length bytes) where
+  -- a put failed behind an empty buffer
+  pub front-broken : {E : Type 0} (IsMemory : E → Type 0) (fault : E) → Breaks IsMemory (passing s a before f) bytes (passing r b after g) fault → AppendsProperFront a b bytes
+  front-broken IsMemory fault h =
+      let put = subst (λ (l : List ℕ). Appends (append_known a l) (append_known b after) h.front) empty h.put in
+      let missing = h.some_missing in
+      front_written a b after bytes h.front h.missing h.passes.more h.passes.passed put h.parts (omega arith) some
+
+  -- all was put behind an empty buffer, and some of it is still held
+  pub front-held : (q e : ℕ) (m : Option (List ℕ)) (held : List ℕ) → Takes (passing s a before f) bytes (passing q m held e) → HandsOn (passing q m held e) (passing r b after g)
+      → 0 < length after → AppendsProperFront a b bytes
+  front-held q e m held t h left =
+      let put = Appends-then (append_known a before) (append_known m held) (append_known b after) bytes [] t.put h.same_bytes in
+      let put' = subst (λ (l : List ℕ). Appends (append_known a l) (append_known b after) (bytes ++ [])) empty put in
+      let sent = Appends-then a m b t.passes.more h.passes.more t.passes.passed h.passes.passed in
+      front_written a b after bytes (bytes ++ []) [] (t.passes.more ++ h.passes.more) sent put' (append-nil (bytes ++ []) ∙ append-nil bytes) (omega arith) some
+
+pub OnErr-from : {A E P : Type 0} (result : Result A E) → P → OnErr result P
+OnErr-from (Ok x) p = tt
+OnErr-from (Err e) p = p
+
+pub OnErr-map : {A E : Type 0} (P Q : Type 0) (result : Result A E) → (P → Q) → OnErr result P → OnErr result Q
+OnErr-map P Q (Ok x) f p = tt
+OnErr-map P Q (Err e) f p = f p

@@ -19,7 +19,7 @@ use Rattle.lore_run.specs.declared.status.Status.TheVariants.{Done, DoneRefused,
 use Rattle.lore_run.specs.Endings.{Outside, outside, state_of, KeepsLimits, HasLongChunk, FailsInReply, Ends, RunEnds, EndsWell, IsCausedBySource, IsCausedBySink}
 use Rattle.lore_run.specs.declared.tally.Tally.{Tally}
 use Rattle.lore_run.specs.inside.Turns.{Standing, beginning, IsUnended, RepliedInPart, Unmoved, Advances, StopsIn, FinishesWhole, Finishes, RunsSoFar, outcome_at}
-use Rattle.lore_run.proofs.DeliveryLaws.{Appends-then}
+use Rattle.lore_base.proofs.PutLaws.{Appends-then}
 use Rattle.lore_run.proofs.LimitLaws.{IsWithin, keeps_up_to, keeps_limits, long_chunk_more}
 use Rattle.lore_run.proofs.RunLaws.{runs_then, joined-append, joined-one, All-one, Consumes-then, Consumes-kept, advances_then}
 
@@ -57,8 +57,8 @@ ends_read_fault before count left new_left now so_far keeps =
       took = Consumes-kept before.left left new_left so_far.taken so_far.took keeps;
       wrote = reached.written;
       ends = (
-        record { chunks = reached.chunks; behind = now.held; cut = cut reached so_far.rest; replied = replies ReadFault so_far.taken reached },
-        keeps_limits so_far.taken now.held reached.chunks (record { whole = reached.whole; each = reached.each }) reached.sized so_far.rest.sized
+        record { chunks = reached.chunks; behind = now.held; cut = cut reached so_far.held; replied = replies ReadFault so_far.taken reached },
+        keeps_limits so_far.taken now.held reached.chunks (record { whole = reached.whole; each = reached.each }) reached.sized so_far.held.sized
             (omega (arith, so_far.counted, so_far.within)),
       );
     }
@@ -85,9 +85,9 @@ ends_too_long before count left new_left now piece so_far full took one =
         byte = byte;
         taken = ap (λ l. so_far.taken ++ l) is;
         full = sym so_far.counted ∙ full;
-        within = keeps_limits so_far.taken now.held reached.chunks (record { whole = reached.whole; each = reached.each }) reached.sized so_far.rest.sized
+        within = keeps_limits so_far.taken now.held reached.chunks (record { whole = reached.whole; each = reached.each }) reached.sized so_far.held.sized
             (omega (arith, so_far.counted, so_far.within));
-        replied = record { chunks = reached.chunks; behind = now.held; cut = cut reached so_far.rest; replied = replies ScriptTooLong (so_far.taken ++ piece) reached };
+        replied = record { chunks = reached.chunks; behind = now.held; cut = cut reached so_far.held; replied = replies ScriptTooLong (so_far.taken ++ piece) reached };
       };
     }
 
@@ -177,7 +177,7 @@ ends_stopped StatementTooLong before count left new_left now after piece so_far 
         replied = replies StatementTooLong all reached;
         long = record {
           front = stops.middle.held ++ long.front;
-          behind = long.back;
+          further = long.back;
           begun = record {
             whole = begun.whole ∙ ap (λ l. joined_chunks reached.chunks ++ l) (ap (λ l. stops.middle.held ++ l) long.parts ∙ sym (append_assoc stops.middle.held long.front long.back));
             each = reached.each;
@@ -260,14 +260,14 @@ took_all before left new_left taken took none =
 
 kept_limits : (before : Outside) (count : ℕ) (left : Option (List ℕ)) (now : Standing) → (so_far : RunsSoFar before count left now) → KeepsLimits so_far.taken
 kept_limits before count left now so_far =
-    keeps_limits so_far.taken now.held so_far.advanced.chunks (record { whole = so_far.advanced.whole; each = so_far.advanced.each }) so_far.advanced.sized so_far.rest.sized
+    keeps_limits so_far.taken now.held so_far.advanced.chunks (record { whole = so_far.advanced.whole; each = so_far.advanced.each }) so_far.advanced.sized so_far.held.sized
     (omega (arith, so_far.counted, so_far.within))
 
 pub ends_finished : (status : Status) (before : Outside) (count : ℕ) (left new_left : Option (List ℕ)) (now after : Standing) → RunsSoFar before count left now
     → Consumes left new_left [] → IsAtEnd new_left → Finishes status now after
     → RunEnds (outcome_at status after) after.database before (outside new_left after.written)
 ends_finished Done before count left new_left now after so_far none at_end finishes =
-    let all = all_replied Done so_far.advanced so_far.rest finishes.0 in
+    let all = all_replied Done so_far.advanced so_far.held finishes.0 in
     record {
       taken = so_far.taken;
       written = all.printed;
@@ -276,7 +276,7 @@ ends_finished Done before count left new_left now after so_far none at_end finis
       ends = (all.replied, kept_limits before count left now so_far, at_end, finishes.1);
     }
 ends_finished DoneRefused before count left new_left now after so_far none at_end finishes =
-    let all = all_replied DoneRefused so_far.advanced so_far.rest finishes.0 in
+    let all = all_replied DoneRefused so_far.advanced so_far.held finishes.0 in
     record {
       taken = so_far.taken;
       written = all.printed;
@@ -294,7 +294,7 @@ ends_finished WriteFault before count left new_left now after so_far none at_end
       took = took_all before left new_left so_far.taken so_far.took none;
       wrote = Appends-then before.written now.written after.written reached.printed (take replied.printed.count bytes) reached.written replied.printed.written;
       ends = (
-        fails_in_reply so_far.taken new_left rest [] reached replied (lit< tt) (inr (with_rest reached so_far.rest filled, at_end, refl)),
+        fails_in_reply so_far.taken new_left rest [] reached replied (lit< tt) (inr (with_rest reached so_far.held filled, at_end, refl)),
         kept_limits before count left now so_far,
       );
     }

@@ -1,21 +1,6 @@
-pub mod MadeLaws
-pub mod NumberLaws
-pub mod GrowthLaws
-pub mod FoldLaws
-pub mod NameTableLaws
-pub mod LoadLaws
-pub mod KeptLaws
-pub mod SessionLaws
-pub mod PathLaws
-pub mod SelectLaws
-pub mod AscentLaws
-pub mod GraphThenLaws
-pub mod OneReplyLaws
-pub mod SomeReachedLaws
-pub mod SomeReplyLaws
 pub mod ValueLaws
 pub mod DeliveryLaws
-pub mod RenderingLaws
+pub mod ReplyLaws
 pub mod LimitLaws
 pub mod RunLaws
 pub mod EndLaws
@@ -23,3 +8,4 @@ pub mod PieceLaws
 pub mod MeaningLaws
 pub mod SomeRunLaws
 pub mod ParsedLaws
+pub mod RespondLaws

@@ -38,7 +38,7 @@ lies_behind (chunk ∷ chunks) (other ∷ others) behind front back are within w
 places : (script behind : List ℕ) (chunks others : List (List ℕ)) → BeginsWith script chunks behind → All IsWithin chunks → (length others < length chunks) ⊎ IsWithin behind
     → HasLongChunk script others → ⊥
 places script behind chunks others begins within which long =
-    lies_behind chunks others behind long.front long.behind (recursion_from_All IsChunk chunks begins.each) (recursion_from_All IsWithin chunks within)
+    lies_behind chunks others behind long.front long.further (recursion_from_All IsChunk chunks begins.each) (recursion_from_All IsWithin chunks within)
     (recursion_from_All IsChunk others long.begun.each) long.unended long.oversized (sym begins.whole ∙ long.begun.whole) which
 
 -- none of these chunks is too long
@@ -61,9 +61,9 @@ keeps_limits script behind chunks begins within kept few = record {
 pub long_chunk_more : (front back : List ℕ) (chunks : List (List ℕ)) → HasLongChunk front chunks → HasLongChunk (front ++ back) chunks
 long_chunk_more front back chunks long = record {
   front = long.front;
-  behind = long.behind ++ back;
+  further = long.further ++ back;
   begun = record {
-    whole = ap (λ l. l ++ back) long.begun.whole ∙ append_assoc (joined_chunks chunks) (long.front ++ long.behind) back ∙ ap (λ l. joined_chunks chunks ++ l) (append_assoc long.front long.behind back);
+    whole = ap (λ l. l ++ back) long.begun.whole ∙ append_assoc (joined_chunks chunks) (long.front ++ long.further) back ∙ ap (λ l. joined_chunks chunks ++ l) (append_assoc long.front long.further back);
     each = long.begun.each;
   };
   unended = long.unended;

@@ -13,7 +13,7 @@ use Rattle.lorel_lex.proofs.TokenLaws.{one_outcome}
 use Rattle.lorel_trees.specs.Trees.{StatementTree}
 use Rattle.lorel_trees.specs.Tokens.{HasTokens}
 use Rattle.lore_run.specs.Types.{Refusal, Reply, Refused}
-use Rattle.lore_run.specs.Statements.{Executes}
+use Rattle.lore_db.specs.Statements.{Executes}
 use Rattle.lore_run.specs.Replies.{rendered}
 use Rattle.lore_run.specs.Runs.{ScriptPart, chunk, rest, Yields, Runs, refusals, HasOneRun, HasOneReading}
 

@@ -14,20 +14,20 @@ use Rattle.lore_run.specs.declared.tally.Tally.{Tally}
 use Rattle.lore_run.specs.inside.Turns.{Standing, standing, IsUnended, Replied, Advances, StopsReplying, StopsIn}
 use Rattle.lore_run.proofs.RunLaws.{advances_held, advances_chunk, advances_then, RepliedInPart-held, Unmoved-held}
 
--- what is left of a piece behind a place
-abbrev pub behind : ℕ → List ℕ → List ℕ
-behind at piece = take (length piece - at) (drop at piece)
+-- what is left of a piece from a place on
+abbrev pub tail_from : ℕ → List ℕ → List ℕ
+tail_from at piece = take (length piece - at) (drop at piece)
 
-pub front_and_behind : (at : ℕ) (piece : List ℕ) → piece ≡ take at piece ++ behind at piece
-front_and_behind at piece = sym (ap (λ l. take at piece ++ l) (take_rest piece at) ∙ take-append-drop at piece)
+pub front_and_tail : (at : ℕ) (piece : List ℕ) → piece ≡ take at piece ++ tail_from at piece
+front_and_tail at piece = sym (ap (λ l. take at piece ++ l) (take_rest piece at) ∙ take-append-drop at piece)
 
 -- what is left of the piece ends no chunk
 pub advances_more : (before : Standing) (old new : Progress) (tally : Tally) (written : Option (List ℕ)) (db : Database) (piece : List ℕ) (at used : ℕ)
-    → Advances before (take at piece) (standing old.held tally written db) → GoesOnWith old (behind at piece) used new
+    → Advances before (take at piece) (standing old.held tally written db) → GoesOnWith old (tail_from at piece) used new
     → Advances before piece (standing new.held tally written db)
 advances_more before old new tally written db piece at used advanced more =
-    subst (λ (l : List ℕ). Advances before l (standing new.held tally written db)) (sym (front_and_behind at piece))
-    (advances_then advanced (advances_held old.held (behind at piece) (standing new.held tally written db) (ap (λ (p : Progress). p.held) more.held)))
+    subst (λ (l : List ℕ). Advances before l (standing new.held tally written db)) (sym (front_and_tail at piece))
+    (advances_then advanced (advances_held old.held (tail_from at piece) (standing new.held tally written db) (ap (λ (p : Progress). p.held) more.held)))
 
 -- a chunk ends in what is left of the piece
 chunk_is : (old fed : Progress) (piece text : List ℕ) (used : ℕ) → (ends : EndsChunk old piece used fed) → fed ≡ record { held = text; whole = true; failed = fed.failed } → old.held ++ ends.front ≡ text
@@ -39,19 +39,19 @@ used_is front back piece used parts uses =
     let count : used ≡ length (front ++ 59 ∷ []) = omega (arith, uses, length-append front (59 ∷ [])) in
     ap (λ (n : ℕ). take n piece) count ∙ ap (λ (l : List ℕ). take (length (front ++ 59 ∷ [])) l) split ∙ take-append_seam (front ++ 59 ∷ []) back
 
-next_front : (at used : ℕ) (piece front : List ℕ) → take used (behind at piece) ≡ front → take (at + used) piece ≡ take at piece ++ front
+next_front : (at used : ℕ) (piece front : List ℕ) → take used (tail_from at piece) ≡ front → take (at + used) piece ≡ take at piece ++ front
 next_front at used piece front is = take-add at used piece ∙ ap (λ l. take at piece ++ l) (sym (ap (λ l. take used l) (take_rest piece at)) ∙ is)
 
 pub advances_whole : (before : Standing) (old fed after : Progress) (text : List ℕ) (tally new_tally : Tally) (written new_written : Option (List ℕ)) (db new_db : Database) (piece : List ℕ) (at used : ℕ)
-    → Advances before (take at piece) (standing old.held tally written db) → EndsChunk old (behind at piece) used fed
+    → Advances before (take at piece) (standing old.held tally written db) → EndsChunk old (tail_from at piece) used fed
     → fed ≡ record { held = text; whole = true; failed = fed.failed } → after ≡ record { held = []; whole = false; failed = fed.failed }
     → Replied (standing [] tally written db) (chunk text) (standing [] new_tally new_written new_db)
     → Advances before (take (at + used) piece) (standing after.held new_tally new_written new_db)
 advances_whole before old fed after text tally new_tally written new_written db new_db piece at used advanced ends waits taken replied =
-    let same = chunk_is old fed (behind at piece) text used ends waits in
+    let same = chunk_is old fed (tail_from at piece) text used ends waits in
     let step = advances_chunk old.held ends.front (standing [] tally written db) (standing [] new_tally new_written new_db) refl ends.chunk ends.sized
     (subst (λ (l : List ℕ). Replied (standing [] tally written db) (chunk l) (standing [] new_tally new_written new_db)) (sym same) replied) in
-    let front = next_front at used piece (ends.front ++ 59 ∷ []) (used_is ends.front ends.back (behind at piece) used ends.parts ends.uses) in
+    let front = next_front at used piece (ends.front ++ 59 ∷ []) (used_is ends.front ends.back (tail_from at piece) used ends.parts ends.uses) in
     let there = subst (λ (l : List ℕ). Advances before l (standing [] new_tally new_written new_db)) (sym front) (advances_then advanced step) in
     subst (λ (held : List ℕ). Advances before (take (at + used) piece) (standing held new_tally new_written new_db)) (sym (ap (λ (p : Progress). p.held) taken)) there
 
@@ -59,28 +59,28 @@ pub stops_no_memory : (before : Standing) (old : Progress) (held : List ℕ) (ta
     → Advances before (take at piece) (standing old.held tally written db) → IsUnended old.held → StopsIn NoMemory before piece (standing held tally written db)
 stops_no_memory before old held tally written db piece at advanced kept = record {
   front = take at piece;
-  back = behind at piece;
-  parts = front_and_behind at piece;
+  back = tail_from at piece;
+  parts = front_and_tail at piece;
   middle = standing old.held tally written db;
-  rest = kept;
+  held = kept;
   advanced = advanced;
   stopped = record { tally = refl; written = refl; database = refl };
 }
 
 -- and at the reply to a chunk
 pub stops_replying : (status : Status) (before : Standing) (old fed : Progress) (held text : List ℕ) (tally new_tally : Tally) (written new_written : Option (List ℕ)) (db new_db : Database) (piece : List ℕ) (at used : ℕ)
-    → Advances before (take at piece) (standing old.held tally written db) → IsUnended old.held → EndsChunk old (behind at piece) used fed
+    → Advances before (take at piece) (standing old.held tally written db) → IsUnended old.held → EndsChunk old (tail_from at piece) used fed
     → fed ≡ record { held = text; whole = true; failed = fed.failed }
     → StopsReplying status (standing [] tally written db) (chunk text) (standing [] new_tally new_written new_db)
     → StopsIn status before piece (standing held new_tally new_written new_db)
 stops_replying WriteFault before old fed held text tally new_tally written new_written db new_db piece at used advanced kept ends waits stops =
-    let same = chunk_is old fed (behind at piece) text used ends waits in
+    let same = chunk_is old fed (tail_from at piece) text used ends waits in
     record {
       front = take at piece;
-      back = behind at piece;
-      parts = front_and_behind at piece;
+      back = tail_from at piece;
+      parts = front_and_tail at piece;
       middle = standing old.held tally written db;
-      rest = kept;
+      held = kept;
       advanced = advanced;
       stopped = record {
         text = text;
@@ -94,10 +94,10 @@ stops_replying WriteFault before old fed held text tally new_tally written new_w
     }
 stops_replying NoMemory before old fed held text tally new_tally written new_written db new_db piece at used advanced kept ends waits stops = record {
   front = take at piece;
-  back = behind at piece;
-  parts = front_and_behind at piece;
+  back = tail_from at piece;
+  parts = front_and_tail at piece;
   middle = standing old.held tally written db;
-  rest = kept;
+  held = kept;
   advanced = advanced;
   stopped = Unmoved-held old.held held stops;
 }

@@ -14,7 +14,7 @@ use Rattle.lore_run.specs.Replies.{rendered}
 use Rattle.lore_run.specs.Runs.{ScriptPart, chunk, Runs, refusals}
 use Rattle.lore_run.specs.Endings.{Outside, outside}
 use Rattle.lore_run.specs.inside.Turns.{Standing, beginning, IsUnended, Replied, RepliedInPart, Unmoved, Advances, RunsSoFar}
-use Rattle.lore_run.proofs.DeliveryLaws.{Appends-none, Appends-then}
+use Rattle.lore_base.proofs.PutLaws.{Appends-none, Appends-then}
 use Rattle.lore_run.proofs.LimitLaws.{IsWithin}
 
 -- some parts, and then others
@@ -150,19 +150,19 @@ so_far_start left written = record {
   took = Consumes-none left;
   counted = refl;
   within = lit≤ tt;
-  rest = record { unended = tt; sized = lit≤ tt };
+  held = record { unended = tt; sized = lit≤ tt };
   advanced = advances_none (beginning written);
 }
 
 pub so_far_more : (before : Outside) (count : ℕ) (left new_left : Option (List ℕ)) (now next : Standing) (piece : List ℕ)
     → (so_far : RunsSoFar before count left now) → Consumes left new_left piece → count + length piece ≤ SCRIPT_BYTES → IsUnended next.held → Advances now piece next
     → RunsSoFar before (count + length piece) new_left next
-so_far_more before count left new_left now next piece so_far took few rest advanced = record {
+so_far_more before count left new_left now next piece so_far took few held advanced = record {
   taken = so_far.taken ++ piece;
   took = Consumes-then before.left left new_left so_far.taken piece so_far.took took;
   counted = omega (arith, so_far.counted, length-append so_far.taken piece);
   within = few;
-  rest = rest;
+  held = held;
   advanced = advances_then so_far.advanced advanced;
 }
 

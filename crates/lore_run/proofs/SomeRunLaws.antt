@@ -1,6 +1,5 @@
--- From each database that a session can have, each list of parts has a run.
+-- From each database that a `Db` can be, each list of parts has a run.
 use Rattle.std.proofs.Common.{◌≡◌, ℕ, ◌+◌, ◌⊎◌, inl, inr, List, [], ◌∷◌, ◌++◌, map, Some, Result, Ok, Err, refl}
-use Rattle.std.specs.Prelude.{All}
 use Rattle.std.proofs.lemmas.List.Elements.{All-map}
 use Rattle.lore_base.specs.Databases.{Database}
 use Rattle.lorel_lex.specs.declared.token_types.Kind.{Kind}
@@ -15,8 +14,8 @@ use Rattle.lore_run.specs.Types.{Refusal, BadToken, RealRefused, NumberRange, Te
 use Rattle.lorel_trees.specs.Trees.{StatementTree}
 use Rattle.lorel_trees.specs.Sound.{IsSound}
 use Rattle.lorel_trees.specs.Tokens.{HasTokens}
-use Rattle.lore_run.specs.Sessions.{IsKept}
-use Rattle.lore_run.specs.Statements.{Executes}
+use Rattle.lore_db.specs.KeptDatabases.{IsKept}
+use Rattle.lore_db.specs.Statements.{Executes}
 use Rattle.lore_run.specs.Replies.{rendered}
 use Rattle.lore_run.specs.Runs.{ScriptPart, chunk, rest, Yields, refusals, HasSomeRun}
 
@@ -26,9 +25,6 @@ SomeExecution = (before : Database) (statement : StatementTree) → IsKept befor
 
 abbrev pub SomeStatement : Type 0
 SomeStatement = (kinds : List Kind) → ((statement : StatementTree) × HasTokens statement kinds) ⊎ ((statement : StatementTree) → HasTokens statement kinds → ⊥)
-
-abbrev pub FormedSound : Type 0
-FormedSound = (statement : StatementTree) (kinds : List Kind) → HasTokens statement kinds → All HasForm kinds → IsSound statement
 
 -- want of memory is no fault of a text
 not_memory : (at : ℕ) (bytes : List ℕ) (tokens : List Token) → IsFaultBehind at bytes tokens lex.NoMemory → ⊥
@@ -48,34 +44,35 @@ some_refusal text lex.NoMemory (inr (utf8, tokens, behind)) = absurd (not_memory
 abbrev pub HasYield : Database → ScriptPart → Type 0
 HasYield before part = (reply : Reply) × (after : Database) × Yields before part reply after × IsKept after
 
-yield_statement : FormedSound → SomeExecution → (before : Database) (text : List ℕ) (tokens : List Token) → IsKept before → AreTokens text tokens
+yield_statement : SomeExecution → (before : Database) (text : List ℕ) (tokens : List Token) → IsKept before → AreTokens text tokens
     → ((statement : StatementTree) × HasTokens statement (map (λ token. token.kind) tokens)) ⊎ ((statement : StatementTree) → HasTokens statement (map (λ token. token.kind) tokens) → ⊥)
     → HasYield before (chunk text)
-yield_statement sound executions before text tokens kept lexed (inl (statement, parsed)) =
+yield_statement executions before text tokens kept lexed (inl (statement, parsed)) =
     let forms = All-map HasForm (λ (token : Token). token.kind) tokens (formed text tokens lexed) in
-    let (reply, after, executed, kept_after) = executions before statement kept (sound statement (map (λ token. token.kind) tokens) parsed forms) in
+    let sound : IsSound statement = record { kinds = map (λ token. token.kind) tokens; spelled = parsed; formed = forms } in
+    let (reply, after, executed, kept_after) = executions before statement kept sound in
     (reply, after, inr (inr (record { tokens = tokens; lexed = lexed; statement = statement; parsed = parsed; executed = executed })), kept_after)
-yield_statement sound executions before text tokens kept lexed (inr none) =
+yield_statement executions before text tokens kept lexed (inr none) =
     (Refused Syntax, before, inr (inl (record { tokens = tokens; lexed = lexed; none = none; refused = refl; same = refl })), kept)
 
-yield_outcome : SomeStatement → FormedSound → SomeExecution → (before : Database) (text : List ℕ) (outcome : Result (List Token) LexFault) → IsKept before → IsOutcome text outcome
+yield_outcome : SomeStatement → SomeExecution → (before : Database) (text : List ℕ) (outcome : Result (List Token) LexFault) → IsKept before → IsOutcome text outcome
     → HasYield before (chunk text)
-yield_outcome statements sound executions before text (Ok tokens) kept lexed =
-    yield_statement sound executions before text tokens kept lexed (statements (map (λ token. token.kind) tokens))
-yield_outcome statements sound executions before text (Err fault) kept broken =
+yield_outcome statements executions before text (Ok tokens) kept lexed =
+    yield_statement executions before text tokens kept lexed (statements (map (λ token. token.kind) tokens))
+yield_outcome statements executions before text (Err fault) kept broken =
     let (refusal, named) = some_refusal text fault broken in
     (Refused refusal, before, inl (record { fault = fault; broken = broken; refusal = refusal; named = named; refused = refl; same = refl }), kept)
 
-some_yield : SomeStatement → FormedSound → SomeExecution → (before : Database) (part : ScriptPart) → IsKept before → HasYield before part
-some_yield statements sound executions before (chunk text) kept =
-    let (outcome, is) = some_outcome text in yield_outcome statements sound executions before text outcome kept is
-some_yield statements sound executions before rest kept = (Refused Unfinished, before, (refl, refl), kept)
+some_yield : SomeStatement → SomeExecution → (before : Database) (part : ScriptPart) → IsKept before → HasYield before part
+some_yield statements executions before (chunk text) kept =
+    let (outcome, is) = some_outcome text in yield_outcome statements executions before text outcome kept is
+some_yield statements executions before rest kept = (Refused Unfinished, before, (refl, refl), kept)
 
-pub some_run : SomeStatement → FormedSound → SomeExecution → HasSomeRun
-some_run statements sound executions before [] kept = ([], 0, before, (refl, refl, refl))
-some_run statements sound executions before (part ∷ parts) kept =
-    let (reply, middle, yielded, kept_middle) = some_yield statements sound executions before part kept in
-    let (bytes, refused, after, ran) = some_run statements sound executions middle parts kept_middle in (
+pub some_run : SomeStatement → SomeExecution → HasSomeRun
+some_run statements executions before [] kept = ([], 0, before, (refl, refl, refl))
+some_run statements executions before (part ∷ parts) kept =
+    let (reply, middle, yielded, kept_middle) = some_yield statements executions before part kept in
+    let (bytes, refused, after, ran) = some_run statements executions middle parts kept_middle in (
       rendered middle.graph.objects reply ++ bytes,
       refusals reply + refused,
       after,

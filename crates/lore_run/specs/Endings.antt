@@ -26,11 +26,11 @@ exit_status StatementTooLong = 5
 exit_status NoMemory = 6
 exit_status ScriptTooLong = 7
 
--- behind these whole chunks, more bytes of one chunk or of the rest than the limit allows
+-- after these whole chunks, more bytes of one chunk or of the rest than the limit allows, and further bytes
 pub record HasLongChunk (script : List ℕ) (chunks : List (List ℕ)) : Type 0 where
   pub front : List ℕ
-  pub behind : List ℕ
-  pub begun : BeginsWith script chunks (front ++ behind)
+  pub further : List ℕ
+  pub begun : BeginsWith script chunks (front ++ further)
   pub unended : IsOpen front
   pub oversized : CHUNK_BYTES < length front
 

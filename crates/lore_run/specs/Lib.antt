@@ -1,10 +1,5 @@
 pub mod Types
-pub mod Built
-pub mod Made
-pub mod Statements
 pub mod Replies
-pub mod Sessions
-pub mod SessionLaws
 pub mod Runs
 pub mod Endings
 pub mod inside

@@ -11,8 +11,8 @@ use Rattle.lorel_lex.specs.Tokens.{AreTokens, HasFault}
 use Rattle.lorel_trees.specs.Trees.{StatementTree}
 use Rattle.lorel_trees.specs.Tokens.{HasTokens}
 use Rattle.lore_run.specs.Types.{Refusal, Syntax, Unfinished, Reply, Refused}
-use Rattle.lore_run.specs.Sessions.{IsKept}
-use Rattle.lore_run.specs.Statements.{Executes}
+use Rattle.lore_db.specs.KeptDatabases.{IsKept}
+use Rattle.lore_db.specs.Statements.{Executes}
 use Rattle.lore_run.specs.Replies.{rendered}
 
 -- a script begins with these chunks, whole, and the rest of its bytes stand behind them
@@ -80,7 +80,7 @@ abbrev pub refusals : Reply → ℕ
 refusals (Refused refusal) = 1
 refusals _ = 0
 
--- parts one after another: the bytes that they print, how many of them are refused, and the database behind
+-- parts one after another: the bytes that they print, how many of them are refused, and the database after
 -- the last
 abbrev pub Runs : Database → List ScriptPart → List ℕ → ℕ → Database → Type 0
 Runs before [] bytes refused after = (bytes ≡ []) × (refused ≡ 0) × (after ≡ before)
@@ -123,7 +123,7 @@ abbrev pub HasOneReading : Type 0
 HasOneReading =
     (script : List ℕ) (parts others : List ScriptPart) → HasParts script parts → HasParts script others → parts ≡ others
 
--- from each database that a session can have, parts have a run
+-- from each database that a `Db` can be, parts have a run
 abbrev pub HasSomeRun : Type 0
 HasSomeRun =
     (before : Database) (parts : List ScriptPart) → IsKept before

@@ -1,13 +1,9 @@
 -- The declared types that the definitions of this crate cite, with their variants, and the limits, under one module.
 pub use Rattle.lore_base.specs.declared.edges.Oid.{Oid}
-pub use Rattle.lore_base.specs.declared.edges.Label.{Label}
-pub use Rattle.lore_base.specs.declared.edges.Edge.{Edge}
 pub use Rattle.lore_base.specs.declared.values.Value.{Value}
-pub use Rattle.lore_base.specs.declared.values.Value.TheVariants.{Whole, Chars, Complex}
-pub use Rattle.lore_base.specs.declared.modes.Mode.TheVariants.{Auto}
-pub use Rattle.lore_base.specs.declared.change_set.Changes.{Changes}
+pub use Rattle.lore_base.specs.declared.values.Value.TheVariants.{Complex}
 pub use Rattle.lore_base.specs.declared.refusals.Refusal.{Refusal}
-pub use Rattle.lore_base.specs.declared.refusals.Refusal.TheVariants.{BadToken, RealRefused, NumberRange, TextTooLong, Syntax, Unfinished, UnknownName, TooManyObjects}
-pub use Rattle.lore_base.specs.declared.limits.TheConstants.{OBJECTS, NEXT_NUMBER, NODES, LEAVES, CHUNK_BYTES, SCRIPT_BYTES}
-pub use Rattle.lore_run.specs.declared.replies.Reply.{Reply}
-pub use Rattle.lore_run.specs.declared.replies.Reply.TheVariants.{Changed, Rows, Refused}
+pub use Rattle.lore_base.specs.declared.refusals.Refusal.TheVariants.{BadToken, RealRefused, NumberRange, TextTooLong, Syntax, Unfinished}
+pub use Rattle.lore_base.specs.declared.limits.TheConstants.{CHUNK_BYTES, SCRIPT_BYTES}
+pub use Rattle.lore_db.specs.declared.replies.Reply.{Reply}
+pub use Rattle.lore_db.specs.declared.replies.Reply.TheVariants.{Changed, Rows, Refused}

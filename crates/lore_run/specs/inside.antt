@@ -1,3 +1,3 @@
-pub mod Making
+-- Definitions that no public contract cites.
 pub mod Deliveries
 pub mod Turns

@@ -10,11 +10,11 @@ ghost use Rattle.lore_run.specs.inside.Turns.{standing, IsRefusalOf, Replied, Re
 ghost use Rattle.lore_run.specs.inside.Turns.{StopsReplying};
 
 use crate::rendering::write_reply;
-use crate::replies::Reply;
 use crate::sessions::Session;
 use crate::status::Status;
 use crate::tally::Tally;
 use lore_base::{Fault, NoMemory, Refusal, Sink, Steps};
+use lore_db::Reply;
 use lorel_lex::tokens;
 use lorel_parse::parse;
 use std::alloc::Global;
@@ -43,7 +43,10 @@ pub(crate) fn run_chunk<K: Sink, L: Ledger>(
     let Ok(reply) = answer(alloc, text, session, steps) else {
         return Err(Status::NoMemory);
     };
-    respond(&reply, session, sink, tally)
+    let responded = respond(&reply, session, sink, tally);
+    // A drop that is written out is proved once; else it is proved in this function, at length.
+    drop(reply);
+    responded
 }
 
 /// Refuses what stands behind the last chunk.
@@ -118,7 +121,7 @@ fn respond<K: Sink>(
     ensures cause { HasCause (K.faults sink.old) (K.faults sink.new) result }
 {
     tally.count(reply);
-    match write_reply(reply, session.graph(), sink) {
+    match write_reply(reply, session.db(), sink) {
         Ok(()) => Ok(()),
         Err(_failed) => Err(Status::WriteFault),
     }

@@ -63,14 +63,14 @@ pub(crate) fn run_piece<K: Sink, L: Ledger>(
     steps: &mut Steps<L>,
 ) -> Result<(), Status>
     requires unfailed { (reader.old.whole ≡ false) × (reader.old.failed ≡ false) }
-    requires rest { IsUnended reader.old.held }
+    requires held { IsUnended reader.old.held }
     requires room { tally.old.done + (length reader.old.held + length piece.now) + 1 < 2 ^ 64 }
     requires fewer { tally.old.refused ≤ tally.old.done }
     ensures ok { OnOk result (Advances
         (standing reader.old.held tally.old (K.written sink.old) session.old)
         piece.now (standing reader.new.held tally.new (K.written sink.new) session.new)) }
     ensures unfailed { OnOk result ((reader.new.whole ≡ false) × (reader.new.failed ≡ false)) }
-    ensures rest { OnOk result (IsUnended reader.new.held) }
+    ensures held { OnOk result (IsUnended reader.new.held) }
     ensures fewer { OnOk result (tally.new.refused ≤ tally.new.done) }
     ensures stopped { IfErr result (λ status. StopsIn status
         (standing reader.old.held tally.old (K.written sink.old) session.old)

@@ -1,8 +1,10 @@
-ghost use Rattle.std.specs.Prelude.{◌≡◌, ◌<◌, ◌≤◌, ◌↔◌, [], ◌++◌, length, take, IsTrue, OnOk};
-ghost use Rattle.lore_run.specs.inside.Deliveries.{delivery, Puts};
+ghost use Rattle.std.specs.Prelude.{◌≡◌, ◌<◌, ◌≤◌, ◌↔◌, [], ◌++◌, length, take, drop};
+ghost use Rattle.std.specs.Prelude.{IsTrue, OnOk, OnErr, IfErr};
+ghost use Rattle.std.specs.Io.KnownBytes.{Appends};
+ghost use Rattle.lore_base.specs.Causes.{HasCause};
+ghost use Rattle.lore_run.specs.inside.Deliveries.{passing, HandsOn};
 
-use crate::out::Out;
-use lore_base::{Failed, Sink};
+use lore_base::{Failed, Out, Sink};
 use std::marker::Model;
 
 /// Bytes that the buffer of replies holds at most.
@@ -67,6 +69,14 @@ impl ReplyBuffer {
     {
         self.len = 0;
     }
+
+    fn drop_front(&mut self, count: usize)
+        requires { count ≤ length self.old }
+        ensures { self.new ≡ drop count self.old }
+    {
+        self.bytes[..self.len].rotate_left(count);
+        self.len -= count;
+    }
 }
 
 /// The way of one reply to a sink: a buffer of a fixed size, which is handed to the sink each time
@@ -90,28 +100,36 @@ impl<'a, K: Sink> ReplyWriter<'a, K> {
         }
     }
 
-    /// Hands what is held to the sink, and holds nothing then. Fails where a write fails; nothing
-    /// is told then of what is held.
+    /// Hands what is held to the sink, and holds nothing then. Where a write fails, what isn't
+    /// written is still held.
     pub(crate) fn flush(&mut self) -> Result<(), Failed>
         ensures same_sink { self.new.sink.ghost_name ≡ self.old.sink.ghost_name }
-        ensures handed { let old = self.old.sink in let new = self.new.sink in Puts
-            (delivery old.ghost_name (K.written old.now) self.old.buffer (K.faults old.now)) []
-            (delivery new.ghost_name (K.written new.now) self.new.buffer (K.faults new.now))
-            result }
+        ensures handed { let old = self.old.sink in let new = self.new.sink in HandsOn
+            (passing old.ghost_name (K.written old.now) self.old.buffer (K.faults old.now))
+            (passing new.ghost_name (K.written new.now) self.new.buffer (K.faults new.now)) }
+        ensures cause { HasCause (K.faults self.old.sink.now) (K.faults self.new.sink.now) result }
         ensures empty { OnOk result (self.new.buffer ≡ []) }
+        ensures some { OnErr result (0 < length self.new.buffer) }
     {
-        write_all(self.sink, self.buffer.as_slice())?;
-        self.buffer.clear();
-        Ok(())
+        match write_all(self.sink, self.buffer.as_slice()) {
+            Ok(()) => {
+                self.buffer.clear();
+                Ok(())
+            }
+            Err(stop) => {
+                self.buffer.drop_front(stop.done);
+                Err(stop.failed)
+            }
+        }
     }
 
     // Hands what is held to the sink where the buffer is full.
     fn make_room(&mut self) -> Result<(), Failed>
         ensures same_sink { self.new.sink.ghost_name ≡ self.old.sink.ghost_name }
-        ensures handed { let old = self.old.sink in let new = self.new.sink in Puts
-            (delivery old.ghost_name (K.written old.now) self.old.buffer (K.faults old.now)) []
-            (delivery new.ghost_name (K.written new.now) self.new.buffer (K.faults new.now))
-            result }
+        ensures handed { let old = self.old.sink in let new = self.new.sink in HandsOn
+            (passing old.ghost_name (K.written old.now) self.old.buffer (K.faults old.now))
+            (passing new.ghost_name (K.written new.now) self.new.buffer (K.faults new.now)) }
+        ensures cause { HasCause (K.faults self.old.sink.now) (K.faults self.new.sink.now) result }
         ensures room { OnOk result (length self.new.buffer < REPLY_BYTES) }
     {
         if self.buffer.is_full() {
@@ -122,8 +140,12 @@ impl<'a, K: Sink> ReplyWriter<'a, K> {
 }
 
 impl<'a, K: Sink> Out for ReplyWriter<'a, K> {
-    ghost delivery = { λ w. let sink = w.sink in
-        delivery sink.ghost_name (K.written sink.now) w.buffer (K.faults sink.now) };
+    type Fault = Failed;
+
+    ghost state = { λ w. let sink = w.sink in
+        passing sink.ghost_name (K.written sink.now) w.buffer (K.faults sink.now) };
+
+    ghost is_memory = { λ _. ⊥ };
 
     fn put(&mut self, piece: &[u8]) -> Result<(), Failed> {
         let mut done = 0;
@@ -135,14 +157,27 @@ impl<'a, K: Sink> Out for ReplyWriter<'a, K> {
     }
 }
 
+/// A write failed behind so many bytes.
+#[derive(Clone, Copy)]
+struct Stop {
+    done: usize,
+    failed: Failed,
+}
+
 // Writes all of `bytes`; what a write leaves over is handed again.
-fn write_all<K: Sink>(sink: &mut K, bytes: &[u8]) -> Result<(), Failed>
-    ensures { Puts (delivery 0 (K.written sink.old) bytes.now (K.faults sink.old)) []
-        (delivery 0 (K.written sink.new) [] (K.faults sink.new)) result }
+fn write_all<K: Sink>(sink: &mut K, bytes: &[u8]) -> Result<(), Stop>
+    ensures ok { OnOk result (Appends (K.written sink.old) (K.written sink.new) bytes.now) }
+    ensures part { IfErr result (λ stop. stop.done < length bytes.now) }
+    ensures err { IfErr result
+        (λ stop. Appends (K.written sink.old) (K.written sink.new) (take stop.done bytes.now)) }
+    ensures cause { HasCause (K.faults sink.old) (K.faults sink.new) result }
 {
     let mut done = 0;
-    'rest: while done < bytes.len() {
-        done += sink.write(&bytes[done..])?;
+    'writes: while done < bytes.len() {
+        match sink.write(&bytes[done..]) {
+            Ok(count) => done += count,
+            Err(failed) => return Err(Stop { done, failed }),
+        }
     }
     Ok(())
 }

@@ -19,7 +19,7 @@ use std::alloc::Global;
 use std::sync::ledger::Ledger;
 
 /// Runs the script that the source has left and writes its replies to the sink, in order. The
-/// session is new, and ends as the database behind the last statement that was executed.
+/// session is new, and ends as the database after the last statement that was executed.
 ///
 /// The script is read in pieces of at most 65,536 bytes. A statement is executed when its `;` has
 /// been read, and its reply is written before the source is read again. With any word from the
@@ -36,7 +36,7 @@ pub fn run_lore<S: Source, K: Sink, L: Ledger>(
     requires { session.old ≡ new_database }
 
     // The headline: where the script was read to its end, the sink grew by the replies of all its
-    // statements, and the session is the database behind them.
+    // statements, and the session is the database after them.
     ensures printed { IsDone result.status → IfSome (S.left source.old)
         (λ script. PrintsAll script result session.new (K.written sink.old) (K.written sink.new)) }
     ensures read { IsDone result.status → IfSome (S.left source.old)

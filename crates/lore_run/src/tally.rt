@@ -1,8 +1,8 @@
 ghost use Rattle.std.specs.Prelude.{◌≡◌, ◌+◌, ◌<◌, ◌^◌};
 ghost use Rattle.lore_run.specs.Runs.{refusals};
 
-use crate::replies::Reply;
 use crate::status::{Outcome, Status};
+use lore_db::Reply;
 
 /// How many statements were replied to, and how many of them were refused.
 #[derive(Clone, Copy)]

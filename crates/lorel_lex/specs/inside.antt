@@ -1,3 +1,4 @@
+-- Definitions that no public contract cites.
 pub mod Reader
 pub mod Scanning
 pub mod Skipping

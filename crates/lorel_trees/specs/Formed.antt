@@ -13,13 +13,13 @@ use Rattle.lorel_trees.specs.Sound.{IsSound, IsSoundLiteral, IsSoundDump}
 
 -- the texts of each kind of tree keep their forms and limits
 
-abbrev pub IsSoundPattern : Pattern → Type 0
-IsSoundPattern (Plain text) = IsLabel text
-IsSoundPattern (Wild text) = IsPattern text × (length text ≤ WORD_BYTES)
+abbrev pub IsFormedPattern : Pattern → Type 0
+IsFormedPattern (Plain text) = IsLabel text
+IsFormedPattern (Wild text) = IsPattern text × (length text ≤ WORD_BYTES)
 
 abbrev mutual
   pub IsFormedPath : PathTree → Type 0
-  IsFormedPath (step pattern) = IsSoundPattern pattern
+  IsFormedPath (step pattern) = IsFormedPattern pattern
   IsFormedPath any = ⊤
   IsFormedPath (seq parts) = AreFormedPaths parts
   IsFormedPath (alt parts) = AreFormedPaths parts

@@ -124,7 +124,7 @@ impl Graph {
         prove!(dead.is_empty());
         let alloc = self.objects.allocator();
         Ok(GraphPlan {
-            names: self.names.joined(alloc, &changes.named)?,
+            names: self.names.joined(&changes.named)?,
             made: copied_objects(alloc, &changes.made)?,
             fresh: fresh_edges(alloc, self.edges.as_slice(), changes.added.as_slice())?,
         })

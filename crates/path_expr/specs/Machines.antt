@@ -65,16 +65,16 @@ IsStep labels machine states label after =
     (state : ℕ) → IsIn after state ↔ StepsTo labels machine states label state
 
 -- a set of states is left of another after a word, one step for each label
-abbrev pub Steps : List (List ℕ) → Machine → States → List Label → States → Type 0
-Steps labels machine states [] last = states ≡ last
-Steps labels machine states (label ∷ word) last =
-    (after : States) × IsStep labels machine states label after × Steps labels machine after word last
+abbrev pub StepsThrough : List (List ℕ) → Machine → States → List Label → States → Type 0
+StepsThrough labels machine states [] last = states ≡ last
+StepsThrough labels machine states (label ∷ word) last =
+    (after : States) × IsStep labels machine states label after × StepsThrough labels machine after word last
 
 -- whoever steps from the starts through a word is at the end exactly where the word is accepted
 abbrev pub IsAcceptedByStepping : Type 0
 IsAcceptedByStepping =
     (labels : List (List ℕ)) (machine : Machine) (word : List Label) (last : States)
-    → Steps labels machine machine.start word last → IsIn last END ↔ Accepts labels machine word
+    → StepsThrough labels machine machine.start word last → IsIn last END ↔ Accepts labels machine word
 
 -- no state of the set is beyond the end
 abbrev pub UpToEnd : States → Type 0

@@ -7,7 +7,6 @@
 
 pub use automata::Automaton;
 pub use laws::stepping_accepts;
-pub use leaf_counts::leaf_count;
 pub use leaves::Leaf;
 pub use state_sets::{END, States};
 
@@ -16,6 +15,5 @@ mod compile;
 mod entries;
 mod last_parts;
 mod laws;
-mod leaf_counts;
 mod leaves;
 mod state_sets;

@@ -1,7 +1,7 @@
 use crate::label_texts::{LabelTexts, four_labels, label_of};
 use crate::shapes::paths_of;
-use lore_base::Path;
-use path_expr::{Automaton, END, States, leaf_count};
+use lore_base::{Path, leaf_count};
+use path_expr::{Automaton, END, States};
 use std::alloc::Global;
 use std::test::Fail;
 

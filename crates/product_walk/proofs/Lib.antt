@@ -3,3 +3,5 @@ pub mod MoverLaws
 pub mod StateLaws
 pub mod ProductLaws
 pub mod PathLaws
+pub mod LevelLaws
+pub mod WayLaws

@@ -1,4 +1,4 @@
--- The product of a graph with a machine: its steps are arcs and moves, its paths walks and runs.
+-- The product of a graph with a machine: it leads on by an arc and a move, and its ways are walks and runs.
 use Rattle.std.proofs.Common.{◌≡◌, ◌↔◌, ℕ, ◌+◌, ◌<◌, ◌≤◌, ◌⊎◌, inl, inr, true, false, cond, List, [], ◌∷◌, ◌++◌, map, reverse, length, get_or, Result, All, AllPairs, Contains, refl, sym, ap, ◌∙◌, subst, arith}
 use Rattle.std.specs.Cmp.{nat_cmp_is}
 use Rattle.std.specs.List.{sum_by}
@@ -131,27 +131,27 @@ module _ (labels : List (List ℕ)) (machine : Machine) (goes : Oid → Label �
     );
   }
 
-  -- a path of the product is a walk and a run
-  word_of : (steps : List (Oid × ℕ)) (here there : Oid × ℕ) → LeadAlong (Leads labels machine goes) here steps there
+  -- a way through the product is a walk and a run
+  word_of : (way : List (Oid × ℕ)) (here there : Oid × ℕ) → LeadAlong (Leads labels machine goes) here way there
       → (word : List Label) × Runs labels machine here.1 word there.1 × WalkBy goes here.0 word there.0
   word_of [] here there same = ([], ap (λ p. p.1) same, ap (λ p. p.0) same)
-  word_of (next ∷ steps) here there path =
-      let step = path.0 in
-      let rest = word_of steps next there path.1 in
+  word_of (next ∷ way) here there along =
+      let step = along.0 in
+      let rest = word_of way next there along.1 in
       (step.0 ∷ rest.0, (next.1, step.2, rest.1), (next.0, step.1, rest.2))
 
-  path_of : (word : List Label) (here there : Oid × ℕ) → Runs labels machine here.1 word there.1 → WalkBy goes here.0 word there.0
-      → (steps : List (Oid × ℕ)) × LeadAlong (Leads labels machine goes) here steps there
-  path_of [] here there runs walked = ([], λ i. (walked i, runs i))
-  path_of (label ∷ word) here there runs walked =
+  way_of : (word : List Label) (here there : Oid × ℕ) → Runs labels machine here.1 word there.1 → WalkBy goes here.0 word there.0
+      → (way : List (Oid × ℕ)) × LeadAlong (Leads labels machine goes) here way there
+  way_of [] here there runs walked = ([], λ i. (walked i, runs i))
+  way_of (label ∷ word) here there runs walked =
       let next : Oid × ℕ = (walked.0, runs.0) in
-      let rest = path_of word next there runs.2 walked.2 in
+      let rest = way_of word next there runs.2 walked.2 in
       (next ∷ rest.0, ((label, walked.1, runs.1), rest.1))
 
   pub led_by_words : (Starts : Oid × ℕ → Type 0) (there : Oid × ℕ) → IsLedTo (Leads labels machine goes) Starts there ↔ CanBe labels machine goes Starts there
   led_by_words Starts there = (
     λ led. (let word = word_of led.1 led.0 there led.3 in (led.0, word.0, led.2, word.1, word.2)),
-    λ can. (let path = path_of can.1 can.0 there can.3 can.4 in (can.0, path.0, can.2, path.1)),
+    λ can. (let way = way_of can.1 can.0 there can.3 can.4 in (can.0, way.0, can.2, way.1)),
   )
 
 -- all of some objects under the same states
@@ -262,13 +262,18 @@ below_from_less x y less = elim (cases_lt x y) [
 ]
 
 -- objects in the order of their numbers, each once
+pub lists_sorted : (oids sorted : List Oid) → AllPairs (λ a b. nat_cmp a.0 b.0 ≡ Less) sorted → ((oid : Oid) → Contains sorted oid ↔ Contains oids oid)
+    → ListsInOrder (Contains oids) sorted
+lists_sorted oids sorted ascend members = record {
+  ascending = λ i j d below within. below_from_less (get_or sorted i d).0 (get_or sorted j d).0 (ascend i j d below within);
+  exact = members;
+}
+
 pub lists_ended : (met : List (Oid × StateMarks)) (ended sorted : List Oid) → ((oid : Oid) → Contains ended oid ↔ IsMet HasState met (oid, END))
     → AllPairs (λ a b. nat_cmp a.0 b.0 ≡ Less) sorted → ((oid : Oid) → Contains sorted oid ↔ Contains ended oid)
     → ListsInOrder (λ oid. IsMet HasState met (oid, END)) sorted
-lists_ended met ended sorted all ascend members = record {
-  ascending = λ i j d below within. below_from_less (get_or sorted i d).0 (get_or sorted j d).0 (ascend i j d below within);
-  exact = λ oid. (λ h. (all oid).0 ((members oid).0 h), λ h. (members oid).1 ((all oid).1 h));
-}
+lists_ended met ended sorted all ascend members =
+    ListsInOrder-same (Contains ended) (λ oid. IsMet HasState met (oid, END)) sorted all (lists_sorted ended sorted ascend members)
 
 -- what a search that starts at some objects in the starts of a machine finds
 pub found_from : (labels : List (List ℕ)) (machine : Machine) (goes : Oid → Label → Oid → Type 0) (oids : List Oid) (met : List (Oid × StateMarks))

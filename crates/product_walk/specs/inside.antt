@@ -3,3 +3,4 @@ pub mod Arcs
 pub mod StateSets
 pub mod Products
 pub mod Movers
+pub mod Ways

@@ -1,6 +1,8 @@
-use lore_base::{Edge, EdgeBuf, Label, NoMemory, OemText, Oid, OidBuf, Path, PathList, Pattern};
+use lore_base::{
+    Edge, EdgeBuf, Label, NoMemory, OemText, Oid, OidBuf, Path, PathList, Pattern, leaf_count,
+};
 use oem_labels::LabelTable;
-use path_expr::{Automaton, leaf_count};
+use path_expr::Automaton;
 use std::alloc::Global;
 use std::test::Fail;
 
@@ -25,6 +27,7 @@ fn put(alloc: Global, sign: u8, paths: &mut PathList) -> Result<(), Fail> {
             parts.push(last(paths)?)?;
             Path::Alt(parts)
         }
+        b'%' => Path::Step(Pattern::Wild(OemText::from_bytes(alloc, b"%")?)),
         letter => Path::Step(Pattern::Plain(OemText::from_bytes(alloc, &[letter])?)),
     };
     paths.push(path)?;
@@ -61,10 +64,18 @@ pub(crate) fn two_labels(alloc: Global) -> Result<LabelTable, Fail> {
     Ok(labels)
 }
 
-// The objects 1 and 2 are a ring by `n`; 2 and 4 share 3 by `v`, and 4 leads to 1 by `n`.
+// The objects 1 and 2 are a ring by `n`; 2 and 4 share 3 by `v`, and 4 leads to 1 and 3 by `n`.
 pub(crate) fn ring(alloc: Global) -> Result<EdgeBuf, NoMemory> {
     let mut edges = EdgeBuf::new(alloc);
-    for [parent, label, child] in [[1, 0, 2], [2, 0, 1], [2, 1, 3], [4, 0, 1], [4, 1, 3]] {
+    let numbers = [
+        [1, 0, 2],
+        [2, 0, 1],
+        [2, 1, 3],
+        [4, 0, 1],
+        [4, 0, 3],
+        [4, 1, 3],
+    ];
+    for [parent, label, child] in numbers {
         edges.push(Edge {
             parent: Oid(parent),
             label: Label(label),

@@ -5,5 +5,5 @@ use Rattle.lore_base.specs.declared.texts.TextBytes.TheVariants.{Short, Long}
 
 -- the bytes of a text, wherever they stand
 abbrev pub bytes_of : TextBytes → List ℕ
-bytes_of (Short short) = short.items
+bytes_of (Short short _) = short.items
 bytes_of (Long long) = long.value.items

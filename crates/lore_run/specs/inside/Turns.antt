@@ -94,7 +94,7 @@ pub record StopsIn (status : Status) (before : Standing) (bytes : List ℕ) (aft
   pub back : List ℕ
   pub parts : bytes ≡ front ++ back
   pub middle : Standing
-  pub rest : IsUnended middle.held
+  pub held : IsUnended middle.held
   pub advanced : Advances before front middle
   pub stopped : StopsAt status middle back after
 
@@ -128,7 +128,7 @@ pub record RunsSoFar (before : Outside) (count : ℕ) (left : Option (List ℕ))
   pub took : Consumes before.left left taken
   pub counted : count ≡ length taken
   pub within : count ≤ SCRIPT_BYTES
-  pub rest : IsUnended now.held
+  pub held : IsUnended now.held
   pub advanced : Advances (beginning before.written) taken now
 
 -- the outcome of a run that ends here

@@ -11,7 +11,7 @@ chunks-init g c = record {
   within = omega arith;
   whole = c.requires.unfailed.0;
   failed = c.requires.unfailed.1;
-  rest = c.requires.rest;
+  held = c.requires.held;
   advanced = advances_none _;
   fewer = c.requires.fewer;
   faults = refl;
@@ -26,7 +26,7 @@ returns-in-More-clause-ok g c =
 pub returns-in-NoMemory-clause-stopped : goal.returns-in-NoMemory-clause-stopped
 returns-in-NoMemory-clause-stopped g c =
     stops_no_memory _ c.chunks.reader c.feed-fed.new.self.held c.chunks.tally (g.K.Sink.written c.chunks.sink) c.chunks.session c.args.piece.now c.chunks.at
-    c.chunks.invariant.advanced c.chunks.invariant.rest
+    c.chunks.invariant.advanced c.chunks.invariant.held
 
 pub run_chunk-requires-clause-room : goal.run_chunk-requires-clause-room
 run_chunk-requires-clause-room g c =
@@ -39,7 +39,7 @@ returns-in-Err-clause-stopped g c =
     let ends = rw c.in-Whole.is at c.feed-fed.ensures in
     stops_replying c.in-Err.status _ c.chunks.reader c.feed-fed.new.self c.take.new.self.held c.in-Some.chunk c.chunks.tally c.run_chunk.new.tally
     (g.K.Sink.written c.chunks.sink) (g.K.Sink.written c.run_chunk.new.sink) c.chunks.session c.run_chunk.new.session c.args.piece.now c.chunks.at _
-    c.chunks.invariant.advanced c.chunks.invariant.rest ends c.in-Some.ensures.chunk (rw c.as_bytes.ensures at c.in-Err.ensures.stopped)
+    c.chunks.invariant.advanced c.chunks.invariant.held ends c.in-Some.ensures.chunk (rw c.as_bytes.ensures at c.in-Err.ensures.stopped)
 
 pub chunks-preserved-in-Ok : goal.chunks-preserved-in-Ok
 chunks-preserved-in-Ok g c =
@@ -51,7 +51,7 @@ chunks-preserved-in-Ok g c =
       within = omega (arith, ends.uses, ap length ends.parts, length-append ends.front (59 ∷ ends.back), ap length (take_rest piece c.chunks.at), length-drop c.chunks.at piece);
       whole = ap (λ (p : Progress). p.whole) taken;
       failed = ap (λ (p : Progress). p.failed) taken ∙ ap (λ (p : Progress). p.failed) ends.held;
-      rest = subst IsUnended (sym (ap (λ (p : Progress). p.held) taken)) (record { unended = tt; sized = lit≤ tt });
+      held = subst IsUnended (sym (ap (λ (p : Progress). p.held) taken)) (record { unended = tt; sized = lit≤ tt });
       advanced = advances_whole _ c.chunks.reader c.feed-fed.new.self c.take.new.self c.in-Some.chunk c.chunks.tally c.run_chunk.new.tally
           (g.K.Sink.written c.chunks.sink) (g.K.Sink.written c.run_chunk.new.sink) c.chunks.session c.run_chunk.new.session piece c.chunks.at _
           c.chunks.invariant.advanced ends c.in-Some.ensures.chunk taken replied;
@@ -69,7 +69,7 @@ chunks-preserved g c =
       within = omega (arith, ends.uses, ap length ends.parts, length-append ends.front (59 ∷ ends.back), ap length (take_rest piece c.chunks.at), length-drop c.chunks.at piece);
       whole = ap (λ (p : Progress). p.whole) taken;
       failed = ap (λ (p : Progress). p.failed) taken ∙ ap (λ (p : Progress). p.failed) ends.held;
-      rest = subst IsUnended (sym (ap (λ (p : Progress). p.held) taken)) (record { unended = tt; sized = lit≤ tt });
+      held = subst IsUnended (sym (ap (λ (p : Progress). p.held) taken)) (record { unended = tt; sized = lit≤ tt });
       advanced = advances_whole _ c.chunks.reader c.feed-fed.new.self c.take.new.self c.in-Some.chunk c.chunks.tally c.run_chunk.new.tally
           (g.K.Sink.written c.chunks.sink) (g.K.Sink.written c.run_chunk.new.sink) c.chunks.session c.run_chunk.new.session piece c.chunks.at _
           c.chunks.invariant.advanced ends c.in-Some.ensures.chunk taken replied;

@@ -10,7 +10,7 @@ invariant-chunks g l = record {
   within : l.at ≤ length l.piece;
   whole : l.reader.whole ≡ false;
   failed : l.reader.failed ≡ false;
-  rest : IsUnended l.reader.held;
+  held : IsUnended l.reader.held;
   advanced : Advances (standing l.fn.reader.held l.fn.tally (g.K.Sink.written l.fn.sink) l.fn.session) (take l.at l.piece)
       (standing l.reader.held l.tally (g.K.Sink.written l.sink) l.session);
   fewer : l.tally.refused ≤ l.tally.done;

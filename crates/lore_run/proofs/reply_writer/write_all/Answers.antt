@@ -1,19 +1,20 @@
-use Rattle.std.proofs.Common.{◌≡◌, ℕ, ◌+◌, ◌-◌, List, ◌++◌, length, take, drop, sym, ap, ◌∙◌, arith, length-drop}
-use Rattle.std.proofs.lemmas.List.{take-append-drop, drop-drop, take_rest}
-use Rattle.lore_run.proofs.DeliveryLaws.{Takes-written}
+use Rattle.std.proofs.Common.{ℕ, ◌+◌, ◌-◌, List, ◌++◌, length, take, drop, sym, ap, subst, ◌∙◌, arith, length-drop}
+use Rattle.std.specs.Io.KnownBytes.{Appends}
+use Rattle.std.proofs.lemmas.List.{take_rest}
+use Rattle.std.proofs.Math.Seq.{take-add}
+use Rattle.lore_base.proofs.PutLaws.{Appends-then}
 use Rattle.lore_run.proofs.reply_writer.write_all.Goals as goal
 
-pub rest-preserved : goal.rest-preserved
-rest-preserved g c =
+pub writes-preserved : goal.writes-preserved
+writes-preserved g c =
     let bytes = c.args.bytes.now in
-    let count = c.in_ok-done.field-0 in
-    let rest = drop c.rest.done bytes in
-    let after = drop (c.rest.done + count) bytes in
-    let ensures = c.in_ok-done.ensures in
-    let split : take count (take (length bytes - c.rest.done) rest) ++ after ≡ rest =
-    ap (λ (l : List ℕ). take count l ++ after) (take_rest bytes c.rest.done)
-    ∙ ap (λ (l : List ℕ). take count rest ++ l) (sym (drop-drop count c.rest.done bytes)) ∙ take-append-drop count rest in
+    let done = c.writes.done in
+    let count = c.in-Ok.count in
+    let written = g.K.Sink.written in
+    let part = ap (λ (l : List ℕ). take done bytes ++ take count l) (take_rest bytes done) ∙ sym (take-add done count bytes) in
+    let both = Appends-then (written c.args.sink.now) (written c.writes.sink) (written c.write.new.self) _ _ c.writes.invariant.written c.in-Ok.ensures.bytes in
     record {
-      within = omega (arith, ensures.bound.0, length-drop c.rest.done bytes, ap length (take_rest bytes c.rest.done));
-      sent = Takes-written _ after _ _ c.rest.invariant.sent ensures.bytes split ensures.cause.ok;
+      within = omega (arith, c.in-Ok.ensures.bound.0, length-drop done bytes, ap length (take_rest bytes done));
+      written = subst (λ (l : List ℕ). Appends (written c.args.sink.now) (written c.write.new.self) l) part both;
+      faultless = c.in-Ok.ensures.cause.ok ∙ c.writes.invariant.faultless;
     }

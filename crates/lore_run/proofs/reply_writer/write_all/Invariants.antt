@@ -1,13 +1,13 @@
-use Rattle.std.proofs.Common.{◌≤◌, ◌-◌, [], length, drop}
-use Rattle.lore_run.specs.inside.Deliveries.{delivery, Takes}
+use Rattle.std.proofs.Common.{◌≡◌, ◌≤◌, ◌-◌, length, take}
+use Rattle.std.specs.Io.KnownBytes.{Appends}
 use Rattle.lore_run.proofs.reply_writer.write_all.Given as goal
 
-abbrev pub invariant-rest : goal.invariant-rest
-invariant-rest g l = record {
+abbrev pub invariant-writes : goal.invariant-writes
+invariant-writes g l = record {
   within : l.done ≤ length l.bytes;
-  sent : Takes (delivery 0 (g.K.Sink.written l.fn.sink) l.bytes (g.K.Sink.faults l.fn.sink)) []
-      (delivery 0 (g.K.Sink.written l.sink) (drop l.done l.bytes) (g.K.Sink.faults l.sink));
+  written : Appends (g.K.Sink.written l.fn.sink) (g.K.Sink.written l.sink) (take l.done l.bytes);
+  faultless : g.K.Sink.faults l.sink ≡ g.K.Sink.faults l.fn.sink;
 }
 
-abbrev pub decreases-rest : goal.decreases-rest
-decreases-rest g l = length l.bytes - l.done
+abbrev pub decreases-writes : goal.decreases-writes
+decreases-writes g l = length l.bytes - l.done

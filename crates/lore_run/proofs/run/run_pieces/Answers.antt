@@ -58,7 +58,7 @@ returns-then-taken-eq-SCRIPT_BYTES-clause-ends g c =
 pub run_piece-requires-clause-room : goal.run_piece-requires-clause-room
 run_piece-requires-clause-room g c =
     let so_far = c.pieces.invariant.so_far in
-    omega (arith, few_done so_far.advanced, so_far.counted, so_far.within, so_far.rest.sized, length-take c.in-Ok.count c.read_piece.new.piece, c.in-Ok.ensures.bound)
+    omega (arith, few_done so_far.advanced, so_far.counted, so_far.within, so_far.held.sized, length-take c.in-Ok.count c.read_piece.new.piece, c.in-Ok.ensures.bound)
 
 pub pieces-preserved : goal.pieces-preserved
 pieces-preserved g c =
@@ -75,7 +75,7 @@ pieces-preserved g c =
       whole = ran.unfailed.0;
       failed = ran.unfailed.1;
       so_far = subst (λ (n : ℕ). RunsSoFar before (c.pieces.taken + n) (g.S.Source.left c.read_piece.new.source) next) len
-          (so_far_more before c.pieces.taken (g.S.Source.left c.pieces.source) (g.S.Source.left c.read_piece.new.source) now next piece so_far c.in-Ok.ensures.bytes few ran.rest ran.ok);
+          (so_far_more before c.pieces.taken (g.S.Source.left c.pieces.source) (g.S.Source.left c.read_piece.new.source) now next piece so_far c.in-Ok.ensures.bytes few ran.held ran.ok);
       fewer = ran.fewer;
       source_faults = c.in-Ok.ensures.cause.ok ∙ c.pieces.invariant.source_faults;
       sink_faults = ran.faultless ∙ c.pieces.invariant.sink_faults;

@@ -1,10 +1,9 @@
-use Rattle.std.proofs.Common.{◌∙◌}
-use Rattle.std.specs.List.{each_same}
-use Rattle.lore_base.proofs.NameLaws.{rekeyed_clones}
+use Rattle.std.proofs.Common.{ap, ◌∙◌}
+use Rattle.lore_base.specs.ChangeSets.{names_after}
+use Rattle.lore_base.proofs.NameLaws.{names_after-none}
 use Rattle.lore_base.proofs.name_table.NamesTryCopy.try_copy.Goals as goal
 
 pub returns : goal.returns
 returns c =
-    rekeyed_clones (λ k. k.items) _ _ c.self.inside.objects.entries c.in_ok-clone.field-0.entries c.in_ok-clone.ensures.cases
-    (λ x y h. each_same x.items y.items h.0) (λ v w h. h)
-    ∙ c.self.view_is
+    c.in_ok-put_all.ensures.all ∙ ap (λ names. names_after names c.args.self.now) c.new-names.ensures
+    ∙ names_after-none c.args.self.now c.put_all.ensures.table

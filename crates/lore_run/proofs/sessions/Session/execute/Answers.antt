@@ -1,16 +1,10 @@
-use Rattle.std.proofs.Common.{subst}
-use Rattle.lorel_trees.specs.declared.statements.Statement.{Statement}
-use Rattle.lorel_trees.specs.Trees.{load, literal_tree, statement_tree}
-use Rattle.lorel_trees.specs.Sound.{IsSound}
-use Rattle.lorel_trees.proofs.FormLaws.{sound_statement}
+use Rattle.std.proofs.Common.{IfOk, subst}
+use Rattle.lore_base.specs.Databases.{Database}
+use Rattle.lorel_trees.specs.Trees.{statement_tree}
+use Rattle.lore_db.specs.Statements.{Executes}
 use Rattle.lore_run.proofs.sessions.Session.execute.Goals as goal
 
-pub load-requires-clause-name : goal.load-requires-clause-name
-load-requires-clause-name g c =
-    let sound = subst (λ (s : Statement). IsSound (statement_tree s)) c.in-Load.is c.requires in
-    (sound_statement (load c.in-Load.name (literal_tree c.in-Load.literal)) sound).0
-
-pub load-requires-clause-literal : goal.load-requires-clause-literal
-load-requires-clause-literal g c =
-    let sound = subst (λ (s : Statement). IsSound (statement_tree s)) c.in-Load.is c.requires in
-    (sound_statement (load c.in-Load.name (literal_tree c.in-Load.literal)) sound).1
+pub returns-clause-ok : goal.returns-clause-ok
+returns-clause-ok g c =
+    subst (λ (db : Database). IfOk c.execute.result (λ reply. Executes db (statement_tree c.args.statement.now) reply c.execute.new.self))
+    c.self.view_is c.execute.ensures.ok

@@ -1,0 +1,10 @@
+//! Tests of how values compare and are printed: each public call with ample memory, with values
+//! from outside the program.
+#![tactic(auto)]
+
+#[cfg(test)]
+mod atoms;
+#[cfg(test)]
+mod comparisons;
+#[cfg(test)]
+mod prints;

@@ -1,0 +1,107 @@
+-- Rows that were noted down: those that ascend, one more row, and the answer that they give.
+use Rattle.std.proofs.Common.{◌≡◌, ◌≢◌, ℕ, ◌-◌, ◌<◌, ◌≤◌, inl, inr, ◌↔◌, Bool, true, List, [], ◌∷◌, ◌++◌, length, get_or, Some, All, AllPairs, Less, Equal, Greater, subst, refl, sym, ap, ◌∙◌, arith, length-append}
+use Rattle.std.specs.List.{Contains, slice_get}
+use Rattle.std.specs.Ordering.{ordering_reverse}
+use Rattle.std.specs.Cmp.Lexicographic.{pointwise, pointwise_decides}
+use Rattle.std.specs.FinMap.{nat_cmp-IsAntisymmetric, slice_cmp-IsAntisymmetric}
+use Rattle.std.specs.Cmp.{unsigned_Decides}
+use Rattle.std.proofs.lemmas.Bool.{cases_lt}
+use Rattle.std.proofs.lemmas.List.{get_or_at, get_or_append_left}
+use Rattle.std.proofs.lemmas.List.Elements.{All-contains_itself, All-weaker, Contains-append_left, Contains-push, Contains-push_cases}
+use Rattle.std.proofs.lemmas.List.Quantifiers.{all_pairs_push}
+use Rattle.std.proofs.lemmas.Option.{get_or_from_slice_get, slice_get_within}
+use Rattle.lore_db.specs.Types.{Oid, ROWS}
+use Rattle.lore_db.specs.Answers.{row_cmp, AreAscendingRows}
+use Rattle.lore_db.specs.inside.Finding.{AreRows, AreTooMany, Finds}
+use Rattle.lore_db.specs.inside.RowOrder.{same_cell, rows_total}
+
+-- ---- rows that compare as equal are one
+same_oid : (a b : Oid) → a.0 ≡ b.0 → a ≡ b
+same_oid a b same i = record { 0 = same i }
+
+pub tied_rows : (a b : List Oid) → row_cmp a b ≡ Equal → a ≡ b
+tied_rows = slice_cmp-IsAntisymmetric (λ (a b : Oid) tied. same_oid a b (nat_cmp-IsAntisymmetric a.0 b.0 tied))
+
+pub equal_rows : (a b : List Oid) → pointwise same_cell a b ≡ true → a ≡ b
+equal_rows a b = (pointwise_decides {E = same_cell} (λ c d. (λ e. same_oid c d ((unsigned_Decides c.0 d.0).0 e), λ e. (unsigned_Decides c.0 d.0).1 (ap (λ (o : Oid). o.0) e))) a b).0
+
+unlike_itself : (row : List Oid) → row_cmp row row ≡ Less → ⊥
+unlike_itself row less =
+    let mirrored : Less ≡ Greater = sym less ∙ rows_total.antisymm row row ∙ ap ordering_reverse less in
+    cc
+
+-- ---- rows that ascend
+-- a row that compares as equal to the last one is there
+pub contains_last : (rows : List (List Oid)) (last row : List Oid) → slice_get rows (length rows - 1) ≡ Some last → row_cmp last row ≡ Equal → Contains rows row
+contains_last rows last row is tied =
+    let same : last ≡ row = tied_rows last row tied in
+    (length rows - 1, slice_get_within rows (length rows - 1) last is, get_or_from_slice_get rows (length rows - 1) last row is ∙ same)
+
+-- a row that comes behind the last one comes behind all
+pub ascend_push : (rows : List (List Oid)) (last row : List Oid) → AreAscendingRows rows → slice_get rows (length rows - 1) ≡ Some last
+    → row_cmp last row ≡ Less → AreAscendingRows (rows ++ row ∷ [])
+ascend_push rows last row ascend is behind =
+    all_pairs_push (λ a b. row_cmp a b ≡ Less) rows row ascend (λ k d within.
+    let end : get_or rows (length rows - 1) d ≡ last = get_or_from_slice_get rows (length rows - 1) last d is in
+    elim (cases_lt k (length rows - 1)) [
+      | inl early ↦
+          let before : row_cmp (get_or rows k d) last ≡ Less =
+          subst (λ (r : List Oid). row_cmp (get_or rows k d) r ≡ Less) end (ascend k (length rows - 1) d early (omega (arith, within))) in
+          rows_total.trans (get_or rows k d) last row before behind
+      | inr late ↦
+          let here : k ≡ length rows - 1 = omega (arith, within, late) in
+          subst (λ (r : List Oid). row_cmp r row ≡ Less) (sym (ap (λ (n : ℕ). get_or rows n d) here ∙ end)) behind
+    ])
+
+-- a row of a list comes behind those before it
+pub behind_front : (rows before later : List (List Oid)) (row : List Oid) → AreAscendingRows rows → before ++ row ∷ later ≡ rows
+    → All (λ earlier. row_cmp earlier row ≡ Less) before
+behind_front rows before later row ascend is k d within =
+    let total : AreAscendingRows (before ++ row ∷ later) = subst AreAscendingRows (sym is) ascend in
+    let first : get_or (before ++ row ∷ later) k d ≡ get_or before k d = get_or_append_left before (row ∷ later) d k within in
+    let second : get_or (before ++ row ∷ later) (length before) d ≡ row = get_or_at before row later d (length before) refl in
+    subst (λ (r : List Oid). row_cmp (get_or before k d) r ≡ Less) second
+    (subst (λ (r : List Oid). row_cmp r (get_or (before ++ row ∷ later) (length before) d) ≡ Less) first
+    (total k (length before) d within (omega (arith, length-append before (row ∷ later)))))
+
+-- none is there twice
+pub apart_rows : (rows : List (List Oid)) → AreAscendingRows rows → AllPairs (λ a b. a ≢ b) rows
+apart_rows rows ascend i j d low within same =
+    unlike_itself (get_or rows j d) (subst (λ (r : List Oid). row_cmp r (get_or rows j d) ≡ Less) same (ascend i j d low within))
+
+-- ---- one row more
+pub finds_one : (row : List Oid) (old pushed new : List (List Oid)) (cut : Bool) → pushed ≡ old ++ row ∷ []
+    → ((found : List Oid) → Contains new found ↔ Contains pushed found) → (cut ≡ true → AreAscendingRows new × (ROWS < length new))
+    → Finds (λ found. found ≡ row) old new cut
+finds_one row old pushed new cut is members many = record {
+  kept = λ found h. (members found).1 (subst (λ (rows : List (List Oid)). Contains rows found) (sym is) (Contains-append_left old (row ∷ []) found h));
+  sound = λ found h.
+      elim (Contains-push_cases old row found (subst (λ (rows : List (List Oid)). Contains rows found) is ((members found).0 h))) [
+        | inl before ↦ inl before
+        | inr same ↦ inr (sym same)
+      ];
+  complete = λ whole found same. (members found).1 (subst (λ (rows : List (List Oid)). Contains rows found) (sym is) (subst (Contains (old ++ row ∷ [])) (sym same) (Contains-push old row)));
+  many = many;
+}
+
+-- ---- the answer
+pub too_many : (found rows : List (List Oid)) → ((row : List Oid) → Contains rows row ↔ Contains found row) → AreAscendingRows rows → ROWS < length rows
+    → AreTooMany (Contains found)
+too_many found rows members ascend many = record {
+  rows = rows;
+  apart = apart_rows rows ascend;
+  asked = All-weaker (Contains rows) (Contains found) (λ row h. (members row).0 h) rows (All-contains_itself rows);
+  many = many;
+}
+
+pub all_rows : (found rows : List (List Oid)) → ((row : List Oid) → Contains rows row ↔ Contains found row) → AreAscendingRows rows → length rows ≤ ROWS
+    → AreRows (Contains found) rows
+all_rows found rows members ascend few = record { ascending = ascend; exact = members; few = few }
+
+-- what was asked for, once all of it was found and nothing else
+pub asked_rows : (P Q : List Oid → Type 0) (rows : List (List Oid)) → ((row : List Oid) → P row ↔ Q row) → AreRows P rows → AreRows Q rows
+asked_rows P Q rows same all = record {
+  ascending = all.ascending;
+  exact = λ row. (λ h. (same row).0 ((all.exact row).0 h), λ h. (all.exact row).1 ((same row).1 h));
+  few = all.few;
+}

@@ -1,0 +1,81 @@
+-- A sound select is shallow: each quantifier of its condition nests in its derivation.
+use Rattle.std.proofs.Common.{◌≡◌, ℕ, ◌+◌, ◌≤◌, max, List, Option, Some, None, refl, subst, arith}
+use Rattle.std.proofs.Math.Nat.{le_trans, le-max_left, le-max_right, max-le}
+use Rattle.lorel_trees.specs.Types.{NESTING}
+use Rattle.lorel_trees.specs.Trees as t
+use Rattle.lorel_trees.specs.Grammar as g
+use Rattle.lorel_trees.specs.Conditions.{tree_cond, nest_cond, trees_more_conjs, nest_more_conjs, tree_conj, nest_conj, trees_more_unaries, nest_more_unaries, tree_unary, nest_unary, joined}
+use Rattle.lorel_trees.specs.Repetitions.{nest_each}
+use Rattle.lorel_trees.specs.Paths.{nest_path}
+use Rattle.lorel_trees.specs.Selects.{tree_select, nest_select, nest_item, nest_range}
+use Rattle.lorel_trees.specs.Statements.{tree_statement, nest_statement}
+use Rattle.lorel_trees.specs.Sound.{IsSound}
+use Rattle.lorel_bind.specs.Bindings.{depth_of, depth_of_all, IsShallow}
+
+both : (a b c d : ℕ) → a ≤ c → b ≤ d → max a b ≤ max c d
+both a b c d first second = max-le (le_trans first (le-max_left c d)) (le_trans second (le-max_right c d))
+
+-- ---- conditions that are joined nest no deeper than they do
+joined_depth : (join : t.CondTrees → t.CondTree) → ((conds : t.CondTrees) → depth_of (join conds) ≡ depth_of_all conds)
+    → (first : t.CondTree) (others : t.CondTrees) → depth_of (joined join first others) ≤ max (depth_of first) (depth_of_all others)
+joined_depth join same first t.no_cond = le-max_left (depth_of first) 0
+joined_depth join same first (t.cond second others) = omega (arith, same (t.cond first (t.cond second others)))
+
+mutual
+  cond_shallow : (cond : g.Cond) → depth_of (tree_cond cond) ≤ nest_cond cond
+  cond_shallow (g.conjs first others) =
+      let whole = both (depth_of (tree_conj first)) (depth_of_all (trees_more_conjs others)) (nest_conj first) (nest_more_conjs others) (conj_shallow first) (conjs_shallow others) in
+      omega (arith, whole, joined_depth t.or (λ conds. refl) (tree_conj first) (trees_more_conjs others))
+
+  conjs_shallow : (conjs : g.MoreConjs) → depth_of_all (trees_more_conjs conjs) ≤ nest_more_conjs conjs
+  conjs_shallow g.no_conjs = omega arith
+  conjs_shallow (g.or first others) =
+      both (depth_of (tree_conj first)) (depth_of_all (trees_more_conjs others)) (nest_conj first) (nest_more_conjs others) (conj_shallow first) (conjs_shallow others)
+
+  conj_shallow : (conj : g.Conj) → depth_of (tree_conj conj) ≤ nest_conj conj
+  conj_shallow (g.unaries first others) =
+      let whole = both (depth_of (tree_unary first)) (depth_of_all (trees_more_unaries others)) (nest_unary first) (nest_more_unaries others) (unary_shallow first) (unaries_shallow others) in
+      omega (arith, whole, joined_depth t.and (λ conds. refl) (tree_unary first) (trees_more_unaries others))
+
+  unaries_shallow : (unaries : g.MoreUnaries) → depth_of_all (trees_more_unaries unaries) ≤ nest_more_unaries unaries
+  unaries_shallow g.no_unaries = omega arith
+  unaries_shallow (g.and first others) =
+      both (depth_of (tree_unary first)) (depth_of_all (trees_more_unaries others)) (nest_unary first) (nest_more_unaries others) (unary_shallow first) (unaries_shallow others)
+
+  unary_shallow : (unary : g.Unary) → depth_of (tree_unary unary) ≤ nest_unary unary
+  unary_shallow (g.not body) = omega (arith, unary_shallow body)
+  unary_shallow (g.parens inner) = omega (arith, cond_shallow inner)
+  unary_shallow (g.exists name path body) = omega (arith, unary_shallow body, le-max_right (nest_path path) (nest_unary body))
+  unary_shallow (g.for_all name path body) = omega (arith, unary_shallow body, le-max_right (nest_path path) (nest_unary body))
+  unary_shallow (g.compare left by right) = omega arith
+  unary_shallow (g.same left right) = omega arith
+
+select_shallow : (select : g.Select) → nest_select select ≤ NESTING → IsShallow (tree_select select)
+select_shallow (g.query first others (g.tail ranges None)) deep = tt
+select_shallow (g.query first others (g.tail ranges (Some cond))) deep =
+    let tail = le-max_right (max (nest_item first) (nest_each nest_item others)) (max (nest_each nest_range ranges) (nest_cond cond)) in
+    let inner = le-max_right (nest_each nest_range ranges) (nest_cond cond) in
+    omega (arith, cond_shallow cond, inner, tail, deep)
+
+-- the derivation of a select
+derived_shallow : (by : g.Statement) (query : t.SelectTree) → tree_statement by ≡ t.select query → nest_statement by ≤ NESTING → IsShallow query
+derived_shallow (g.load name literal) query is deep = cc
+derived_shallow (g.bind name path) query is deep = cc
+derived_shallow (g.unname name) query is deep = cc
+derived_shallow (g.assign target value end) query is deep = cc
+derived_shallow (g.add target name (g.fresh literal) end) query is deep = cc
+derived_shallow (g.add target name (g.link path) end) query is deep = cc
+derived_shallow (g.remove target name right end) query is deep = cc
+derived_shallow (g.select inner) query is deep = let same : tree_select inner ≡ query = cc in subst IsShallow same (select_shallow inner deep)
+derived_shallow (g.explain inner) query is deep = cc
+derived_shallow g.guide query is deep = cc
+derived_shallow (g.browse (g.walked name labels)) query is deep = cc
+derived_shallow (g.sample (g.walked name labels) count) query is deep = cc
+derived_shallow (g.set_nodes nodes) query is deep = cc
+derived_shallow (g.set_plan mode) query is deep = cc
+derived_shallow g.dump query is deep = cc
+derived_shallow (g.restore text) query is deep = cc
+derived_shallow (g.generate seed count) query is deep = cc
+
+pub sound_shallow : (query : t.SelectTree) → IsSound (t.select query) → IsShallow query
+sound_shallow query sound = derived_shallow sound.spelled.by query sound.spelled.tree sound.spelled.deep

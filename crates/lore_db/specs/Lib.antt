@@ -1,0 +1,8 @@
+pub mod Types
+pub mod Answers
+pub mod Built
+pub mod Made
+pub mod Statements
+pub mod KeptDatabases
+pub mod StatementLaws
+pub mod inside

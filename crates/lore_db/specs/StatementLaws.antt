@@ -1,0 +1,41 @@
+-- Laws that make the meaning of one statement whole: its reply and the database after it are determined, and they exist
+-- from each database that a `Db` can be; and so is the graph once changes are made.
+use Rattle.std.specs.Prelude.{◌≡◌}
+use Rattle.lore_base.specs.Databases.{OemGraph, Database, new_database}
+use Rattle.lore_base.specs.ChangeSets.{IsGraphThen}
+use Rattle.lorel_trees.specs.Trees.{StatementTree}
+use Rattle.lorel_trees.specs.Sound.{IsSound}
+use Rattle.lore_db.specs.Types.{Changes, Reply}
+use Rattle.lore_db.specs.KeptDatabases.{IsKept}
+use Rattle.lore_db.specs.Statements.{Executes}
+
+-- a statement has one reply, and leaves one database
+abbrev pub ExecutesOnce : Type 0
+ExecutesOnce = (before : Database) (statement : StatementTree) (reply other : Reply) (after later : Database)
+    → Executes before statement reply after → Executes before statement other later
+    → (reply ≡ other) × (after ≡ later)
+
+-- what a statement answers and leaves, where the database stays one that a `Db` can be
+pub record SomeReply (before : Database) (statement : StatementTree) : Type 0 where
+  pub reply : Reply
+  pub after : Database
+  pub executed : Executes before statement reply after
+  pub kept : IsKept after
+
+-- each sound statement has a reply
+abbrev pub ExecutesAlways : Type 0
+ExecutesAlways =
+    (before : Database) (statement : StatementTree) → IsKept before → IsSound statement → SomeReply before statement
+
+-- the new database is one that a `Db` can be
+abbrev pub BeginsKept : Type 0
+BeginsKept = IsKept new_database
+
+-- changes that only add lead from a graph to one graph
+abbrev pub ChangesLeadToOne : Type 0
+ChangesLeadToOne = (before : OemGraph) (changes : Changes) (after other : OemGraph)
+    → IsGraphThen before changes after → IsGraphThen before changes other → after ≡ other
+
+-- and they lead to some
+abbrev pub ChangesLeadToSome : Type 0
+ChangesLeadToSome = (before : OemGraph) (changes : Changes) → (after : OemGraph) × IsGraphThen before changes after

@@ -1,0 +1,86 @@
+ghost use Rattle.std.specs.Prelude.{◌≡◌, Some, Contains, slice_get, IfOk, OnErr, IfSome, IfNone};
+ghost use Rattle.std.specs.Option.{option_copied};
+ghost use Rattle.lore_db.specs.Types.{Value as TheValue};
+ghost use Rattle.lore_base.specs.Databases.{IsLive, new_database};
+ghost use Rattle.lorel_trees.specs.Trees.{statement_tree};
+ghost use Rattle.lorel_trees.specs.Sound.{IsSound};
+ghost use Rattle.lore_db.specs.Statements.{Executes};
+
+use crate::replies::Reply;
+use index_traits::ValueOf;
+use lore_base::{Label, NoMemory, OemText, Oid, Refusal, Steps, Value};
+use lorel_trees::Statement;
+use oem_graph::Graph;
+use oem_labels::LabelTable;
+use std::alloc::Global;
+use std::marker::Model;
+use std::sync::ledger::Ledger;
+
+/// A database that statements are executed on, seen by contracts as that database.
+#[derive(Drop)]
+pub struct Db {
+    pub(crate) graph: Graph,
+    pub(crate) labels: LabelTable,
+}
+
+impl Model for Db {
+    ghost use Rattle.lore_base.specs.Databases.{Database};
+    ghost use Rattle.lore_db.specs.KeptDatabases.{database_of, IsKept};
+
+    ghost Value = { Database };
+
+    ghost view = { λ s. database_of s.labels s.graph.graph };
+
+    ghost invariant = { λ s. IsKept (database_of s.labels s.graph.graph) };
+}
+
+impl Db {
+    /// The new database.
+    pub fn new(alloc: Global) -> Result<Db, NoMemory>
+        ensures { IfOk result (λ db. db ≡ new_database) }
+    {
+        Ok(Db {
+            graph: Graph::new(alloc),
+            labels: LabelTable::new(alloc),
+        })
+    }
+
+    /// The object's value; None exactly where the object isn't live. Takes no memory.
+    pub fn value(&self, oid: Oid) -> Option<&Value>
+        ensures found { IfSome result (λ value.
+            Contains self.now.graph.objects (oid, value.now)) }
+        ensures none { IfNone result (¬ IsLive self.now.graph.objects oid) }
+        ensures only { (value : TheValue) → Contains self.now.graph.objects (oid, value)
+            → option_copied result ≡ Some value }
+    {
+        self.graph.value_of(oid)
+    }
+
+    /// The label's text; None exactly where the label has no text. Takes no memory.
+    pub fn label(&self, label: Label) -> Option<&OemText>
+        ensures { option_copied result ≡ slice_get self.now.labels label.0 }
+    {
+        self.labels.text(label)
+    }
+
+    /// Executes a statement. A refusal, and want of memory, leave the database as it was.
+    ///
+    /// This match says which forms are built; each other one is refused `Syntax`.
+    pub fn execute<L: Ledger>(
+        &mut self,
+        alloc: Global,
+        statement: &Statement,
+        steps: &mut Steps<L>,
+    ) -> Result<Reply, NoMemory>
+        requires { IsSound (statement_tree statement.now) }
+        ensures ok { IfOk result (λ reply.
+            Executes self.old (statement_tree statement.now) reply self.new) }
+        ensures err { OnErr result (self.new ≡ self.old) }
+    {
+        match statement {
+            Statement::Load { name, literal } => self.load(alloc, name, literal),
+            Statement::Select(query) => self.select(alloc, query, steps),
+            _ => Ok(Reply::Refused(Refusal::Syntax)),
+        }
+    }
+}

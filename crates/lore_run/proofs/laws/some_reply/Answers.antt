@@ -1,8 +1,0 @@
-use Rattle.lore_run.proofs.SomeReplyLaws.{begins_kept, executes_always}
-use Rattle.lore_run.proofs.laws.some_reply.Goals as goal
-
-pub returns-clause-begun : goal.returns-clause-begun
-returns-clause-begun c = begins_kept
-
-pub returns-clause-always : goal.returns-clause-always
-returns-clause-always c = executes_always

@@ -1,0 +1,25 @@
+-- Rows: ordered by their cells, so a select has one answer.
+use Rattle.std.proofs.Common.{◌≡◌, ℕ, ◌↔◌, List, sym, ap, ◌∙◌}
+use Rattle.std.specs.List.{Contains}
+use Rattle.std.specs.Cmp.{IsTotalOrder}
+use Rattle.std.specs.Ordering.{nat_cmp, ordering_reverse}
+use Rattle.std.specs.declared.cmp.Ordering.TheVariants.{Less, Equal, Greater}
+use Rattle.std.proofs.lemmas.Cmp.{nat_cmp_total, on_total, lists_total}
+use Rattle.lore_base.proofs.ListLaws.{AllPairs-unique}
+use Rattle.lorel_bind.specs.Types.{Oid}
+use Rattle.lorel_bind.specs.Answers.{IsRow, row_cmp, IsAnswer}
+use Rattle.lorel_bind.specs.Laws.{HasOneAnswer}
+
+pub row_cmp_total : IsTotalOrder row_cmp
+row_cmp_total = lists_total (on_total (λ (oid : Oid). oid.0) nat_cmp_total)
+
+once : (a b : List Oid) → row_cmp a b ≡ Less → row_cmp b a ≡ Less → ⊥
+once a b low high =
+    let flip = row_cmp_total.antisymm a b in
+    let apart : Less ≡ Greater = sym low ∙ flip ∙ ap ordering_reverse high in
+    cc
+
+pub has_one_answer : HasOneAnswer
+has_one_answer db query rows other here there =
+    AllPairs-unique (λ a b. row_cmp a b ≡ Less) once rows other here.ascending there.ascending
+    (λ row. (λ at. (there.exact row).1 ((here.exact row).0 at), λ at. (here.exact row).1 ((there.exact row).0 at)))

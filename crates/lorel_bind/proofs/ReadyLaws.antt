@@ -1,0 +1,277 @@
+-- What is ready to be bound: the fused ranges are those of the select, and each place that is asked for has a start.
+use Rattle.std.proofs.Common.{◌≡◌, ℕ, zero, suc, ◌↔◌, ◌<◌, ◌≤◌, inl, inr, List, [], ◌∷◌, ◌++◌, length, map, Option, Some, None, All, subst, refl, sym, ap, ◌∙◌, append_assoc, arith}
+use Rattle.std.specs.List.{Contains, AllZip}
+use Rattle.std.proofs.lemmas.List.{map-append}
+use Rattle.std.proofs.lemmas.List.Elements.{All-nil, All-cons, All-head, All-tail, All-append, All-contains, Contains-append_left, Contains-append_right, Contains-append_cases, Contains-get_or}
+use Rattle.std.proofs.lemmas.Option.{slice_get-get_or}
+use Rattle.lore_base.specs.Names.{object_of}
+use Rattle.lore_base.specs.Paths.{PathTree}
+use Rattle.lore_base.proofs.MemberLaws.{Contains-head, Contains-tail, Contains-cases, Contains-same}
+use Rattle.lorel_trees.specs.Trees.{SelectTree}
+use Rattle.lorel_bind.specs.Types.{Oid, RANGES, ITEMS, LEAVES}
+use Rattle.lorel_bind.specs.Types.starts
+use Rattle.lorel_bind.specs.Types.bound_starts
+use Rattle.lorel_bind.specs.Types.refusals
+use Rattle.lorel_bind.specs.Places.{Root, named, quantified, Place, at_root, cell_places}
+use Rattle.lorel_bind.specs.Conditions.{OperandOf, constant, at, CondOf, or, and, not, exists, for_all, compare, same, CondsOf, no_cond, cond, operand_paths, paths_of, paths_of_all, paths_in, cond_of, cond_places}
+use Rattle.lorel_bind.specs.Ranges.{Range, places, joined, ArePlain, IsUsed, IsFixed, IsFusable, Fuses, FusesTimes, AreFused}
+use Rattle.lorel_bind.specs.Refusals.{text_places, ranged_identifiers, StartsNowhere, HasTooMany, HasManyRanges, IsRefusedBy, IsAccepted}
+use Rattle.lorel_bind.specs.Bound.{RangeTree, BoundPathTree, BoundTree}
+use Rattle.lorel_bind.specs.Bindings.{StandsFor, IsBoundRange, IsBoundPath, CorrespondOperands, Correspond, CorrespondEach, CorrespondIf, IsBinding}
+use Rattle.lorel_bind.specs.declared.faults.BindFault.TheVariants.{TooManyRanges}
+use Rattle.lorel_bind.specs.inside.Orders.{IsFound, AreOrdered}
+use Rattle.lorel_bind.specs.inside.Slots.{CanStart, CanStartAny, CanBind, Starts, BindsRange, BindsPath}
+use Rattle.lorel_bind.specs.inside.Texts.{PassesText}
+use Rattle.lorel_bind.proofs.ReachedLaws.{Contains-mapped}
+use Rattle.lorel_bind.proofs.ToldLaws.{told_member, told_bytes}
+use Rattle.lorel_bind.proofs.ListLaws.{All-parts, All-from_members}
+use Rattle.lorel_bind.proofs.OrderLaws.{IsFound-wider}
+use Rattle.lorel_bind.proofs.GatherLaws.{has_one_plain}
+use Rattle.lorel_bind.proofs.PlainLaws.{plain_ordered}
+use Rattle.lorel_bind.proofs.FuseLaws.{has_one_fused, used_stays, fused_ordered}
+use Rattle.lorel_bind.proofs.RootLaws.{IsBoundName, IsKnown, names_bound, plain_roots, known_found, cells_known, cond_known}
+use Rattle.lorel_bind.proofs.SlotLaws.{pairs_where}
+
+-- ---- uses that are alike at the places of ranges
+abbrev AreAlike : (Place → Type 0) → (Place → Type 0) → List Range → Type 0
+AreAlike Used Other ranges = (place : Place) → Contains (places ranges) place → Used place ↔ Other place
+
+fusable_alike : (Used Other : Place → Type 0) (ranges : List Range) (range : Range) → (Other range.place → Used range.place)
+    → IsFusable Used ranges range → IsFusable Other ranges range
+fusable_alike Used Other ranges range back f =
+    record { unused = λ used. f.unused (back used); before = f.before; other = f.other; after = f.after; is = f.is; only = f.only }
+
+none_alike : (Used Other : Place → Type 0) (all ranges : List Range) → ((range : Range) → Contains ranges range → Used range.place → Other range.place)
+    → All (λ range. IsFusable Used all range → ⊥) ranges → All (λ range. IsFusable Other all range → ⊥) ranges
+none_alike Used Other all ranges to none =
+    All-from_members (λ range. IsFusable Other all range → ⊥) ranges
+    (λ range there fusable. All-contains (λ r. IsFusable Used all r → ⊥) ranges range none there
+    (fusable_alike Other Used all range (to range there) fusable))
+
+Fuses-alike : (Used Other : Place → Type 0) (old new : List Range) → AreAlike Used Other old → Fuses Used old new → Fuses Other old new
+Fuses-alike Used Other old new alike f =
+    let agree = λ (range : Range) (there : Contains old range). alike range.place (Contains-mapped (λ (r : Range). r.place) old range there) in
+    let behind = f.middle ++ f.other ∷ f.back in
+    let range_there : Contains old f.range =
+    subst (λ (rs : List Range). Contains rs f.range) (sym f.was) (Contains-append_right f.front (f.range ∷ behind) f.range (Contains-head f.range behind)) in
+    record {
+      front = f.front;
+      range = f.range;
+      middle = f.middle;
+      other = f.other;
+      back = f.back;
+      was = f.was;
+      is = f.is;
+      fusable = fusable_alike Used Other old f.range (agree f.range range_there).1 f.fusable;
+      starts = f.starts;
+      first = none_alike Used Other old f.front
+          (λ range there. (agree range (subst (λ (rs : List Range). Contains rs range) (sym f.was) (Contains-append_left f.front (f.range ∷ behind) range there))).0)
+          f.first;
+    }
+
+-- no place is new after fusing
+Fuses-within : (Used : Place → Type 0) (old new : List Range) → Fuses Used old new → (place : Place) → Contains (places new) place → Contains (places old) place
+Fuses-within Used old new f place here =
+    let at_place = λ (r : Range). r.place in
+    let behind = λ (r : Range). map-append at_place f.middle (r ∷ f.back) in
+    let was : places old ≡ places f.front ++ f.range.place ∷ places (f.middle ++ f.other ∷ f.back) =
+    ap places f.was ∙ map-append at_place f.front (f.range ∷ (f.middle ++ f.other ∷ f.back)) in
+    let is : places new ≡ places f.front ++ places (f.middle ++ joined f.range f.other ∷ f.back) =
+    ap places f.is ∙ map-append at_place f.front (f.middle ++ joined f.range f.other ∷ f.back) in
+    let same : places (f.middle ++ joined f.range f.other ∷ f.back) ≡ places (f.middle ++ f.other ∷ f.back) =
+    behind (joined f.range f.other) ∙ sym (behind f.other) in
+    let rest = places (f.middle ++ f.other ∷ f.back) in
+    subst (λ (ps : List Place). Contains ps place) (sym was)
+    (elim (Contains-append_cases (places f.front) rest place
+    (subst (λ (ps : List Place). Contains ps place) (is ∙ ap (λ (ps : List Place). places f.front ++ ps) same) here)) [
+      | inl before ↦ Contains-append_left (places f.front) (f.range.place ∷ rest) place before
+      | inr later ↦ Contains-append_right (places f.front) (f.range.place ∷ rest) place (Contains-tail f.range.place rest place later)
+    ])
+
+FusesTimes-alike : (Used Other : Place → Type 0) (times : ℕ) (old new : List Range) → AreAlike Used Other old → FusesTimes Used times old new
+    → FusesTimes Other times old new × AreAlike Used Other new
+FusesTimes-alike Used Other zero old new alike steps = (steps, subst (AreAlike Used Other) steps alike)
+FusesTimes-alike Used Other (suc times) old new alike steps =
+    let later = FusesTimes-alike Used Other times steps.0 new (λ place here. alike place (Fuses-within Used old steps.0 steps.1 place here)) steps.2 in
+    ((steps.0, Fuses-alike Used Other old steps.0 alike steps.1, later.0), later.1)
+
+-- uses that agree at each place of a range fuse alike
+pub fused_alike : (Used Other : Place → Type 0) (plain fused : List Range)
+    → ((place : Place) → Contains (places plain) place → Used place ↔ Other place) → AreFused Used plain fused → AreFused Other plain fused
+fused_alike Used Other plain fused alike are =
+    let steps = FusesTimes-alike Used Other are.times plain fused alike are.steps in
+    record {
+      times = are.times;
+      steps = steps.0;
+      none = none_alike Used Other fused fused
+          (λ range there. (steps.1 range.place (Contains-mapped (λ (r : Range). r.place) fused range there)).0) are.none;
+    }
+
+-- ---- what fused ranges start at
+-- each starts at a name or at one of them
+found_among : (all earlier : List Place) (ranges : List Range) → AreOrdered earlier ranges
+    → ((place : Place) → Contains (earlier ++ places ranges) place → Contains all place) → All (λ range. IsFound all range.start) ranges
+found_among all earlier [] ordered within = All-nil (λ range. IsFound all range.start)
+found_among all earlier (range ∷ ranges) ordered within =
+    All-cons (λ r. IsFound all r.start) range ranges
+    (IsFound-wider earlier all range.start (λ place here. within place (Contains-append_left earlier (range.place ∷ places ranges) place here)) ordered.0.found)
+    (found_among all (earlier ++ range.place ∷ []) ranges ordered.1
+    (λ place here. within place (subst (λ (ps : List Place). Contains ps place) (append_assoc earlier (range.place ∷ []) (places ranges)) here)))
+
+-- what holds of the starts of ranges holds of those of fused ones
+module _ (Passes : Place → Type 0) where
+  Fuses-starts : (Used : Place → Type 0) (old new : List Range) → Fuses Used old new → All (λ range. Passes range.start) old
+      → All (λ range. Passes range.start) new
+  Fuses-starts Used old new f all =
+      let P = λ (range : Range). Passes range.start in
+      let first = All-parts P f.front (f.range ∷ (f.middle ++ f.other ∷ f.back)) (subst (All P) f.was all) in
+      let second = All-parts P f.middle (f.other ∷ f.back) (All-tail P f.range (f.middle ++ f.other ∷ f.back) first.1) in
+      subst (All P) (sym f.is)
+      (All-append P f.front (f.middle ++ joined f.range f.other ∷ f.back) first.0
+      (All-append P f.middle (joined f.range f.other ∷ f.back) second.0
+      (All-cons P (joined f.range f.other) f.back (All-head P f.range (f.middle ++ f.other ∷ f.back) first.1) (All-tail P f.other f.back second.1))))
+
+  FusesTimes-starts : (Used : Place → Type 0) (times : ℕ) (old new : List Range) → FusesTimes Used times old new
+      → All (λ range. Passes range.start) old → All (λ range. Passes range.start) new
+  FusesTimes-starts Used zero old new steps all = subst (All (λ range. Passes range.start)) steps all
+  FusesTimes-starts Used (suc times) old new steps all =
+      FusesTimes-starts Used times steps.0 new steps.2 (Fuses-starts Used old steps.0 steps.1 all)
+
+-- ---- some start stands for each place
+known_starts : (names : List (List ℕ × Oid)) (fused : List Range) (place : Place) → IsKnown names (places fused) place → CanStart names fused place
+known_starts names fused place (inl known) = (starts.Named known.1, (known.0, known.2, known.3))
+known_starts names fused place (inr there) =
+    (starts.Slot there.0, slice_get-get_or (places fused) there.0 place there.1 ∙ ap (λ (p : Place). Some p) there.2)
+
+any_starts : (names : List (List ℕ × Oid)) (fused : List Range) (place : Place) → CanStart names fused place → CanStartAny names fused place
+any_starts names fused place (starts.Named oid, stands) = (bound_starts.Named oid, stands)
+any_starts names fused place (starts.Slot slot, stands) = (bound_starts.Slot slot, stands)
+
+module _ (names : List (List ℕ × Oid)) (query : SelectTree) (plain fused : List Range) (made : ArePlain query plain)
+    (fuses : AreFused (IsUsed query plain) plain fused) (somewhere : (start : List ℕ) → StartsNowhere names query start → ⊥) where
+  all_bound : All (λ place. IsBoundName names place.root) (text_places query)
+  all_bound = names_bound names query somewhere
+
+  starts_can : All (λ range. CanStart names fused range.start) fused
+  starts_can =
+      let ordered = fused_ordered (IsUsed query plain) plain fused (plain_ordered query plain made) fuses in
+      let found = found_among (places fused) [] fused ordered (λ place here. here) in
+      let bound = FusesTimes-starts (λ place. IsBoundName names place.root) (IsUsed query plain) fuses.times plain fused fuses.steps
+      (plain_roots (IsBoundName names) query plain made all_bound) in
+      All-from_members (λ range. CanStart names fused range.start) fused
+      (λ range there. known_starts names fused range.start
+      (known_found names (places fused) range.start (All-contains (λ r. IsFound (places fused) r.start) fused range found there)
+      (All-contains (λ r. IsBoundName names r.start.root) fused range bound there)))
+
+  cell_can : (cell : Place) → Contains (cell_places query) cell → IsKnown names (places plain) cell → CanStart names fused cell
+  cell_can cell there (inl known) = known_starts names fused cell (inl known)
+  cell_can cell there (inr here) = known_starts names fused cell (inr (used_stays (IsUsed query plain) plain fused cell (inl there) fuses here))
+
+  cells_can : All (CanStart names fused) (cell_places query)
+  cells_can = All-from_members (CanStart names fused) (cell_places query)
+      (λ cell there. cell_can cell there (cells_known names query plain made all_bound cell there))
+
+  fixed_can : (path fixed : Place) (rest : List PathTree) → Contains (cond_places query) path → IsFixed plain path fixed rest
+      → CanStartAny names fused fixed
+  fixed_can path fixed rest there is_fixed =
+      let ranged = λ (here : Contains (places plain) fixed). any_starts names fused fixed (known_starts names fused fixed
+      (inr (used_stays (IsUsed query plain) plain fused fixed (inr (path, rest, there, is_fixed)) fuses here))) in
+      elim is_fixed.stands [
+        | inr here ↦ ranged here
+        | inl root ↦ elim (cond_known names query plain made all_bound path there) [
+          | inl at_quantifier ↦ (bound_starts.Quantified at_quantifier.0, root ∙ ap at_root at_quantifier.1)
+          | inr known ↦ elim known [
+            | inl name ↦ any_starts names fused fixed (known_starts names fused fixed (inl (name.0, name.1, root ∙ name.2, name.3)))
+            | inr here ↦ ranged (Contains-same (places plain) (at_root path.root) fixed (sym root) here)
+          ]
+        ]
+      ]
+
+  paths_can : All (CanBind names fused plain) (cond_places query)
+  paths_can = All-from_members (CanBind names fused plain) (cond_places query) (λ path there fixed rest is_fixed. fixed_can path fixed rest there is_fixed)
+
+-- ---- conditions
+-- what relates paths that pass relates conditions whose paths pass
+module _ {P Q : Type 0} (Passes : P → Type 0) (R : P → Q → Type 0) where
+  abbrev Relates : P → Q → Type 0
+  Relates p q = Passes p → R p q
+
+  operand_where : (a : OperandOf P) (b : OperandOf Q) → CorrespondOperands Relates a b → All Passes (operand_paths a) → CorrespondOperands R a b
+  operand_where (constant a) (constant b) like pass = like
+  operand_where (at a) (at b) like pass = like (All-head Passes a [] pass)
+  operand_where _ _ like pass = absurd like
+
+  mutual
+    cond_where : (a : CondOf P) (b : CondOf Q) → Correspond Relates a b → All Passes (paths_of a) → Correspond R a b
+    cond_where (or a) (or b) like pass = conds_where a b like pass
+    cond_where (and a) (and b) like pass = conds_where a b like pass
+    cond_where (not a) (not b) like pass = cond_where a b like pass
+    cond_where (exists a body) (exists b other) like pass =
+        (like.0 (All-head Passes a (paths_of body) pass), cond_where body other like.1 (All-tail Passes a (paths_of body) pass))
+    cond_where (for_all a body) (for_all b other) like pass =
+        (like.0 (All-head Passes a (paths_of body) pass), cond_where body other like.1 (All-tail Passes a (paths_of body) pass))
+    cond_where (compare a op right) (compare b other last) like pass =
+        let both = All-parts Passes (operand_paths a) (operand_paths right) pass in
+        (operand_where a b like.0 both.0, like.1, operand_where right last like.2 both.1)
+    cond_where (same a right) (same b last) like pass =
+        (like.0 (All-head Passes a (right ∷ []) pass), like.1 (All-head Passes right [] (All-tail Passes a (right ∷ []) pass)))
+    cond_where _ _ like pass = absurd like
+
+    conds_where : (a : CondsOf P) (b : CondsOf Q) → CorrespondEach Relates a b → All Passes (paths_of_all a) → CorrespondEach R a b
+    conds_where no_cond no_cond like pass = tt
+    conds_where (cond a others) (cond b more) like pass =
+        let both = All-parts Passes (paths_of a) (paths_of_all others) pass in
+        (cond_where a b like.0 both.0, conds_where others more like.1 both.1)
+    conds_where _ _ like pass = absurd like
+
+  option_where : (a : Option (CondOf P)) (b : Option (CondOf Q)) → CorrespondIf Relates a b → All Passes (paths_in a) → CorrespondIf R a b
+  option_where None None like pass = tt
+  option_where (Some a) (Some b) like pass = cond_where a b like pass
+  option_where _ _ like pass = absurd like
+
+-- ---- the bound select
+pub ready_bound : (names : List (List ℕ × Oid)) (query : SelectTree) (plain fused : List Range) (bound : BoundTree) → ArePlain query plain
+    → AreFused (IsUsed query plain) plain fused → ((start : List ℕ) → StartsNowhere names query start → ⊥)
+    → AllZip (BindsRange names fused) fused bound.ranges → AllZip (Starts names fused) (cell_places query) bound.cells
+    → CorrespondIf (BindsPath names fused plain) (cond_of query) bound.cond → IsBinding names query bound
+ready_bound names query plain fused bound made fuses somewhere ranges cells condition = record {
+  plain = plain;
+  fused = fused;
+  made = made;
+  fuses = fuses;
+  ranges = pairs_where (λ (range : Range). CanStart names fused range.start) (IsBoundRange names fused) fused bound.ranges ranges
+      (starts_can names query plain fused made fuses somewhere);
+  cells = pairs_where (CanStart names fused) (StandsFor names fused) (cell_places query) bound.cells cells
+      (cells_can names query plain fused made fuses somewhere);
+  condition = option_where (CanBind names fused plain) (IsBoundPath names plain fused) (cond_of query) bound.cond condition
+      (paths_can names query plain fused made fuses somewhere);
+}
+
+-- ---- what is accepted and what is refused
+pub starts_somewhere : (names : List (List ℕ × Oid)) (query : SelectTree) → PassesText names query → (start : List ℕ)
+    → StartsNowhere names query start → ⊥
+starts_somewhere names query passes start nowhere = elim (told_member told_bytes (ranged_identifiers query) start) [
+  | inl there ↦ passes.variables_known (start, nowhere, there)
+  | inr absent ↦ passes.names_known (start, nowhere, absent)
+]
+
+few_enough : (names : List (List ℕ × Oid)) (query : SelectTree) (plain fused : List Range) → PassesText names query → ArePlain query plain
+    → AreFused (IsUsed query plain) plain fused → length fused ≤ RANGES → HasTooMany query → ⊥
+few_enough names query plain fused passes made fuses few (inl many) =
+    let same = has_one_plain query many.0 plain many.2 made in
+    let here = subst (λ (ranges : List Range). AreFused (IsUsed query ranges) ranges many.1) same many.3 in
+    let long = ap (λ (ranges : List Range). length ranges) (has_one_fused query plain many.1 fused made here fuses) in
+    let over = many.4 in
+    omega arith
+few_enough names query plain fused passes made fuses few (inr (inl items)) = let within = passes.few_items in omega arith
+few_enough names query plain fused passes made fuses few (inr (inr leaves)) = let within = passes.few_leaves in omega arith
+
+pub accepted : (names : List (List ℕ × Oid)) (query : SelectTree) (plain fused : List Range) → PassesText names query → ArePlain query plain
+    → AreFused (IsUsed query plain) plain fused → length fused ≤ RANGES → IsAccepted names query
+accepted names query plain fused passes made fuses few =
+    (passes.names_known, (passes.variables_known, (passes.ranged_once, (few_enough names query plain fused passes made fuses few, tt))))
+
+pub too_many_ranges : (names : List (List ℕ × Oid)) (query : SelectTree) (plain fused : List Range) → PassesText names query → ArePlain query plain
+    → AreFused (IsUsed query plain) plain fused → RANGES < length fused → IsRefusedBy names query TooManyRanges
+too_many_ranges names query plain fused passes made fuses many =
+    inr (passes.names_known, inr (passes.variables_known, inr (passes.ranged_once, inl (inl (plain, fused, made, fuses, many), refl))))

@@ -1,0 +1,97 @@
+-- The text of a select as the program reads it: one from item more, one item more, and the conditions within quantifiers.
+use Rattle.std.proofs.Common.{◌≡◌, ◌⊎◌, inl, inr, ℕ, suc, ◌+◌, List, [], ◌∷◌, ◌++◌, length, map, Bor, subst, refl, sym, ap, ◌∙◌, append_assoc, arith}
+use Rattle.std.proofs.lemmas.List.{map-append, flat_map_more, length-map, length-append}
+use Rattle.lorel_trees.specs.declared.conditions.Cond.{Exists, ForAll}
+use Rattle.lorel_trees.specs.declared.conditions.Cond.TheOpen as layer
+use Rattle.lorel_trees.specs.declared.conditions.Cond.TheVariants.{rolls-Exists, rolls-ForAll}
+use Rattle.lorel_trees.specs.declared.conditions.Cond.TheFolds.{fold-roll-Cond}
+use Rattle.lorel_trees.specs.Trees as t
+use Rattle.lorel_trees.specs.Trees.{FromTree, from_tree, ItemTree, item_tree, CondTree, conds_from, rooted_tree, cond_tree, cond_step, conds_step}
+use Rattle.lorel_bind.specs.Places.{quantified, Scope, place_of, scope_behind, scope_of, item_places}
+use Rattle.lorel_bind.specs.Conditions.{cond_in}
+use Rattle.lorel_bind.specs.Refusals.{from_places, item_variables, from_variables}
+use Rattle.lorel_bind.specs.inside.Scopes.{enclosed, IsScope, IsAdded, names_of}
+use Rattle.lorel_bind.specs.inside.Views.{place_tree, place_trees, texts}
+use Rattle.lorel_bind.specs.inside.Texts.{ReadsFrom, ReadsItems}
+use Rattle.lorel_bind.specs.declared.text.Found.{Found}
+use Rattle.lorel_bind.specs.declared.places.Place.{Place}
+use Rattle.lorel_bind.proofs.ScopeLaws.{IsScope-behind}
+
+-- ---- one from item more
+scope_of-push : (scope : Scope) (items : List FromTree) (item : FromTree) → scope_of scope (items ++ item ∷ []) ≡ scope_behind item.variable (scope_of scope items)
+scope_of-push scope [] item = refl
+scope_of-push scope (first ∷ items) item = scope_of-push (scope_behind first.variable scope) items item
+
+from_places-push : (scope : Scope) (items : List FromTree) (item : FromTree)
+    → from_places scope (items ++ item ∷ []) ≡ from_places scope items ++ place_of (scope_of scope items) item.path ∷ []
+from_places-push scope [] item = refl
+from_places-push scope (first ∷ items) item = ap (λ l. place_of scope first.path ∷ l) (from_places-push (scope_behind first.variable scope) items item)
+
+from_variables-push : (items : List FromTree) (item : FromTree)
+    → from_variables (items ++ item ∷ []) ≡ (from_variables items ++ item_variables item.word) ++ item_variables item.variable
+from_variables-push items item =
+    sym (flat_map_more (λ (each : FromTree). item_variables each.word ++ item_variables each.variable) [] items item)
+    ∙ sym (append_assoc (from_variables items) (item_variables item.word) (item_variables item.variable))
+
+pub ReadsFrom-push : (items : List FromTree) (item : FromTree) (number : ℕ) (found more : Found) (place : Place) (old new : List (List ℕ × ℕ))
+    → ReadsFrom items found old
+    → ((scope : Scope) → IsScope (names_of old) scope → place_tree place ≡ place_of scope item.path)
+    → more.places.items ≡ found.places.items ++ place ∷ []
+    → texts more.ranged.items ≡ (texts found.ranged.items ++ item_variables item.word) ++ item_variables item.variable
+    → IsAdded item.variable number old new → ReadsFrom (items ++ item ∷ []) more new
+ReadsFrom-push items item number found more place old new read is places ranged added = record {
+  places = ap place_trees places ∙ map-append place_tree found.places.items (place ∷ [])
+      ∙ (let here = is (scope_of [] items) read.scope in let front = read.places in cc) ∙ sym (from_places-push [] items item);
+  ranged = ranged ∙ ap (λ l. (l ++ item_variables item.word) ++ item_variables item.variable) read.ranged ∙ sym (from_variables-push items item);
+  scope = subst (IsScope (names_of new)) (sym (scope_of-push [] items item)) (IsScope-behind item.variable number old new (scope_of [] items) added read.scope);
+}
+
+-- ---- one item more
+pub ReadsItems-push : (scope : Scope) (items : List ItemTree) (item : ItemTree) (places more : List Place) → ReadsItems scope items places
+    → place_trees more ≡ place_trees places ++ item_places scope item → ReadsItems scope (items ++ item ∷ []) more
+ReadsItems-push scope items item places more read is =
+    is ∙ ap (λ l. l ++ item_places scope item) read ∙ flat_map_more (item_places scope) [] items item
+
+-- ---- within a further quantifier
+enclosed-push : (depth : ℕ) (variables : List (List ℕ)) (variable : List ℕ) (scope : Scope)
+    → enclosed depth (variables ++ variable ∷ []) scope ≡ (variable, quantified (depth + length variables)) ∷ enclosed depth variables scope
+enclosed-push depth [] variable scope =
+    let same : depth ≡ depth + 0 = omega arith in
+    ap (λ (n : ℕ). (variable, quantified n) ∷ scope) same
+enclosed-push depth (first ∷ variables) variable scope =
+    let same : suc depth + length variables ≡ depth + suc (length variables) = omega arith in
+    enclosed-push (suc depth) variables variable ((first, quantified depth) ∷ scope)
+    ∙ ap (λ (n : ℕ). (variable, quantified n) ∷ enclosed (suc depth) variables ((first, quantified depth) ∷ scope)) same
+
+-- the condition in the body of a quantifier
+pub cond_in-body : (around inner : List (Bor (List ℕ))) (variable : List ℕ) (scope : Scope) (body : CondTree) → texts inner ≡ texts around ++ variable ∷ []
+    → cond_in (enclosed 0 (texts inner) scope) (length inner) body
+    ≡ cond_in ((variable, quantified (length around)) ∷ enclosed 0 (texts around) scope) (suc (length around)) body
+cond_in-body around inner variable scope body is =
+    let number : 0 + length (texts around) ≡ length around = omega (arith, length-map around (λ (text : Bor (List ℕ)). text.now)) in
+    let here = ap (λ (l : List (List ℕ)). enclosed 0 l scope) is ∙ enclosed-push 0 (texts around) variable scope
+    ∙ ap (λ (n : ℕ). (variable, quantified n) ∷ enclosed 0 (texts around) scope) number in
+    let count : length inner ≡ suc (length around) =
+    omega (arith, length-map inner (λ (text : Bor (List ℕ)). text.now), length-map around (λ (text : Bor (List ℕ)). text.now), ap length is, length-append (texts around) (variable ∷ [])) in
+    ap (λ (l : Scope). cond_in l (length inner) body) here ∙ ap (λ (n : ℕ). cond_in ((variable, quantified (length around)) ∷ enclosed 0 (texts around) scope) n body) count
+
+-- what is made of the plain data of a condition with a quantifier
+pub exists_tree : (variable path body : _) → cond_tree (Exists variable path body) ≡ t.exists variable (rooted_tree path) (cond_tree body.value)
+exists_tree variable path body = ap cond_tree (sym (rolls-Exists variable path body)) ∙ fold-roll-Cond CondTree (List CondTree) cond_step conds_step (layer.Exists variable path body)
+
+pub for_all_tree : (variable path body : _) → cond_tree (ForAll variable path body) ≡ t.for_all variable (rooted_tree path) (cond_tree body.value)
+for_all_tree variable path body = ap cond_tree (sym (rolls-ForAll variable path body)) ∙ fold-roll-Cond CondTree (List CondTree) cond_step conds_step (layer.ForAll variable path body)
+
+pub quantified_tree : {X : Type 0} (f : CondTree → X) (x : X) (cond variable path body : _) → (cond ≡ Exists variable path body) ⊎ (cond ≡ ForAll variable path body)
+    → f (t.exists variable (rooted_tree path) (cond_tree body.value)) ≡ x → f (t.for_all variable (rooted_tree path) (cond_tree body.value)) ≡ x
+    → f (cond_tree cond) ≡ x
+quantified_tree f x cond variable path body (inl is) first second = ap (λ c. f (cond_tree c)) is ∙ ap f (exists_tree variable path body) ∙ first
+quantified_tree f x cond variable path body (inr is) first second = ap (λ c. f (cond_tree c)) is ∙ ap f (for_all_tree variable path body) ∙ second
+
+-- what a quantifier adds to a list, and then what its body adds
+pub map-quantified : {X Y : Type 0} (f : X → Y) (old pushed new : List X) (x : X) (y : Y) (behind all : List Y) → pushed ≡ old ++ x ∷ []
+    → f x ≡ y → map f new ≡ map f pushed ++ behind → all ≡ y ∷ behind → map f new ≡ map f old ++ all
+map-quantified {X} {Y} f old pushed new x y behind all is same more whole =
+    more ∙ ap (λ (l : List X). map f l ++ behind) is ∙ ap (λ (l : List Y). l ++ behind) (map-append f old (x ∷ []))
+    ∙ append_assoc (map f old) (f x ∷ []) behind
+    ∙ ap (λ (z : Y). map f old ++ z ∷ behind) same ∙ ap (λ (l : List Y). map f old ++ l) (sym whole)

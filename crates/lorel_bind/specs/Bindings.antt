@@ -1,0 +1,133 @@
+-- What binding gives: the fused ranges of a select by slots, its cells and its condition.
+use Rattle.std.specs.Prelude.{◌≡◌, ℕ, ◌+◌, ◌<◌, ◌≤◌, suc, max, List, [], ◌∷◌, length, sum_by, Option, Some, None, MatchOption, All, slice_get}
+use Rattle.std.specs.List.{AllZip}
+use Rattle.lorel_bind.specs.Types.{Oid, Start, BoundStart, RANGES, LEAVES, NESTING}
+use Rattle.lorel_bind.specs.Types.starts
+use Rattle.lorel_bind.specs.Types.bound_starts
+use Rattle.lore_base.specs.Names.{object_of}
+use Rattle.lore_base.specs.Paths.{PathTree, seq, trees_of, leaves}
+use Rattle.lorel_trees.specs.Trees.{SelectTree, ItemTree, CondTree, CondTrees}
+use Rattle.lorel_trees.specs.Trees as t
+use Rattle.lorel_bind.specs.Places.{named, quantified, Place, at_root, cell_places}
+use Rattle.lorel_bind.specs.Conditions.{OperandOf, constant, at, CondOf, or, and, not, exists, for_all, compare, same, CondsOf, no_cond, cond, cond_of, paths_in}
+use Rattle.lorel_bind.specs.Ranges.{Range, ArePlain, AreFused, IsUsed, IsFixed, places}
+use Rattle.lorel_bind.specs.Bound.{RangeTree, BoundPathTree, BoundTree}
+
+-- a start stands for a place: the object of a name, or the slot of a fused range
+abbrev pub StandsFor : List (List ℕ × Oid) → List Range → Place → Start → Type 0
+StandsFor names fused place (starts.Named oid) =
+    (name : List ℕ) × (place ≡ at_root (named name)) × (object_of names name ≡ Some oid)
+StandsFor names fused place (starts.Slot slot) = slice_get (places fused) slot ≡ Some place
+
+-- and so in a condition, or it is the object of a quantifier
+abbrev pub StandsForAny : List (List ℕ × Oid) → List Range → Place → BoundStart → Type 0
+StandsForAny names fused place (bound_starts.Named oid) = StandsFor names fused place (starts.Named oid)
+StandsForAny names fused place (bound_starts.Slot slot) = StandsFor names fused place (starts.Slot slot)
+StandsForAny names fused place (bound_starts.Quantified depth) = place ≡ at_root (quantified depth)
+
+-- a bound range is a fused one
+pub record IsBoundRange (names : List (List ℕ × Oid)) (fused : List Range) (range : Range) (bound : RangeTree) :
+    Type 0 where
+  pub start : StandsFor names fused range.start bound.start
+  pub path : bound.path ≡ seq (trees_of range.parts)
+
+-- a bound path is a path of the text: it starts at the longest prefix that is a range
+pub record IsBoundPath (names : List (List ℕ × Oid)) (plain fused : List Range) (path : Place) (bound : BoundPathTree) :
+    Type 0 where
+  pub fixed : Place
+  pub rest : List PathTree
+  pub is_fixed : IsFixed plain path fixed rest
+  pub begins : StandsForAny names fused fixed bound.start
+  pub goes_on : bound.rest ≡ seq (trees_of rest)
+
+-- conditions that differ in their paths alone, each related to the other
+module _ {P Q : Type 0} (R : P → Q → Type 0) where
+  abbrev pub CorrespondOperands : OperandOf P → OperandOf Q → Type 0
+  CorrespondOperands (constant a) (constant b) = a ≡ b
+  CorrespondOperands (at a) (at b) = R a b
+  CorrespondOperands _ _ = ⊥
+
+  abbrev mutual
+    pub Correspond : CondOf P → CondOf Q → Type 0
+    Correspond (or a) (or b) = CorrespondEach a b
+    Correspond (and a) (and b) = CorrespondEach a b
+    Correspond (not a) (not b) = Correspond a b
+    Correspond (exists a body) (exists b other) = R a b × Correspond body other
+    Correspond (for_all a body) (for_all b other) = R a b × Correspond body other
+    Correspond (compare a op right) (compare b other last) =
+        CorrespondOperands a b × (op ≡ other) × CorrespondOperands right last
+    Correspond (same a right) (same b last) = R a b × R right last
+    Correspond _ _ = ⊥
+
+    pub CorrespondEach : CondsOf P → CondsOf Q → Type 0
+    CorrespondEach no_cond no_cond = Unit {0}
+    CorrespondEach (cond a others) (cond b more) = Correspond a b × CorrespondEach others more
+    CorrespondEach _ _ = ⊥
+
+-- two conditions that may be missing
+abbrev pub CorrespondIf : {P Q : Type 0} → (P → Q → Type 0) → Option (CondOf P) → Option (CondOf Q) → Type 0
+CorrespondIf R None None = Unit {0}
+CorrespondIf R (Some a) (Some b) = Correspond R a b
+CorrespondIf R _ _ = ⊥
+
+-- the bound select is the select of the text over these names
+pub record IsBinding (names : List (List ℕ × Oid)) (query : SelectTree) (bound : BoundTree) : Type 0 where
+  pub plain : List Range
+  pub fused : List Range
+  pub made : ArePlain query plain
+  pub fuses : AreFused (IsUsed query plain) plain fused
+  pub ranges : AllZip (IsBoundRange names fused) fused bound.ranges
+  pub cells : AllZip (StandsFor names fused) (cell_places query) bound.cells
+  pub condition : CorrespondIf (IsBoundPath names plain fused) (cond_of query) bound.cond
+
+-- a start is an object or one of so many slots
+abbrev pub IsWithin : ℕ → Start → Type 0
+IsWithin count (starts.Named oid) = Unit {0}
+IsWithin count (starts.Slot slot) = slot < count
+
+-- each range starts at an object or at an earlier range, where so many are earlier than the first
+abbrev pub AreInOrder : ℕ → List RangeTree → Type 0
+AreInOrder count [] = Unit {0}
+AreInOrder count (range ∷ others) = IsWithin count range.start × AreInOrder (suc count) others
+
+abbrev pub IsBoundWithin : ℕ → BoundStart → Type 0
+IsBoundWithin count (bound_starts.Slot slot) = slot < count
+IsBoundWithin count _ = Unit {0}
+
+-- what running a bound select rests on: few ranges and few leaves, and starts that are there before they are needed
+pub record IsRunnable (bound : BoundTree) : Type 0 where
+  pub few_ranges : length bound.ranges ≤ RANGES
+  pub few_leaves : sum_by (λ range. leaves range.path) bound.ranges
+      + sum_by (λ path. leaves path.rest) (paths_in bound.cond) ≤ LEAVES
+  pub in_order : AreInOrder 0 bound.ranges
+  pub cells_within : All (IsWithin (length bound.ranges)) bound.cells
+  pub condition_within : All (λ path. IsBoundWithin (length bound.ranges) path.start) (paths_in bound.cond)
+
+-- an item that is a path, and no path variable
+abbrev pub IsPath : ItemTree → Type 0
+IsPath (t.object path) = Unit {0}
+IsPath (t.path_of variable) = ⊥
+
+-- the select has no path variable
+pub record HasNoPathVariable (query : SelectTree) : Type 0 where
+  pub items : All IsPath query.items
+  pub ranges : All (λ range. range.word ≡ None) query.tail.ranges
+
+-- how deep quantifiers stand in one another
+abbrev mutual
+  pub depth_of : CondTree → ℕ
+  depth_of (t.or members) = depth_of_all members
+  depth_of (t.and members) = depth_of_all members
+  depth_of (t.not body) = depth_of body
+  depth_of (t.exists variable path body) = suc (depth_of body)
+  depth_of (t.for_all variable path body) = suc (depth_of body)
+  depth_of (t.compare left op right) = 0
+  depth_of (t.same left right) = 0
+
+  pub depth_of_all : CondTrees → ℕ
+  depth_of_all t.no_cond = 0
+  depth_of_all (t.cond first others) = max (depth_of first) (depth_of_all others)
+
+-- its quantifiers stand in one another no deeper than a statement nests
+abbrev pub IsShallow : SelectTree → Type 0
+IsShallow query = MatchOption query.tail.cond (Unit {0}) (λ cond. depth_of cond ≤ NESTING)

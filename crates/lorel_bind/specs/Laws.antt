@@ -1,0 +1,61 @@
+-- Laws of the query language: ranges, answers and refusals are determined and exist, and neither fusing nor binding
+-- changes a row.
+use Rattle.std.specs.Prelude.{◌≡◌, ◌⊎◌, ◌↔◌, ℕ, List}
+use Rattle.lorel_bind.specs.Types.{Oid, Refusal}
+use Rattle.lore_base.specs.Databases.{Database}
+use Rattle.lorel_trees.specs.Trees.{SelectTree}
+use Rattle.lorel_bind.specs.Ranges.{Range, ArePlain, AreFused, IsUsed}
+use Rattle.lorel_bind.specs.Answers.{IsRow, IsRowOver, IsAnswer}
+use Rattle.lorel_bind.specs.Refusals.{StartsNowhere, Cause, order, IsFirst, IsAccepted}
+use Rattle.lorel_bind.specs.Bound.{BoundTree}
+use Rattle.lorel_bind.specs.Bindings.{IsBinding}
+use Rattle.lorel_bind.specs.SlotRows.{IsSlotRow}
+
+-- a select has one list of plain ranges
+abbrev pub HasOnePlain : Type 0
+HasOnePlain = (query : SelectTree) (plain other : List Range) → ArePlain query plain → ArePlain query other → plain ≡ other
+
+abbrev pub HasSomePlain : Type 0
+HasSomePlain = (query : SelectTree) → (plain : List Range) × ArePlain query plain
+
+-- and one list of fused ranges
+abbrev pub HasOneFused : Type 0
+HasOneFused = (query : SelectTree) (plain fused other : List Range) → ArePlain query plain
+    → AreFused (IsUsed query plain) plain fused → AreFused (IsUsed query plain) plain other → fused ≡ other
+
+abbrev pub HasSomeFused : Type 0
+HasSomeFused = (query : SelectTree) (plain : List Range) → ArePlain query plain
+    → (fused : List Range) × AreFused (IsUsed query plain) plain fused
+
+-- the valuations of the fused ranges that hold give the rows of the select
+abbrev pub FusingKeepsRows : Type 0
+FusingKeepsRows = (db : Database) (query : SelectTree) (plain fused : List Range) → ArePlain query plain
+    → AreFused (IsUsed query plain) plain fused
+    → (row : List Oid) → IsRow db query row ↔ IsRowOver db query plain fused row
+
+-- a bound select has the rows of the select of the text
+abbrev pub BindingKeepsRows : Type 0
+BindingKeepsRows = (db : Database) (query : SelectTree) (bound : BoundTree) → IsBinding db.graph.names query bound
+    → (row : List Oid) → IsRow db query row ↔ IsSlotRow db bound row
+
+-- a select has one answer
+abbrev pub HasOneAnswer : Type 0
+HasOneAnswer = (db : Database) (query : SelectTree) (rows other : List (List Oid))
+    → IsAnswer db query rows → IsAnswer db query other → rows ≡ other
+
+-- and has one where each of its paths starts somewhere
+abbrev pub HasSomeAnswer : Type 0
+HasSomeAnswer = (db : Database) (query : SelectTree)
+    → ((start : List ℕ) → StartsNowhere db.graph.names query start → ⊥)
+    → (rows : List (List Oid)) × IsAnswer db query rows
+
+-- each select is accepted, or has a first cause of refusal
+abbrev pub HasSomeVerdict : Type 0
+HasSomeVerdict = (names : List (List ℕ × Oid)) (query : SelectTree)
+    → IsAccepted names query ⊎ ((refusal : Refusal) × IsFirst (Cause names query) order refusal)
+
+-- and not both, nor two of these
+abbrev pub HasOneVerdict : Type 0
+HasOneVerdict = (names : List (List ℕ × Oid)) (query : SelectTree) (refusal : Refusal)
+    → IsFirst (Cause names query) order refusal
+    → (IsAccepted names query → ⊥) × ((other : Refusal) → IsFirst (Cause names query) order other → refusal ≡ other)

@@ -1,0 +1,12 @@
+pub mod Types
+pub mod Places
+pub mod Conditions
+pub mod Ranges
+pub mod Answers
+pub mod Faults
+pub mod Refusals
+pub mod Bound
+pub mod Bindings
+pub mod SlotRows
+pub mod Laws
+pub mod inside

@@ -1,0 +1,122 @@
+-- Why a select is refused before it runs: the first cause that applies.
+use Rattle.std.specs.Prelude.{◌≡◌, ◌≢◌, ℕ, ◌<◌, ◌⊎◌, List, [], ◌∷◌, ◌++◌, length, sum_by, Option, Some, None, MatchOption, AllPairs, Contains}
+use Rattle.std.specs.List.{flat_map}
+use Rattle.lorel_bind.specs.Types.{Oid, Refusal, RANGES, ITEMS, LEAVES}
+use Rattle.lorel_bind.specs.Types.refusals
+use Rattle.lore_base.specs.Names.{object_of}
+use Rattle.lore_base.specs.Paths.{leaves_of, trees_of}
+use Rattle.lorel_trees.specs.Trees.{SelectTree, FromTree, CondTree, CondTrees}
+use Rattle.lorel_trees.specs.Trees as t
+use Rattle.lorel_bind.specs.Faults.{refusal_of}
+use Rattle.lorel_bind.specs.declared.faults.BindFault.{BindFault}
+use Rattle.lorel_bind.specs.Places.{named, Place, Scope, place_of, scope_behind, cell_places}
+use Rattle.lorel_bind.specs.Conditions.{cond_places}
+use Rattle.lorel_bind.specs.Ranges.{Range, ArePlain, AreFused, IsUsed}
+
+-- the places of from items, where the variables of earlier ones are in scope
+abbrev pub from_places : Scope → List FromTree → List Place
+from_places scope [] = []
+from_places scope (item ∷ items) =
+    place_of scope item.path ∷ from_places (scope_behind item.variable scope) items
+
+-- each path in the text of a select
+abbrev pub text_places : SelectTree → List Place
+text_places query = from_places [] query.tail.ranges ++ (cell_places query ++ cond_places query)
+
+abbrev pub item_variables : Option (List ℕ) → List (List ℕ)
+item_variables None = []
+item_variables (Some variable) = variable ∷ []
+
+-- the variables of quantifiers, in text order
+abbrev mutual
+  pub quantifier_variables : CondTree → List (List ℕ)
+  quantifier_variables (t.or members) = all_quantifier_variables members
+  quantifier_variables (t.and members) = all_quantifier_variables members
+  quantifier_variables (t.not body) = quantifier_variables body
+  quantifier_variables (t.exists variable path body) = variable ∷ quantifier_variables body
+  quantifier_variables (t.for_all variable path body) = variable ∷ quantifier_variables body
+  quantifier_variables (t.compare left op right) = []
+  quantifier_variables (t.same left right) = []
+
+  pub all_quantifier_variables : CondTrees → List (List ℕ)
+  all_quantifier_variables t.no_cond = []
+  all_quantifier_variables (t.cond first others) = quantifier_variables first ++ all_quantifier_variables others
+
+abbrev pub cond_variables : Option CondTree → List (List ℕ)
+cond_variables None = []
+cond_variables (Some cond) = quantifier_variables cond
+
+-- the path variables and object variables of from items
+abbrev pub from_variables : List FromTree → List (List ℕ)
+from_variables items = flat_map (λ (item : FromTree). item_variables item.word ++ item_variables item.variable) items
+
+-- the identifiers that are ranged anywhere in the statement
+abbrev pub ranged_identifiers : SelectTree → List (List ℕ)
+ranged_identifiers query = from_variables query.tail.ranges ++ cond_variables query.tail.cond
+
+-- a path starts at an identifier that is neither a variable in scope nor a name
+abbrev pub StartsNowhere : List (List ℕ × Oid) → SelectTree → List ℕ → Type 0
+StartsNowhere names query start =
+    (place : Place) × Contains (text_places query) place × (place.root ≡ named start)
+    × (object_of names start ≡ None)
+
+-- such an identifier isn't ranged anywhere in the statement
+abbrev pub HasUnknownName : List (List ℕ × Oid) → SelectTree → Type 0
+HasUnknownName names query =
+    (start : List ℕ) × StartsNowhere names query start × (Contains (ranged_identifiers query) start → ⊥)
+
+-- such an identifier is ranged elsewhere
+abbrev pub HasUnknownVariable : List (List ℕ × Oid) → SelectTree → Type 0
+HasUnknownVariable names query =
+    (start : List ℕ) × StartsNowhere names query start × Contains (ranged_identifiers query) start
+
+-- one identifier is ranged twice
+abbrev pub HasDuplicate : SelectTree → Type 0
+HasDuplicate query = AllPairs (λ a b. a ≢ b) (ranged_identifiers query) → ⊥
+
+-- more ranges are left after fusing than a row has slots
+abbrev pub HasManyRanges : SelectTree → Type 0
+HasManyRanges query = (plain : List Range) × (fused : List Range) × ArePlain query plain
+    × AreFused (IsUsed query plain) plain fused × (RANGES < length fused)
+
+-- so many leaves stand in these paths
+abbrev pub leaves_in : List Place → ℕ
+leaves_in places = sum_by (λ place. leaves_of (trees_of place.parts)) places
+
+-- too many ranges, items or path leaves
+abbrev pub HasTooMany : SelectTree → Type 0
+HasTooMany query =
+    HasManyRanges query ⊎ ((ITEMS < length query.items) ⊎ (LEAVES < leaves_in (text_places query)))
+
+-- the cause of each refusal of a select over these names
+abbrev pub Cause : List (List ℕ × Oid) → SelectTree → Refusal → Type 0
+Cause names query refusals.UnknownName = HasUnknownName names query
+Cause names query refusals.UnknownVariable = HasUnknownVariable names query
+Cause names query refusals.DuplicateVariable = HasDuplicate query
+Cause names query refusals.TooManyRanges = HasTooMany query
+Cause names query _ = ⊥
+
+-- the order in which causes are tried
+abbrev pub order : List Refusal
+order = refusals.UnknownName ∷ refusals.UnknownVariable ∷ refusals.DuplicateVariable ∷ refusals.TooManyRanges ∷ []
+
+-- of causes that are tried in order
+module _ (Applies : Refusal → Type 0) where
+  -- this is the first that applies
+  abbrev pub IsFirst : List Refusal → Refusal → Type 0
+  IsFirst [] refusal = ⊥
+  IsFirst (next ∷ others) refusal =
+      (Applies next × (refusal ≡ next)) ⊎ ((Applies next → ⊥) × IsFirst others refusal)
+
+  -- none applies
+  abbrev pub IsClear : List Refusal → Type 0
+  IsClear [] = Unit {0}
+  IsClear (next ∷ others) = (Applies next → ⊥) × IsClear others
+
+-- a fault of binding is want of memory, or tells the first cause that applies
+abbrev pub IsRefusedBy : List (List ℕ × Oid) → SelectTree → BindFault → Type 0
+IsRefusedBy names query fault = MatchOption (refusal_of fault) (Unit {0}) (IsFirst (Cause names query) order)
+
+-- no cause applies
+abbrev pub IsAccepted : List (List ℕ × Oid) → SelectTree → Type 0
+IsAccepted names query = IsClear (Cause names query) order

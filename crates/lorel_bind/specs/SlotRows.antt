@@ -1,0 +1,45 @@
+-- The rows of a bound select: its slots hold the objects of its ranges, and its cells show some of them.
+use Rattle.std.specs.Prelude.{◌≡◌, ℕ, List, [], Option, Some, MatchOption, slice_get, Contains}
+use Rattle.std.specs.List.{AllZip}
+use Rattle.lorel_bind.specs.Types.{Oid, Edge, Value, Start, BoundStart}
+use Rattle.lorel_bind.specs.Types.starts
+use Rattle.lorel_bind.specs.Types.bound_starts
+use Rattle.lore_base.specs.Databases.{Database}
+use Rattle.lore_base.specs.Paths.{Reaches}
+use Rattle.lore_base.specs.Comparisons.{Compares}
+use Rattle.lorel_bind.specs.Conditions.{CondOf, Holds}
+use Rattle.lorel_bind.specs.Bound.{RangeTree, BoundPathTree, BoundTree}
+
+-- the object of a start, where the slots hold these objects
+abbrev pub StartsAt : List Oid → Start → Oid → Type 0
+StartsAt slots (starts.Named own) oid = own ≡ oid
+StartsAt slots (starts.Slot slot) oid = slice_get slots slot ≡ Some oid
+
+-- the object of a start in a condition, where the quantifiers around it have these objects, from the outermost on
+abbrev pub BoundStartsAt : List Oid → List Oid → BoundStart → Oid → Type 0
+BoundStartsAt slots objects (bound_starts.Named own) oid = own ≡ oid
+BoundStartsAt slots objects (bound_starts.Slot slot) oid = slice_get slots slot ≡ Some oid
+BoundStartsAt slots objects (bound_starts.Quantified depth) oid = slice_get objects depth ≡ Some oid
+
+-- a path of the condition reaches an object from its start
+abbrev pub MeetsBy : List (List ℕ) → List Edge → List Oid → List Oid → BoundPathTree → Oid → Type 0
+MeetsBy labels edges slots objects path oid =
+    (start : Oid) × BoundStartsAt slots objects path.start start × Reaches labels edges path.rest start oid
+
+-- the condition holds of these slots, over label texts, edges and objects with their values; where there is none each
+-- holds
+abbrev pub HoldsOver : List (List ℕ) → List Edge → List (Oid × Value) → List Oid → Option (CondOf BoundPathTree) → Type 0
+HoldsOver labels edges objects slots condition = MatchOption condition (Unit {0})
+    (λ cond. Holds (MeetsBy labels edges slots) (λ oid value. Contains objects (oid, value)) Compares [] cond)
+
+-- each slot holds an object that its range's path reaches from the object of its start
+abbrev pub AreFilled : List (List ℕ) → List Edge → List RangeTree → List Oid → Type 0
+AreFilled labels edges ranges slots = AllZip (λ range oid.
+    (start : Oid) × StartsAt slots range.start start × Reaches labels edges range.path start oid) ranges slots
+
+-- the row shows the cells of slots that are filled and that the condition holds of
+pub record IsSlotRow (db : Database) (bound : BoundTree) (row : List Oid) : Type 0 where
+  pub slots : List Oid
+  pub filled : AreFilled db.labels db.graph.edges bound.ranges slots
+  pub holds : HoldsOver db.labels db.graph.edges db.graph.objects slots bound.cond
+  pub shown : AllZip (StartsAt slots) bound.cells row

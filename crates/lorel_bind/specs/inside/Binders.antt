@@ -1,0 +1,50 @@
+-- What the program binds a select and its condition by, and how it binds conditions.
+use Rattle.std.specs.Prelude.{◌≡◌, ℕ, List, length}
+use denote.Ref.{Bor}
+use Rattle.lorel_trees.specs.Trees.{RootedTree, OperandTree, CondTree, CondTrees, SelectTree}
+use Rattle.lorel_bind.specs.Places.{Place, Scope, place_of}
+use Rattle.lorel_bind.specs.Conditions.{OperandOf, CondOf, CondsOf, operand_in, cond_in, conds_in}
+use Rattle.lorel_bind.specs.Ranges.{Range, places, ArePlain, AreFused, IsUsed}
+use Rattle.lorel_bind.specs.Bound.{BoundPathTree}
+use Rattle.lorel_bind.specs.Bindings.{CorrespondOperands, Correspond, CorrespondEach}
+use Rattle.lorel_bind.specs.inside.Scopes.{enclosed, IsScope, names_of}
+use Rattle.lorel_bind.specs.inside.Views.{place_trees, ranges_of, texts}
+use Rattle.lorel_bind.specs.inside.Links.{IsIndexed}
+use Rattle.lorel_bind.specs.inside.Slots.{BindsPath}
+use Rattle.lorel_bind.specs.declared.links.Plain.{Plain}
+use Rattle.lorel_bind.specs.declared.conditions.Binder.{Binder}
+
+-- a select is ready: its fused ranges, and the places of its plain ones
+pub record IsReady (query : SelectTree) (plain : Plain) (fused : List Range) : Type 0 where
+  pub ranges : List Range
+  pub made : ArePlain query ranges
+  pub places : places ranges ≡ place_trees plain.places.items
+  pub fuses : AreFused (IsUsed query ranges) ranges fused
+  pub indexed : IsIndexed plain
+
+-- a binder has the variables of the scope and the places of the plain ranges
+pub record Serves (binder : Binder) (plain : List Range) (scope : Scope) : Type 0 where
+  pub known : IsScope (names_of binder.variables.now) scope
+  pub places : places plain ≡ place_trees binder.plain.now.places.items
+
+-- it binds a path by its slots
+abbrev pub Binds : Binder → List Range → Place → BoundPathTree → Type 0
+Binds binder plain = BindsPath binder.slots.now.names.now (ranges_of binder.slots.now.links.items) plain
+
+-- within the quantifiers of these variables, the outermost first
+module _ (binder : Binder) (quantified : List (Bor (List ℕ))) where
+  abbrev pub BindsRooted : RootedTree → BoundPathTree → Type 0
+  BindsRooted path bound = (plain : List Range) (scope : Scope) → Serves binder plain scope
+      → Binds binder plain (place_of (enclosed 0 (texts quantified) scope) path) bound
+
+  abbrev pub BindsOperand : OperandTree → OperandOf BoundPathTree → Type 0
+  BindsOperand operand bound = (plain : List Range) (scope : Scope) → Serves binder plain scope
+      → CorrespondOperands (Binds binder plain) (operand_in (enclosed 0 (texts quantified) scope) operand) bound
+
+  abbrev pub BindsCond : CondTree → CondOf BoundPathTree → Type 0
+  BindsCond cond bound = (plain : List Range) (scope : Scope) → Serves binder plain scope
+      → Correspond (Binds binder plain) (cond_in (enclosed 0 (texts quantified) scope) (length quantified) cond) bound
+
+  abbrev pub BindsEach : CondTrees → CondsOf BoundPathTree → Type 0
+  BindsEach conds bound = (plain : List Range) (scope : Scope) → Serves binder plain scope
+      → CorrespondEach (Binds binder plain) (conds_in (enclosed 0 (texts quantified) scope) (length quantified) conds) bound

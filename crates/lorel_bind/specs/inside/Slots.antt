@@ -1,0 +1,38 @@
+-- What the program finds of slots: starts, ranges and paths that are right wherever some start stands for the place.
+use Rattle.std.specs.Prelude.{ℕ, List}
+use Rattle.lore_base.specs.Paths.{PathTree}
+use Rattle.lorel_bind.specs.Types.{Oid, Start, BoundStart}
+use Rattle.lorel_bind.specs.Places.{Place}
+use Rattle.lorel_bind.specs.Ranges.{Range, IsFixed}
+use Rattle.lorel_bind.specs.Bound.{RangeTree, BoundPathTree}
+use Rattle.lorel_bind.specs.Bindings.{StandsFor, StandsForAny, IsBoundRange, IsBoundPath}
+
+-- over these names and fused ranges
+module _ (names : List (List ℕ × Oid)) (fused : List Range) where
+  -- some start stands for the place
+  abbrev pub CanStart : Place → Type 0
+  CanStart place = (start : Start) × StandsFor names fused place start
+
+  -- and so in a condition
+  abbrev pub CanStartAny : Place → Type 0
+  CanStartAny place = (start : BoundStart) × StandsForAny names fused place start
+
+  -- where some start stands for the place, this one does
+  abbrev pub Starts : Place → Start → Type 0
+  Starts place start = CanStart place → StandsFor names fused place start
+
+  -- and so in a condition
+  abbrev pub StartsAny : Place → BoundStart → Type 0
+  StartsAny place start = CanStartAny place → StandsForAny names fused place start
+
+  -- where some start stands for that of the range, it is bound
+  abbrev pub BindsRange : Range → RangeTree → Type 0
+  BindsRange range bound = CanStart range.start → IsBoundRange names fused range bound
+
+  -- some start stands for what the path is fixed at
+  abbrev pub CanBind : List Range → Place → Type 0
+  CanBind plain path = (fixed : Place) (rest : List PathTree) → IsFixed plain path fixed rest → CanStartAny fixed
+
+  -- where that is so, the path is bound
+  abbrev pub BindsPath : List Range → Place → BoundPathTree → Type 0
+  BindsPath plain path bound = CanBind plain path → IsBoundPath names plain fused path bound

@@ -1,0 +1,39 @@
+-- What the places and links of the program stand for.
+use Rattle.std.specs.Prelude.{ℕ, List, map, take}
+use denote.Ref.{Bor}
+use Rattle.lore_base.specs.Paths.{path_tree}
+use Rattle.lorel_bind.specs.Places as p
+use Rattle.lorel_bind.specs.Ranges as r
+use Rattle.lorel_bind.specs.declared.places.Root.{Root}
+use Rattle.lorel_bind.specs.declared.places.Root.TheVariants.{Named, Ranged, Quantified}
+use Rattle.lorel_bind.specs.declared.places.Place.{Place}
+use Rattle.lorel_bind.specs.declared.links.Link.{Link}
+
+abbrev pub root_tree : Root → p.Root
+root_tree (Named name) = p.named name.now
+root_tree (Ranged variable) = p.ranged variable.now
+root_tree (Quantified depth) = p.quantified depth
+
+abbrev pub place_tree : Place → p.Place
+place_tree place = record { root = root_tree place.root; parts = map path_tree place.parts.now }
+
+-- so many parts of a place alone
+abbrev pub prefix_of : ℕ → p.Place → p.Place
+prefix_of len place = record { root = place.root; parts = take len place.parts }
+
+abbrev pub place_trees : List Place → List p.Place
+place_trees places = map place_tree places
+
+abbrev pub texts : List (Bor (List ℕ)) → List (List ℕ)
+texts list = map (λ text. text.now) list
+
+-- the range of a link
+abbrev pub range_of : Link → r.Range
+range_of link = record {
+  start = place_tree link.start;
+  parts = map (λ part. path_tree part.now) link.parts.items;
+  place = place_tree link.place;
+}
+
+abbrev pub ranges_of : List Link → List r.Range
+ranges_of links = map range_of links

@@ -1,0 +1,94 @@
+ghost use Rattle.std.specs.Prelude.{ℕ, List, IfOk, IfErr, OnOk};
+ghost use Rattle.lorel_trees.specs.Trees.{select_tree};
+ghost use Rattle.lorel_bind.specs.Bound.{bound_tree};
+ghost use Rattle.lorel_bind.specs.Bindings.{HasNoPathVariable, IsShallow, IsBinding, IsRunnable};
+ghost use Rattle.lorel_bind.specs.Refusals.{StartsNowhere, IsAccepted, IsRefusedBy};
+ghost use Rattle.lorel_bind.specs.inside.Views.{ranges_of};
+ghost use Rattle.lorel_bind.specs.inside.Texts.{IsTextOf};
+ghost use Rattle.lorel_bind.specs.inside.Binders.{IsReady};
+
+use crate::bound::Bound;
+use crate::causes::check_text;
+use crate::conditions::Binder;
+use crate::faults::BindFault;
+use crate::fusing::fuse;
+use crate::links::{Links, Plain, plain_links};
+use crate::slots::Slots;
+use crate::text::{Text, text_of};
+use lore_base::limits::RANGES;
+use lore_base::{Names, NoMemory};
+use lorel_trees::Select;
+use std::alloc::Global;
+
+/// Binds a select that has no path variable: finds what each of its paths starts at, makes its
+/// ranges, fuses those whose objects nobody looks at, and gives each that is left a slot.
+///
+/// It answers the first cause that applies: a path starts at an identifier that is neither a
+/// variable in scope nor a name, and is ranged nowhere (UnknownName), or elsewhere
+/// (UnknownVariable); an identifier is ranged twice (DuplicateVariable); or there are more than 8
+/// ranges after fusing, more than 8 items, or more than 64 path leaves (TooManyRanges). It takes
+/// steps linear in the text of the select.
+pub fn bind(alloc: Global, query: &Select, names: &Names) -> Result<Bound, BindFault>
+    requires plain { HasNoPathVariable (select_tree query.now) }
+    requires shallow { IsShallow (select_tree query.now) }
+    ensures binding { IfOk result (λ bound.
+        IsBinding names.now (select_tree query.now) (bound_tree bound)) }
+    ensures runnable { IfOk result (λ bound. IsRunnable (bound_tree bound)) }
+    ensures accepted { OnOk result (IsAccepted names.now (select_tree query.now)) }
+    ensures refused { IfErr result (IsRefusedBy names.now (select_tree query.now)) }
+{
+    let text = text_of(alloc, query)?;
+    check_text(alloc, &text, names)?;
+    let ranges = fused_links(alloc, query, &text)?;
+    if RANGES < ranges.links.len() {
+        return Err(BindFault::TooManyRanges);
+    }
+    let slots = Slots {
+        names,
+        links: ranges.links,
+    };
+    Ok(bound_select(alloc, query, &text, &ranges.plain, &slots)?)
+}
+
+// The fused ranges of a select, and the places of its plain ones.
+fn fused_links<'q>(alloc: Global, query: &'q Select, text: &Text<'q>) -> Result<Links<'q>, NoMemory>
+    requires { IsTextOf (select_tree query.now) text.now }
+    ensures { IfOk result (λ ranges.
+        IsReady (select_tree query.now) ranges.plain (ranges_of ranges.links.items)) }
+{
+    let mut ranges = plain_links(alloc, query, text)?;
+    ranges.mark_used(text);
+    fuse(&mut ranges.links)?;
+    Ok(ranges)
+}
+
+// The select by slots.
+fn bound_select<'q>(
+    alloc: Global,
+    query: &'q Select,
+    text: &Text<'q>,
+    plain: &Plain<'q>,
+    slots: &Slots<'q, '_>,
+) -> Result<Bound, NoMemory>
+    requires shallow { IsShallow (select_tree query.now) }
+    requires text { IsTextOf (select_tree query.now) text.now }
+    requires ready { IsReady (select_tree query.now) plain.now (ranges_of slots.now.links.items) }
+    requires somewhere { (start : List ℕ)
+        → StartsNowhere slots.now.names.now (select_tree query.now) start → ⊥ }
+    ensures { IfOk result (λ bound.
+        IsBinding slots.now.names.now (select_tree query.now) (bound_tree bound)) }
+{
+    let ranges = slots.ranges(alloc)?;
+    let cells = slots.cells(alloc, text.cells.as_slice())?;
+    let binder = Binder {
+        variables: &text.variables,
+        plain,
+        slots,
+    };
+    let cond = binder.condition(alloc, &query.tail.cond)?;
+    Ok(Bound {
+        ranges,
+        cells,
+        cond,
+    })
+}

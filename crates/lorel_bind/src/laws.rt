@@ -1,0 +1,56 @@
+//! Laws of the query language: ranges, answers and refusals are determined and exist, and neither
+//! fusing nor binding changes a row.
+
+ghost use Rattle.lorel_bind.specs.Laws.{HasOnePlain, HasSomePlain, HasOneFused, HasSomeFused};
+ghost use Rattle.lorel_bind.specs.Laws.{FusingKeepsRows, BindingKeepsRows, HasOneAnswer, HasSomeAnswer};
+ghost use Rattle.lorel_bind.specs.Laws.{HasOneVerdict, HasSomeVerdict};
+
+/// A select has one list of plain ranges.
+pub fn one_list_of_plain_ranges()
+    ensures { HasOnePlain }
+{}
+
+/// A select has some list of plain ranges.
+pub fn some_list_of_plain_ranges()
+    ensures { HasSomePlain }
+{}
+
+/// A select has one list of fused ranges.
+pub fn one_list_of_fused_ranges()
+    ensures { HasOneFused }
+{}
+
+/// The plain ranges of a select can be fused.
+pub fn some_list_of_fused_ranges()
+    ensures { HasSomeFused }
+{}
+
+/// A select has one answer.
+pub fn one_answer()
+    ensures { HasOneAnswer }
+{}
+
+/// A select has an answer where each of its paths starts somewhere.
+pub fn some_answer()
+    ensures { HasSomeAnswer }
+{}
+
+/// The valuations of the fused ranges give the rows of a select.
+pub fn fusing_keeps_the_rows()
+    ensures { FusingKeepsRows }
+{}
+
+/// A bound select has the rows of the select that it stands for.
+pub fn binding_keeps_the_rows()
+    ensures { BindingKeepsRows }
+{}
+
+/// A select is accepted, or some cause of refusal is the first that applies.
+pub fn some_verdict()
+    ensures { HasSomeVerdict }
+{}
+
+/// No select is both accepted and refused, and none has two first causes.
+pub fn one_verdict()
+    ensures { HasOneVerdict }
+{}

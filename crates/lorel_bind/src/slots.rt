@@ -1,0 +1,140 @@
+ghost use Rattle.std.specs.Prelude.{◌≡◌, ◌≢◌, ℕ, ◌≤◌, length, map, slice_get, Some, Contains, IfSome, IfNone};
+ghost use Rattle.std.specs.Prelude.{IfOk};
+ghost use Rattle.std.specs.List.{AllZip};
+ghost use Rattle.lore_base.specs.Paths.{path_tree, seq, trees_of};
+ghost use Rattle.lorel_bind.specs.Types.{Oid as TheOid, RANGES as THE_RANGES};
+ghost use Rattle.lorel_bind.specs.Types.starts;
+ghost use Rattle.lorel_bind.specs.Bound.{range_tree};
+ghost use Rattle.lorel_bind.specs.Places.{at_root, quantified};
+ghost use Rattle.lorel_bind.specs.Ranges.{places};
+ghost use Rattle.lorel_bind.specs.Bindings.{StandsFor};
+ghost use Rattle.lorel_bind.specs.inside.Views.{place_tree, place_trees, range_of, ranges_of};
+ghost use Rattle.lorel_bind.specs.inside.Slots.{Starts, StartsAny, BindsRange};
+
+use crate::bound::{BoundStart, CellList, Range, RangeList, Start};
+use crate::links::Link;
+use crate::places::{Place, Root, same_place};
+use lore_base::limits::RANGES;
+use lore_base::{Names, NoMemory, Oid, Path, PathList, TryCopy};
+use std::alloc::Global;
+
+// The slots of the fused ranges: that of a place is its number among them.
+#[derive(Drop)]
+pub(crate) struct Slots<'q, 'n> {
+    pub(crate) names: &'n Names,
+    pub(crate) links: Vec<Link<'q>>,
+    ghost few: { length links.items ≤ THE_RANGES },
+}
+
+impl<'q, 'n> Slots<'q, 'n> {
+    // The slot of the range with this place, or 0 where there is none.
+    fn slot(&self, place: Place<'q>) -> u32
+        ensures { Contains (places (ranges_of self.now.links.items)) (place_tree place.entry)
+            → slice_get (places (ranges_of self.now.links.items)) result ≡ Some (place_tree place.entry) }
+    {
+        'links: for (slot, link) in self.links.iter().enumerate() {
+            if same_place(&link.place, &place) {
+                return slot as u32;
+            }
+        }
+        0
+    }
+
+    // What a place starts at: the object of a name, or the slot of its range.
+    pub(crate) fn start(&self, place: Place<'q>) -> Start
+        ensures { Starts self.now.names.now (ranges_of self.now.links.items) (place_tree place.entry)
+            result }
+    {
+        match self.named(place) {
+            Some(oid) => Start::Named(oid),
+            None => Start::Slot(self.slot(place)),
+        }
+    }
+
+    // The same in a condition, where it may also be the object of a quantifier.
+    pub(crate) fn bound_start(&self, place: Place<'q>) -> BoundStart
+        ensures { StartsAny self.now.names.now (ranges_of self.now.links.items) (place_tree place.entry)
+            result }
+    {
+        match quantifier_of(place) {
+            Some(depth) => BoundStart::Quantified(depth),
+            None => match self.start(place) {
+                Start::Named(oid) => BoundStart::Named(oid),
+                Start::Slot(slot) => BoundStart::Slot(slot),
+            },
+        }
+    }
+
+    // The object of a place that is a name.
+    fn named(&self, place: Place<'q>) -> Option<Oid>
+        ensures some { IfSome result (λ oid. StandsFor self.now.names.now (ranges_of self.now.links.items)
+            (place_tree place.entry) (starts.Named oid)) }
+        ensures none { IfNone result ((oid : TheOid) → StandsFor self.now.names.now
+            (ranges_of self.now.links.items) (place_tree place.entry) (starts.Named oid) → ⊥) }
+    {
+        match place.root {
+            Root::Named(name) if place.parts.is_empty() => self.names.find(name),
+            _ => None,
+        }
+    }
+
+    // The ranges by slots.
+    pub(crate) fn ranges(&self, alloc: Global) -> Result<RangeList, NoMemory>
+        ensures { IfOk result (λ ranges.
+            AllZip (BindsRange self.now.names.now (ranges_of self.now.links.items))
+            (ranges_of self.now.links.items) (map range_tree ranges)) }
+    {
+        let mut ranges = RangeList::with_capacity(alloc, self.links.len())?;
+        'links: for link in &self.links {
+            ranges.push(self.range(alloc, link)?)?;
+        }
+        Ok(ranges)
+    }
+
+    // A range by slots.
+    fn range(&self, alloc: Global, link: &Link<'q>) -> Result<Range, NoMemory>
+        ensures { IfOk result (λ range.
+            BindsRange self.now.names.now (ranges_of self.now.links.items) (range_of link.now)
+            (range_tree range)) }
+    {
+        let path = joined_path(alloc, link.parts.as_slice())?;
+        let start = self.start(link.start);
+        Ok(Range { start, path })
+    }
+
+    // The cells by slots.
+    pub(crate) fn cells(&self, alloc: Global, cells: &[Place<'q>]) -> Result<CellList, NoMemory>
+        ensures { IfOk result (λ starts.
+            AllZip (Starts self.now.names.now (ranges_of self.now.links.items))
+            (place_trees cells.now) starts) }
+    {
+        let mut starts = CellList::with_capacity(alloc, cells.len())?;
+        'cells: for place in cells {
+            starts.push(self.start(*place))?;
+        }
+        Ok(starts)
+    }
+}
+
+// The quantifier whose object is at the place.
+fn quantifier_of(place: Place) -> Option<u32>
+    ensures some { IfSome result (λ depth. place_tree place.entry ≡ at_root (quantified depth)) }
+    ensures none { IfNone result ((depth : ℕ) → place_tree place.entry ≢ at_root (quantified depth)) }
+{
+    match place.root {
+        Root::Quantified(depth) if place.parts.is_empty() => Some(depth),
+        _ => None,
+    }
+}
+
+// The path of these parts, one after another.
+fn joined_path(alloc: Global, parts: &[&Path]) -> Result<Path, NoMemory>
+    ensures { IfOk result (λ path.
+        path_tree path ≡ seq (trees_of (map (λ part. path_tree part.now) parts.now))) }
+{
+    let mut list = PathList::new(alloc);
+    'parts: for part in parts {
+        list.push(part.try_copy(alloc)?)?;
+    }
+    Ok(Path::Seq(list))
+}

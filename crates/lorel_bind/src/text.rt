@@ -1,0 +1,270 @@
+ghost use Rattle.std.specs.Prelude.{◌≡◌, ◌+◌, ◌≤◌, [], ◌∷◌, ◌++◌, length, map, option_map, IfOk};
+ghost use Rattle.std.specs.Prelude.{OnOk, MatchOption};
+ghost use Rattle.lorel_trees.specs.Trees.{from_tree, item_tree, select_tree, cond_tree, conds_from};
+ghost use Rattle.lorel_trees.specs.Trees.{operand_tree};
+ghost use Rattle.lorel_bind.specs.Types.{NESTING};
+ghost use Rattle.lorel_bind.specs.Places.{Scope, item_places};
+ghost use Rattle.lorel_bind.specs.Conditions.{cond_in, conds_in, operand_in, paths_in, paths_of};
+ghost use Rattle.lorel_bind.specs.Conditions.{paths_of_all, operand_paths};
+ghost use Rattle.lorel_bind.specs.Refusals.{item_variables, cond_variables, quantifier_variables};
+ghost use Rattle.lorel_bind.specs.Refusals.{all_quantifier_variables};
+ghost use Rattle.lorel_bind.specs.Bindings.{IsShallow, depth_of, depth_of_all};
+ghost use Rattle.lorel_bind.specs.inside.Views.{place_trees, texts};
+ghost use Rattle.lorel_bind.specs.inside.Scopes.{enclosed, IsScope, names_of};
+ghost use Rattle.lorel_bind.specs.inside.Texts.{IsTextOf, ReadsFrom, ReadsItems};
+
+use crate::places::Place;
+use crate::variables::Variables;
+use lore_base::{NoMemory, OemText};
+use lorel_trees::{Cond, FromItem, Item, Operand, Rooted, Select};
+use std::alloc::Global;
+
+// What the paths of a select stand for, and which identifiers it ranges, in text order.
+#[derive(Drop)]
+pub(crate) struct Text<'q> {
+    // The from items, and the variables that they bring into scope.
+    pub(crate) from: Found<'q>,
+    pub(crate) variables: Variables<'q>,
+    // The items.
+    pub(crate) cells: Vec<Place<'q>>,
+    // The condition.
+    pub(crate) condition: Found<'q>,
+}
+
+// The places of some paths, and the identifiers that are ranged there.
+#[derive(Drop)]
+pub(crate) struct Found<'q> {
+    pub(crate) places: Vec<Place<'q>>,
+    pub(crate) ranged: Vec<&'q OemText>,
+}
+
+// Resolves the start of each path of a select.
+pub(crate) fn text_of<'q>(alloc: Global, query: &'q Select) -> Result<Text<'q>, NoMemory>
+    requires shallow { IsShallow (select_tree query.now) }
+    ensures { IfOk result (IsTextOf (select_tree query.now)) }
+{
+    let mut variables = Variables::new(alloc);
+    let from = from_text(alloc, query.tail.ranges.as_slice(), &mut variables)?;
+    let cells = item_text(alloc, query.items.as_slice(), &variables)?;
+    let condition = condition_text(alloc, &query.tail.cond, &variables)?;
+    Ok(Text {
+        from,
+        variables,
+        cells,
+        condition,
+    })
+}
+
+// The paths of from items. The variable of each is in scope behind it.
+fn from_text<'q>(
+    alloc: Global,
+    items: &'q [FromItem],
+    variables: &mut Variables<'q>,
+) -> Result<Found<'q>, NoMemory>
+    requires { variables.old ≡ [] }
+    ensures { IfOk result (λ found. ReadsFrom (map from_tree items.now) found variables.new) }
+{
+    let mut found = Found::new(alloc);
+    found.places.reserve(items.len())?;
+    'items: for (number, item) in items.iter().enumerate() {
+        found.places.push(variables.place(&[], &item.path))?;
+        found.note(&item.word)?;
+        found.note(&item.variable)?;
+        variables.add_first(&item.variable, number)?;
+    }
+    Ok(found)
+}
+
+// The paths of items.
+fn item_text<'q>(
+    alloc: Global,
+    items: &'q [Item],
+    variables: &Variables<'q>,
+) -> Result<Vec<Place<'q>>, NoMemory>
+    ensures { IfOk result (λ places. (scope : Scope) → IsScope (names_of variables.now) scope
+        → ReadsItems scope (map item_tree items.now) places.items) }
+{
+    let mut places = Vec::with_capacity(alloc, items.len())?;
+    'items: for item in items {
+        push_item(&mut places, variables, item)?;
+    }
+    Ok(places)
+}
+
+// Adds the path of an item, if it is one.
+fn push_item<'q>(
+    places: &mut Vec<Place<'q>>,
+    variables: &Variables<'q>,
+    item: &'q Item,
+) -> Result<(), NoMemory>
+    ensures { OnOk result ((scope : Scope) → IsScope (names_of variables.now) scope
+        → place_trees places.new.items
+        ≡ place_trees places.old.items ++ item_places scope (item_tree item.now)) }
+{
+    match item {
+        Item::Object(path) => {
+            places.push(variables.place(&[], path))?;
+            Ok(())
+        }
+        Item::PathOf(_) => Ok(()),
+    }
+}
+
+// The paths of a condition, if there is one, and the variables of its quantifiers.
+fn condition_text<'q>(
+    alloc: Global,
+    cond: &'q Option<Cond>,
+    variables: &Variables<'q>,
+) -> Result<Found<'q>, NoMemory>
+    requires { MatchOption cond.now (Unit {0}) (λ cond. depth_of (cond_tree cond) ≤ NESTING) }
+    ensures places { IfOk result (λ found. (scope : Scope) → IsScope (names_of variables.now) scope
+        → place_trees found.places.items
+        ≡ paths_in (option_map (cond_in scope 0) (option_map cond_tree cond.now))) }
+    ensures ranged { IfOk result (λ found.
+        texts found.ranged.items ≡ cond_variables (option_map cond_tree cond.now)) }
+{
+    let mut found = Found::new(alloc);
+    match cond {
+        Some(cond) => {
+            found.add_cond(alloc, variables, &[], cond)?;
+            Ok(found)
+        }
+        None => Ok(found),
+    }
+}
+
+impl<'q> Found<'q> {
+    fn new(alloc: Global) -> Found<'q>
+        ensures places { result.places.items ≡ [] }
+        ensures ranged { result.ranged.items ≡ [] }
+    {
+        Found {
+            places: Vec::new(alloc),
+            ranged: Vec::new(alloc),
+        }
+    }
+
+    // Notes an identifier that is ranged, if there is one.
+    fn note(&mut self, identifier: &'q Option<OemText>) -> Result<(), NoMemory>
+        ensures places { OnOk result (self.new.places.items ≡ self.old.places.items) }
+        ensures ranged { OnOk result (texts self.new.ranged.items
+            ≡ texts self.old.ranged.items ++ item_variables identifier.now) }
+    {
+        match identifier {
+            Some(text) => {
+                self.ranged.push(text)?;
+                Ok(())
+            }
+            None => Ok(()),
+        }
+    }
+
+    // Adds the paths of a condition and the variables of its quantifiers, where these variables of
+    // quantifiers are in scope around it, the outermost first.
+    #[cycle(add)]
+    fn add_cond(
+        &mut self,
+        alloc: Global,
+        variables: &Variables<'q>,
+        quantified: &[&'q OemText],
+        cond: &'q Cond,
+    ) -> Result<(), NoMemory>
+        requires { length quantified.now + depth_of (cond_tree cond.now) ≤ NESTING }
+        ensures places { OnOk result ((scope : Scope) → IsScope (names_of variables.now) scope
+            → place_trees self.new.places.items ≡ place_trees self.old.places.items
+            ++ paths_of (cond_in (enclosed 0 (texts quantified.now) scope)
+            (length quantified.now) (cond_tree cond.now))) }
+        ensures ranged { OnOk result (texts self.new.ranged.items
+            ≡ texts self.old.ranged.items ++ quantifier_variables (cond_tree cond.now)) }
+    {
+        match cond {
+            Cond::Or(members) | Cond::And(members) => {
+                self.add_conds(alloc, variables, quantified, members.as_slice())
+            }
+            Cond::Not(body) => self.add_cond(alloc, variables, quantified, body),
+            Cond::Exists {
+                variable,
+                path,
+                body,
+            }
+            | Cond::ForAll {
+                variable,
+                path,
+                body,
+            } => {
+                self.places.push(variables.place(quantified, path))?;
+                self.ranged.push(variable)?;
+                let inner = joined(alloc, quantified, variable)?;
+                self.add_cond(alloc, variables, inner.as_slice(), body)
+            }
+            Cond::Compare { left, right, .. } => {
+                self.add_operand(variables, quantified, left)?;
+                self.add_operand(variables, quantified, right)
+            }
+            Cond::Same { left, right } => {
+                self.places.push(variables.place(quantified, left))?;
+                self.places.push(variables.place(quantified, right))?;
+                Ok(())
+            }
+        }
+    }
+
+    #[cycle(add)]
+    fn add_conds(
+        &mut self,
+        alloc: Global,
+        variables: &Variables<'q>,
+        quantified: &[&'q OemText],
+        conds: &'q [Cond],
+    ) -> Result<(), NoMemory>
+        requires { length quantified.now + depth_of_all (conds_from (map cond_tree conds.now))
+            ≤ NESTING }
+        ensures places { OnOk result ((scope : Scope) → IsScope (names_of variables.now) scope
+            → place_trees self.new.places.items ≡ place_trees self.old.places.items
+            ++ paths_of_all (conds_in (enclosed 0 (texts quantified.now) scope)
+            (length quantified.now) (conds_from (map cond_tree conds.now)))) }
+        ensures ranged { OnOk result (texts self.new.ranged.items ≡ texts self.old.ranged.items
+            ++ all_quantifier_variables (conds_from (map cond_tree conds.now))) }
+    {
+        'conds: for cond in conds {
+            self.add_cond(alloc, variables, quantified, cond)?;
+        }
+        Ok(())
+    }
+
+    fn add_operand(
+        &mut self,
+        variables: &Variables<'q>,
+        quantified: &[&'q OemText],
+        operand: &'q Operand,
+    ) -> Result<(), NoMemory>
+        requires { length quantified.now ≤ NESTING }
+        ensures places { OnOk result ((scope : Scope) → IsScope (names_of variables.now) scope
+            → place_trees self.new.places.items ≡ place_trees self.old.places.items
+            ++ operand_paths (operand_in (enclosed 0 (texts quantified.now) scope)
+            (operand_tree operand.now))) }
+        ensures ranged { OnOk result (self.new.ranged.items ≡ self.old.ranged.items) }
+    {
+        match operand {
+            Operand::At(path) => {
+                self.places.push(variables.place(quantified, path))?;
+                Ok(())
+            }
+            Operand::Atom(_) => Ok(()),
+        }
+    }
+}
+
+// These variables of quantifiers, and a further one within.
+pub(crate) fn joined<'q>(
+    alloc: Global,
+    quantified: &[&'q OemText],
+    variable: &'q OemText,
+) -> Result<Vec<&'q OemText>, NoMemory>
+    ensures { IfOk result (λ inner. texts inner.items ≡ texts quantified.now ++ variable.now ∷ []) }
+{
+    let mut inner = Vec::with_capacity(alloc, quantified.len() + 1)?;
+    inner.extend_from_slice(quantified)?;
+    inner.push(variable)?;
+    Ok(inner)
+}

@@ -1,0 +1,100 @@
+ghost use Rattle.std.specs.Prelude.{◌≡◌, ◌≤◌, option_map};
+ghost use Rattle.std.specs.Option.{option_copied};
+ghost use Rattle.lorel_bind.specs.Bound.{bound_cond};
+ghost use Rattle.lorel_bind.specs.Conditions.{paths_in};
+ghost use Rattle.lorel_bind.specs.SlotRows.{HoldsOver};
+ghost use Rattle.lorel_eval.specs.Types.{LEAVES};
+ghost use Rattle.lorel_eval.specs.Tests.{rest_leaves};
+
+use crate::conditions::cond_holds;
+use crate::subject::Subject;
+use index_traits::{Adjacent, Row, RowTest, ValueOf};
+use lore_base::{NoMemory, Oid, Steps};
+use lorel_bind::BoundCond;
+use oem_labels::LabelTable;
+use std::alloc::Global;
+use std::marker::Model;
+use std::sync::ledger::Ledger;
+
+/// A bound condition over a database, or no condition, which holds of every row. Contracts see the
+/// label texts, the edges, the objects with their values, and the condition.
+#[derive(Drop)]
+pub struct Test<'a, A: Adjacent, G: ValueOf> {
+    cond: Option<&'a BoundCond>,
+    graph: &'a A,
+    values: &'a G,
+    labels: &'a LabelTable,
+}
+
+impl<'a, A: Adjacent, G: ValueOf> Model for Test<'a, A, G> {
+    ghost use Rattle.std.specs.Prelude.{◌≤◌, option_map};
+    ghost use Rattle.std.specs.Option.{option_copied};
+    ghost use Rattle.std.specs.Coded.{codes};
+    ghost use Rattle.lorel_bind.specs.contracts.bound.BoundCond as bound_cond_contract;
+    ghost use Rattle.lorel_bind.specs.Bound.{bound_cond};
+    ghost use Rattle.lorel_bind.specs.Conditions.{paths_in};
+    ghost use Rattle.lorel_eval.specs.Types.{LEAVES};
+    ghost use Rattle.lorel_eval.specs.Tests.{CondOver, rest_leaves};
+
+    ghost Value = { CondOver };
+
+    ghost coded = { Prim.hlevel (codes, bound_cond_contract.the_row.coded) };
+
+    ghost view = { λ test. record {
+      labels = test.labels.now;
+      edges = A.edges test.graph.now;
+      objects = G.objects test.values.now;
+      cond = option_copied test.cond;
+    } };
+
+    ghost invariant = { λ test.
+        rest_leaves (paths_in (option_map bound_cond (option_copied test.cond))) ≤ LEAVES };
+}
+
+impl<'a, A: Adjacent, G: ValueOf> Test<'a, A, G> {
+    /// The test of this condition over a graph, the values of its objects and its table of labels. The
+    /// rests of the condition's paths have at most 64 leaves together. Takes no memory.
+    pub fn new(
+        cond: Option<&'a BoundCond>,
+        graph: &'a A,
+        values: &'a G,
+        labels: &'a LabelTable,
+    ) -> Test<'a, A, G>
+        requires { rest_leaves (paths_in (option_map bound_cond (option_copied cond))) ≤ LEAVES }
+        ensures labels { result.labels ≡ labels.now }
+        ensures edges { result.edges ≡ A.edges graph.now }
+        ensures objects { result.objects ≡ G.objects values.now }
+        ensures cond { result.cond ≡ option_copied cond.entry }
+    {
+        Test {
+            cond,
+            graph,
+            values,
+            labels,
+        }
+    }
+}
+
+impl<'a, A: Adjacent, G: ValueOf> RowTest for Test<'a, A, G> {
+    ghost passes = { λ test row.
+        HoldsOver test.labels test.edges test.objects row (option_map bound_cond test.cond) };
+
+    fn holds<L: Ledger>(
+        &self,
+        alloc: Global,
+        row: &Row,
+        steps: &mut Steps<L>,
+    ) -> Result<bool, NoMemory> {
+        let Some(cond) = self.cond else {
+            return Ok(true);
+        };
+        let subject = Subject {
+            graph: self.graph,
+            values: self.values,
+            labels: self.labels,
+            row,
+        };
+        let around: [Oid; 0] = [];
+        cond_holds(alloc, &subject, &around, cond, steps)
+    }
+}

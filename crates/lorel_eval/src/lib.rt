@@ -1,0 +1,13 @@
+//! Conditions tested on rows: whether a bound condition holds of the objects in a row's slots.
+//!
+//! A path of the condition goes on from an object that is fixed, and a comparison holds where some of
+//! the objects that it reaches compare so (Abiteboul et al. 1997, path expressions in conditions).
+#![tactic(auto)]
+
+pub use bound_test::Test;
+
+mod bound_test;
+mod comparisons;
+mod conditions;
+mod meeting;
+mod subject;

@@ -1,0 +1,82 @@
+ghost use Rattle.std.specs.Prelude.{◌≡◌, ◌≤◌, slice_get, IfOk};
+ghost use Rattle.lore_base.specs.Paths.{path_tree, leaves};
+ghost use Rattle.lore_base.specs.TargetSets.{ListsInOrder};
+ghost use Rattle.lorel_bind.specs.Bound.{bound_path};
+ghost use Rattle.lorel_eval.specs.Types.{LEAVES};
+ghost use Rattle.lorel_eval.specs.inside.Subjects.{start_of, ReachedIn};
+
+use index_traits::{Adjacent, Row, ValueOf};
+use lore_base::limits::RANGES;
+use lore_base::{NoMemory, Oid, OidBuf, Steps};
+use lorel_bind::{BoundPath, BoundStart};
+use oem_labels::LabelTable;
+use product_walk::Route;
+use std::alloc::Global;
+use std::marker::Model;
+use std::sync::ledger::Ledger;
+
+const LAST_SLOT: u32 = RANGES as u32 - 1;
+
+// What a condition is tested on: a row's slots, and the database that their objects stand in.
+#[derive(Drop)]
+pub(crate) struct Subject<'a, A: Adjacent, G: ValueOf> {
+    pub(crate) graph: &'a A,
+    pub(crate) values: &'a G,
+    pub(crate) labels: &'a LabelTable,
+    pub(crate) row: &'a Row,
+}
+
+impl<'a, A: Adjacent, G: ValueOf> Model for Subject<'a, A, G> {
+    ghost use Rattle.lorel_eval.specs.inside.Subjects.{SlotsOver};
+
+    ghost Value = { SlotsOver };
+
+    ghost view = { λ subject. record {
+      labels = subject.labels.now;
+      edges = A.edges subject.graph.now;
+      objects = G.objects subject.values.now;
+      slots = subject.row.now;
+    } };
+}
+
+// The object in the slot; None where there are not so many.
+fn in_slot(row: &Row, slot: u32) -> Option<Oid>
+    ensures { result ≡ slice_get row.now slot }
+{
+    let oid = row.get(slot.min(LAST_SLOT));
+    if slot <= LAST_SLOT { Some(oid) } else { None }
+}
+
+impl<'a, A: Adjacent, G: ValueOf> Subject<'a, A, G> {
+    // The object of a start, where the quantifiers around it have these objects; None where there are
+    // not so many slots or quantifiers.
+    fn start_of(&self, objects: &[Oid], start: BoundStart) -> Option<Oid>
+        ensures { result ≡ start_of self.now.slots objects.now start }
+    {
+        match start {
+            BoundStart::Named(oid) => Some(oid),
+            BoundStart::Slot(slot) => in_slot(self.row, slot),
+            BoundStart::Quantified(depth) => objects.get(depth as usize).copied(),
+        }
+    }
+
+    // The objects that the path reaches, ascending, each once.
+    pub(crate) fn reached<L: Ledger>(
+        &self,
+        alloc: Global,
+        objects: &[Oid],
+        path: &BoundPath,
+        steps: &mut Steps<L>,
+    ) -> Result<OidBuf, NoMemory>
+        requires { leaves (path_tree path.now.rest) ≤ LEAVES }
+        ensures { IfOk result (ListsInOrder (ReachedIn self.now objects.now (bound_path path.now))) }
+    {
+        let mut found = OidBuf::new(alloc);
+        let Some(start) = self.start_of(objects, path.start) else {
+            return Ok(found);
+        };
+        let route = Route::new(alloc, &path.rest)?;
+        route.reach(alloc, self.graph, self.labels, start, &mut found, steps)?;
+        Ok(found)
+    }
+}

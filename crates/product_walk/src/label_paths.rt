@@ -1,0 +1,70 @@
+ghost use Rattle.std.specs.Prelude.{◌≡◌, ◌↔◌, List, length, map, All, IsTrue, IfOk, OnOk};
+ghost use Rattle.lore_base.specs.Paths.{step, seq, trees_of, path_tree, Reaches};
+ghost use Rattle.lore_base.specs.TargetSets.{ListsInOrder};
+ghost use Rattle.product_walk.specs.ProductWalks.{IsWalked, reads_out};
+ghost use Rattle.product_walk.specs.inside.Ways.{IsLabel, TakesTimes};
+
+use crate::children::LabelStep;
+use index_traits::Adjacent;
+use lore_base::{LabelTest, NoMemory, Oid, OidBuf, Path, Pattern, Steps};
+use std::alloc::Global;
+use std::sync::ledger::Ledger;
+
+// Whether the path is one label.
+fn is_label(path: &Path) -> bool
+    ensures { IsTrue result ↔ IsLabel path.now }
+{
+    matches!(path, Path::Step(_))
+}
+
+// Whether each path is one label.
+pub(crate) fn are_labels(paths: &[Path]) -> bool
+    ensures { IsTrue result ↔ All IsLabel paths.now }
+{
+    'paths: for path in paths {
+        if !is_label(path) {
+            return false;
+        }
+    }
+    true
+}
+
+// The pattern of a path that is one label.
+fn label_of(path: &Path) -> &Pattern
+    requires { IsLabel path.now }
+    ensures { path_tree path.now ≡ step result.now }
+{
+    match path {
+        Path::Step(pattern) => pattern,
+        _ => unreachable!(),
+    }
+}
+
+// The objects that labels, one after another, lead to from the object, ascending, each once.
+pub(crate) fn reached_in_turn<A: Adjacent, T: LabelTest, L: Ledger>(
+    alloc: Global,
+    graph: &A,
+    labels: &T,
+    paths: &[Path],
+    from: Oid,
+    steps: &mut Steps<L>,
+) -> Result<OidBuf, NoMemory>
+    requires { All IsLabel paths.now }
+    ensures objects { let path = seq (trees_of (map path_tree paths.now)) in
+        let reaches = Reaches (T.texts labels.now) (A.edges graph.now) path from in
+        IfOk result (ListsInOrder reaches) }
+    ensures steps { OnOk result (TakesTimes (length paths.now) (reads_out (A.edges graph.now))
+        (IsWalked (A.edges graph.now) from) steps.old steps.new) }
+{
+    let mut level = OidBuf::new(alloc);
+    level.push(from)?;
+    'paths: for path in paths {
+        let step = LabelStep {
+            graph,
+            labels,
+            pattern: label_of(path),
+        };
+        level = step.children_of(alloc, level.as_slice(), steps)?;
+    }
+    Ok(level)
+}
