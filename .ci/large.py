@@ -75,6 +75,38 @@ def cases():
     yield "two thousand statements and a thousand names", script, 0, b"".join(replies)
     yield ("four thousand labels", [braces("L", (f"l{i} {i}" for i in range(4_096))), b"select L.l4095;"], 0,
            b"ok objects 4097 edges 4096\n&4097 4095\nrows 1\n")
+    yield ("a label too many", [braces("L", (f"l{i} 0" for i in range(4_097))), b"load L := { l0 0 }; select L.l0;"], 1,
+           b"refused 18 TooManyLabels\nok objects 2 edges 1\n&2 0\nrows 1\n")
+    yield ("labels that vanished objects had", [braces("L", (f"l{i} 0" for i in range(4_096))), b"load L := {}; update L.x += 1;"], 1,
+           b"ok objects 4097 edges 4096\nok objects 1 edges 0\nrefused 18 TooManyLabels\n")
+    counts = "".join(f"ok objects {i} edges 0\n" for i in range(1, 1_025)).encode()
+    yield ("a name too many", [f"load n{i} := 0;\n".encode() for i in range(1_025)] + [b"unname n0; load n1024 := 0;"], 1,
+           counts + b"refused 19 TooManyNames\nok objects 1023 edges 0\nok objects 1024 edges 0\n")
+    yield ("labels that refused statements would bring", [braces("L", (f"l{i} 0" for i in range(4_095))),
+           b"update L.l0.x += 1; load L := { x &1 }; load L := { x 1, y 2 }; update L.none.x += 1;",
+           b"update L.last += 1; update L.x += 1; load M := { x 1 }; update L.l0 += L;"], 1,
+           b"ok objects 4096 edges 4095\nrefused 15 AtomicParent\nrefused 12 UndefinedLocal\nrefused 18 TooManyLabels\n"
+           b"ok objects 4096 edges 4095\nok objects 4097 edges 4096\nrefused 18 TooManyLabels\nrefused 18 TooManyLabels\n"
+           b"ok objects 4097 edges 4097\n")
+    yield ("causes before and behind a name too many", [f"load n{i} := 0;\n".encode() for i in range(1_024)]
+           + [b"name m := n0.a; name m := n0; load m := { x &1 };", braces("m", ["a 0"] * 65_536), braces("n0", ["a 0"] * 64_512),
+              b"name n0 := n1; load n0 := { a 0 };"], 1,
+           counts + b"refused 14 NotOne\nrefused 19 TooManyNames\nrefused 12 UndefinedLocal\nrefused 19 TooManyNames\n"
+           b"ok objects 65536 edges 64512\nok objects 1023 edges 0\nok objects 1025 edges 1\n")
+    links = (f"update X.{label} += Y from N.a X, N.a Y;".encode() for label in "bcd")
+    yield ("edges from all members to all members", [braces("N", ["a {}"] * 300), *links], 1,
+           b"ok objects 301 edges 300\nok objects 301 edges 90300\nok objects 301 edges 180300\nrefused 21 TooManyEdges\n")
+    ring = 60_000
+    yield ("a ring by locals", [braces("R", (f"m &{i} {{ next &{(i + 1) % ring} }}" for i in range(ring))),
+           b"update R.m -= R.m; select R.m; unname R; load R := 1; select R;"], 0,
+           f"ok objects {ring + 1} edges {2 * ring}\nok objects 1 edges 0\nrows 0\nok objects 0 edges 0\n".encode()
+           + f"ok objects 1 edges 0\n&{ring + 2} 1\nrows 1\n".encode())
+    yield ("copies that are counted before they are made",
+           [braces("P", ["x {}"] * 60_000), f"update P.x.y += {{ {', '.join(['a 0'] * 60_000)} }};".encode(),
+            f"update P.x.y += {{ a &1 0, {', '.join(['a &1'] * 60_000)} }};".encode(), b"update P.y += 1;"], 1,
+           b"ok objects 60001 edges 60000\nrefused 20 TooManyObjects\nrefused 20 TooManyObjects\nok objects 60002 edges 60001\n")
+    yield ("as many objects as there may be, again and again",
+           [braces("A", (f"a {i}" for i in range(many)))] * 3, 0, f"ok objects {many + 1} edges {many}\n".encode() * 3)
     yield ("a select of a hundred thousand items", [b"load A := 1; select ", b"A, " * 99_999, b"A;"], 1,
            b"ok objects 1 edges 0\nrefused 10 TooManyRanges\n")
     pairs = "".join(f"&{i} 0 | &{j} 0\n" for i in range(2, 318) for j in range(2, 318))

@@ -134,12 +134,30 @@ fn names_are_bound_and_bound_anew(rt: HostRuntime) -> Result<(), Fail> {
     assert_eq!(rt; names.len(), 2);
     assert_eq!(rt; found(alloc, &names, b"Guide")?, Some(Oid(9)));
     assert_eq!(rt; found(alloc, &names, b"Guid")?, None);
-    let more = bound(alloc, &names, &[(b"Zagat", 3), (b"Guide", 4)])?;
-    let all = names.joined(&more)?;
-    assert_eq!(rt; all.len(), 3);
-    assert_eq!(rt; found(alloc, &all, b"Guide")?, Some(Oid(4)));
-    assert_eq!(rt; found(alloc, &all, b"Apartments")?, Some(Oid(5)));
-    assert_eq!(rt; found(alloc, &names, b"Guide")?, Some(Oid(9)));
+    Ok(())
+}
+
+// Changes that bind these names and take one away.
+fn renaming(alloc: Global, named: &[(&[u8], u32)], unnamed: &[u8]) -> Result<Changes, NoMemory> {
+    let mut changes = Changes::new(alloc);
+    changes.named = bound(alloc, &changes.named, named)?;
+    changes.unnamed.push(OemText::from_bytes(alloc, unnamed)?)?;
+    Ok(changes)
+}
+
+#[test]
+fn names_are_bound_and_taken_away_by_changes(rt: HostRuntime) -> Result<(), Fail> {
+    let alloc = rt.alloc();
+    let none = Names::new(alloc);
+    let names = bound(alloc, &none, &[(b"Guide", 9), (b"Apartments", 5)])?;
+    let changes = renaming(alloc, &[(b"Zagat", 3), (b"Guide", 4)], b"Apartments")?;
+    let all = names.changed_by(&changes)?;
+    assert_eq!(rt; found(alloc, &all, b"Apartments")?, None);
+    assert_eq!(rt; all.objects()?.as_slice(), [Oid(4), Oid(3)].as_slice());
+    assert_eq!(rt; names.len(), 2);
+    let mut renamed = names.renamed_objects(&changes)?;
+    sort(&mut renamed, 0);
+    assert_eq!(rt; renamed.as_slice(), [Oid(5), Oid(9)].as_slice());
     Ok(())
 }
 

@@ -20,6 +20,14 @@ fn sets_ascend_and_have_each_once(rt: HostRuntime) -> Result<(), Fail> {
     Ok(())
 }
 
+#[test]
+fn items_go_from_list_to_list(rt: HostRuntime) -> Result<(), Fail> {
+    let set = set_of(rt.alloc(), &[7, 3])?;
+    let list = RoomyList::from_items(set.into_items());
+    assert_eq!(rt; list.as_slice(), [Oid(3), Oid(7)].as_slice());
+    Ok(())
+}
+
 // The objects 7, 3 and 9, taken into a list that has the room beforehand.
 fn roomy(alloc: Global) -> Result<RoomyList<Oid>, NoMemory> {
     let mut list = RoomyList::with_room(alloc, 1)?;

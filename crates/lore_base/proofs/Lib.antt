@@ -6,7 +6,8 @@ pub mod DecimalLaws
 pub mod PutLaws
 pub mod MemberLaws
 pub mod SetLaws
-pub mod DeadLaws
+pub mod VerdictLaws
+pub mod ChangedNameLaws
 pub mod TargetLaws
 pub mod WalkLaws
 pub mod SpellLaws

@@ -3,7 +3,7 @@ use Rattle.std.specs.Prelude.{◌≡◌, ◌≢◌, ℕ, ◌<◌, ◌≤◌, Lis
 use Rattle.std.specs.Int.{w64}
 use Rattle.std.specs.declared.cmp.Ordering.TheVariants.{Less}
 use Rattle.lore_base.specs.Types.{Oid, Label, Edge, Value, Whole, Chars, Complex, Mode, Auto}
-use Rattle.lore_base.specs.Types.{TEXT_BYTES, OBJECTS, EDGES, NEXT_NUMBER, NODES}
+use Rattle.lore_base.specs.Types.{TEXT_BYTES, LABELS, NAMES, OBJECTS, EDGES, NEXT_NUMBER, NODES}
 use Rattle.lore_base.specs.Names.{IsNameTable, IsName, IsLabel}
 use Rattle.lore_base.specs.Walks.{Walk, edge_cmp}
 
@@ -87,6 +87,13 @@ pub record IsValid (db : Database) : Type 0 where
   pub well_formed : IsWellFormed db.graph
   pub labelled : All (λ edge. edge.label.0 < length db.labels) db.graph.edges
   pub reached : All (λ object. IsReached db.graph.names db.graph.edges object.0) db.graph.objects
+  pub few_labels : length db.labels ≤ LABELS
+  pub few_names : length db.graph.names ≤ NAMES
   pub few_objects : length db.graph.objects ≤ OBJECTS
   pub few_edges : length db.graph.edges ≤ EDGES
   pub nodes_limited : (1 ≤ db.nodes) × (db.nodes ≤ NODES)
+
+-- the graph of a valid database: well-formed, and each object reached from a name
+pub record IsRooted (graph : OemGraph) : Type 0 where
+  pub well_formed : IsWellFormed graph
+  pub reached : All (λ object. IsReached graph.names graph.edges object.0) graph.objects

@@ -10,6 +10,8 @@ pub mod Pieces
 pub mod Refusals
 pub mod Names
 pub mod Walks
+pub mod Verdicts
+pub mod ChangeCauses
 pub mod Wildcards
 pub mod Paths
 pub mod PathLaws

@@ -23,6 +23,6 @@ pub use Rattle.lore_base.specs.declared.refusals.Refusal.TheVariants.{HasChildre
 pub use Rattle.lore_base.specs.declared.refusals.Refusal.TheVariants.{TooManyNames, TooManyObjects}
 pub use Rattle.lore_base.specs.declared.refusals.Refusal.TheVariants.{TooManyEdges, GuideNodes, LimitRange}
 pub use Rattle.lore_base.specs.declared.refusals.Refusal.TheVariants.{NotFresh, BadRestore}
-pub use Rattle.lore_base.specs.declared.limits.TheConstants.{TEXT_BYTES, WORD_BYTES, OBJECTS, EDGES}
+pub use Rattle.lore_base.specs.declared.limits.TheConstants.{TEXT_BYTES, WORD_BYTES, LABELS, NAMES, OBJECTS, EDGES}
 pub use Rattle.lore_base.specs.declared.limits.TheConstants.{NEXT_NUMBER, NODES, NESTING, LEAVES, CHUNK_BYTES}
 pub use Rattle.lore_base.specs.declared.limits.TheConstants.{SCRIPT_BYTES, RANGES, ITEMS, ROWS}

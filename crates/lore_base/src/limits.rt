@@ -6,6 +6,12 @@ pub const TEXT_BYTES: usize = 4_096;
 /// Bytes of a label, a name, a variable or a pattern.
 pub const WORD_BYTES: usize = 255;
 
+/// Labels of a database.
+pub const LABELS: usize = 4_096;
+
+/// Names of a database.
+pub const NAMES: usize = 1_024;
+
 /// Live objects of a database.
 pub const OBJECTS: usize = 65_536;
 

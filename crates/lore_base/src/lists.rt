@@ -85,6 +85,14 @@ impl<T> Listing<T> {
         self.items.as_slice()
     }
 
+    /// The items as a vector. Takes no memory.
+    pub fn into_items(self) -> Vec<T>
+        ensures { result.items ≡ self }
+    {
+        let Listing { items } = self;
+        items
+    }
+
     /// The allocator that the list takes its memory from. Contracts see of a list its items alone, so
     /// no clause can say which it is; it decides no answer but want of memory.
     pub fn allocator(&self) -> Global {

@@ -1,12 +1,16 @@
-ghost use Rattle.std.specs.Prelude.{◌≡◌, ℕ, List, [], length, IfOk, OnOk, OnErr};
-ghost use Rattle.std.specs.BTreeMap.{insert_entry};
+ghost use Rattle.std.specs.Prelude.{◌≡◌, ◌↔◌, ℕ, List, [], ◌++◌, length, map, Contains};
+ghost use Rattle.std.specs.Prelude.{IfOk, OnOk, OnErr};
+ghost use Rattle.std.specs.Map.{keys_of, remove_entry};
+ghost use Rattle.std.specs.BTreeMap.{insert_entry, is_at};
 ghost use Rattle.lore_base.specs.Types.{Oid as TheOid};
 ghost use Rattle.lore_base.specs.Bytes.{bytes_cmp};
 ghost use Rattle.lore_base.specs.Names.{object_of, IsNameTable};
-ghost use Rattle.lore_base.specs.ChangeSets.{names_after};
+ghost use Rattle.lore_base.specs.ChangeSets.{NamesThen, IsRenamed};
+ghost use Rattle.lore_base.specs.inside.NameTables.{names_after, names_without, found_objects};
 
+use crate::change_set::Changes;
 use crate::edges::Oid;
-use crate::lists::TryCopy;
+use crate::lists::{OidBuf, TextList, TryCopy};
 use crate::no_memory::NoMemory;
 use crate::texts::OemText;
 use std::alloc::Global;
@@ -65,13 +69,83 @@ impl Names {
         Ok(())
     }
 
-    /// The names of this table with those of `more`, which take the place of older bindings.
-    pub fn joined(&self, more: &Names) -> Result<Names, NoMemory>
-        ensures { IfOk result (λ names. names ≡ names_after self.now more.now) }
+    /// The names once the changes are made: those of `unnamed` are taken away, and then those of
+    /// `named` bound, each in place of an older binding.
+    pub fn changed_by(&self, changes: &Changes) -> Result<Names, NoMemory>
+        ensures ascend { IfOk result IsNameTable }
+        ensures members { IfOk result (λ names. (entry : List ℕ × TheOid) → Contains names entry
+            ↔ NamesThen self.now changes.now entry) }
+        ensures table { IsNameTable self.now }
     {
-        let mut names = self.try_copy(self.alloc)?;
-        names.put_all(more)?;
+        let mut names = Names::new(self.alloc);
+        names.put_all(self)?;
+        names.take_all(&changes.unnamed);
+        names.put_all(&changes.named)?;
         Ok(names)
+    }
+
+    /// The objects of the names, in the names' order.
+    pub fn objects(&self) -> Result<OidBuf, NoMemory>
+        ensures { IfOk result (λ oids. oids ≡ map (λ entry. entry.1) self.now) }
+    {
+        let mut oids = OidBuf::with_capacity(self.alloc, self.len())?;
+        'names: for (_, oid) in &self.objects {
+            oids.push(*oid)?;
+        }
+        Ok(oids)
+    }
+
+    /// The objects of the names that the changes bind anew or take away, in no order. One may stand
+    /// there several times.
+    pub fn renamed_objects(&self, changes: &Changes) -> Result<OidBuf, NoMemory>
+        ensures { IfOk result (λ oids. (oid : TheOid) → Contains oids oid
+            ↔ ((name : List ℕ) × Contains self.now (name, oid) × IsRenamed changes.now name)) }
+    {
+        let room = self.len().min(changes.named.len());
+        let mut oids = OidBuf::with_capacity(self.alloc, room)?;
+        self.add_bound(&changes.named, &mut oids)?;
+        self.add_found(&changes.unnamed, &mut oids)?;
+        Ok(oids)
+    }
+
+    // Puts the objects of those names that `more` has too behind `oids`.
+    fn add_bound(&self, more: &Names, oids: &mut OidBuf) -> Result<(), NoMemory>
+        ensures { OnOk result (oids.new ≡ oids.old ++ found_objects self.now (keys_of more.now)) }
+    {
+        'names: for (name, _oid) in &more.objects {
+            if let Some(oid) = self.find(name) {
+                oids.push(oid)?;
+            }
+        }
+        Ok(())
+    }
+
+    // Puts the objects of those words that are names behind `oids`.
+    fn add_found(&self, words: &TextList, oids: &mut OidBuf) -> Result<(), NoMemory>
+        ensures { OnOk result (oids.new ≡ oids.old ++ found_objects self.now words.now) }
+    {
+        'words: for word in words.as_slice() {
+            if let Some(oid) = self.find(word) {
+                oids.push(oid)?;
+            }
+        }
+        Ok(())
+    }
+
+    // Takes these names away, where they are there.
+    fn take_all(&mut self, words: &TextList)
+        ensures { self.new ≡ names_without self.old words.now }
+    {
+        'words: for word in words.as_slice() {
+            self.take(word);
+        }
+    }
+
+    // Takes the name away, where it is there.
+    fn take(&mut self, name: &OemText)
+        ensures { self.new ≡ remove_entry (is_at (bytes_cmp name.now)) self.old }
+    {
+        self.objects.remove(name);
     }
 
     // Binds each name of `more`, in place of an older binding.

@@ -45,6 +45,13 @@ impl<T> RoomyList<T> {
         })
     }
 
+    /// The list of these items. Takes no memory.
+    pub fn from_items(items: Vec<T>) -> Self
+        ensures { result.items ≡ items.items }
+    {
+        RoomyList { items }
+    }
+
     /// The number of items.
     pub fn len(&self) -> usize
         ensures { result ≡ length self.now.items }

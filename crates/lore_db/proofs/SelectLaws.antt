@@ -1,30 +1,34 @@
--- What a select answers.
-use Rattle.std.proofs.Common.{◌≡◌, true, false, true≢false, ℕ, List, [], ◌∷◌, Option, Some, None, Result, Ok, Err, IfOk, ◌↔◌, is_some, All, refl, sym, ap, subst, inl, inr}
+-- The rows of a select: none of its path variables is left, and what a search finds is its answer.
+use Rattle.std.proofs.Common.{◌≡◌, true, false, true≢false, Bool, ◌||◌, ℕ, ◌<◌, List, [], ◌∷◌, ◌++◌, length, Option, Some, None, ◌↔◌, is_some, All, refl, sym, ap, inl, inr}
 use Rattle.std.specs.List.{Contains, list_any}
-use Rattle.std.specs.Prelude.{MatchOption}
+use Rattle.std.specs.Prelude.{MatchOption, IfSome}
 use Rattle.std.proofs.lemmas.List.Elements.{All-nil, All-cons, All-weaker}
 use Rattle.lore_base.specs.Databases.{Database}
+use Rattle.lore_base.specs.Verdicts.{IsClear, IsToldBy}
+use Rattle.lore_base.proofs.VerdictLaws.{clear_both}
 use Rattle.lorel_trees.specs.Trees as t
-use Rattle.lorel_bind.specs.Answers.{IsRow, IsAnswer}
+use Rattle.lorel_bind.specs.Answers.{IsAnswer}
 use Rattle.lorel_bind.specs.Bound.{BoundTree, BoundPathTree}
 use Rattle.lorel_bind.specs.Bindings.{IsPath, HasNoPathVariable, IsBinding, IsRunnable}
 use Rattle.lorel_bind.specs.Conditions.{CondOf}
-use Rattle.lorel_bind.specs.Faults.{refusal_of}
-use Rattle.lorel_bind.specs.Refusals.{IsFirst, IsAccepted, IsRefusedBy}
-use Rattle.lorel_bind.specs.Refusals as binding
+use Rattle.lorel_bind.specs.Refusals.{IsAccepted}
 use Rattle.lorel_bind.specs.SlotRows.{HoldsOver, IsSlotRow}
-use Rattle.lorel_bind.specs.declared.faults.BindFault.{BindFault}
 use Rattle.lorel_bind.proofs.SlotRowLaws.{binding_keeps_rows}
-use Rattle.lore_db.specs.Types.{Oid, Edge, Value, Refusal, Rows, Refused}
+use Rattle.lore_db.specs.Types.{Oid, Edge, Value, Refusal, ROWS}
 use Rattle.lore_db.specs.Types.refusals
 use Rattle.lore_db.specs.Built.{is_path_variable, has_path_variable}
-use Rattle.lore_db.specs.Statements.{Executes}
+use Rattle.lore_db.specs.Statements.{HasTooManyRows}
 use Rattle.lore_db.specs.inside.Finding.{IsPassed, AreRows, AreTooMany}
+use Rattle.lore_db.specs.inside.Stages.{ReadCause, bind_order, read_order}
 use Rattle.lore_db.proofs.FindLaws.{too_many_asked}
 use Rattle.lore_db.proofs.FoundLaws.{asked_rows}
 use Rattle.lore_db.proofs.SlotLaws.{passed_rows}
-use Rattle.lore_db.proofs.MadeLaws.{or_false}
-use Rattle.lore_db.proofs.VerdictLaws.{bind_first, select_clear, rows_first, few_rows, many_rows}
+use Rattle.lore_db.proofs.OrderLaws.{told_left, told_right}
+use Rattle.lore_db.proofs.ReadLaws.{few_rows, many_rows, accepted_from}
+
+or_false : (b c : Bool) → (b || c) ≡ false → (b ≡ false) × (c ≡ false)
+or_false true c h = absurd (true≢false h)
+or_false false c h = (refl, h)
 
 -- ---- path variables
 paths_only : (items : List t.ItemTree) → list_any is_path_variable items ≡ false → All IsPath items
@@ -47,40 +51,40 @@ no_path_variable query none =
     let parts = or_false (list_any is_path_variable query.items) (list_any (λ (range : t.FromTree). is_some range.word) query.tail.ranges) none in
     record { items = paths_only query.items parts.0; ranges = no_words query.tail.ranges parts.1 }
 
--- ---- replies
-pub select_unbuilt : (db : Database) (query : t.SelectTree) → has_path_variable query ≡ true → Executes db (t.select query) (Refused refusals.Syntax) db
-select_unbuilt db query some = rw some (refl, refl)
-
-select_refuses : (db : Database) (query : t.SelectTree) (refusal : Refusal) → IsFirst (binding.Cause db.graph.names query) binding.order refusal → has_path_variable query ≡ false
-    → Executes db (t.select query) (Refused refusal) db
-select_refuses db query refusal first none = rw none (inr (refusal, bind_first db query refusal first, (refl, refl)))
-
--- a fault of binding is answered by its refusal
-pub select_refused : (db : Database) (query : t.SelectTree) (fault : BindFault) (refusal : Refusal) → has_path_variable query ≡ false → IsRefusedBy db.graph.names query fault
-    → refusal_of fault ≡ Some refusal → Executes db (t.select query) (Refused refusal) db
-select_refused db query fault refusal none refused named =
-    select_refuses db query refusal
-    (subst (λ (o : Option Refusal). MatchOption o (Unit {0}) (IsFirst (binding.Cause db.graph.names query) binding.order)) named refused) none
-
-module _ (db : Database) (query : t.SelectTree) (bound : BoundTree) (none : has_path_variable query ≡ false) (accepted : IsAccepted db.graph.names query)
-    (binds : IsBinding db.graph.names query bound) where
+-- ---- the answer
+module _ (db : Database) (query : t.SelectTree) (bound : BoundTree) (binds : IsBinding db.graph.names query bound) where
   -- the rows that were found are the answer
-  pub select_answers : (rows : List (List Oid)) → AreRows (IsSlotRow db bound) rows → Executes db (t.select query) (Rows rows) db
-  select_answers rows all =
+  pub rows_answer : (rows : List (List Oid)) → AreRows (IsSlotRow db bound) rows → IsAnswer db query rows
+  rows_answer rows all =
       let keeps = binding_keeps_rows db query bound binds in
-      let answer : IsAnswer db query rows = record {
+      record {
         ascending = all.ascending;
         exact = λ row. (λ h. (keeps row).1 ((all.exact row).0 h), λ h. (all.exact row).1 ((keeps row).0 h));
-      } in
-      rw none (inl (select_clear db query accepted (few_rows db query rows answer all.few), (refl, (rows, refl, answer))))
+      }
 
-  -- there are too many
-  pub select_floods : AreTooMany (IsSlotRow db bound) → Executes db (t.select query) (Refused refusals.TooManyRows) db
-  select_floods many =
-      let keeps = binding_keeps_rows db query bound binds in
-      let there = λ (answer : List (List Oid)) (is : IsAnswer db query answer).
-      All-weaker (IsSlotRow db bound) (Contains answer) (λ row h. (is.exact row).1 ((keeps row).1 h)) many.rows many.asked in
-      rw none (inr (refusals.TooManyRows, rows_first db query accepted (many_rows db query many.rows accepted many.apart there many.many), (refl, refl)))
+  module _ (clear : IsClear (ReadCause db query) bind_order) where
+    -- there are too many
+    pub rows_flood : AreTooMany (IsSlotRow db bound) → HasTooManyRows db query
+    rows_flood many =
+        let keeps = binding_keeps_rows db query bound binds in
+        let there = λ (answer : List (List Oid)) (is : IsAnswer db query answer).
+        All-weaker (IsSlotRow db bound) (Contains answer) (λ row h. (is.exact row).1 ((keeps row).1 h)) many.rows many.asked in
+        many_rows db query many.rows (accepted_from db query clear) many.apart there many.many
+
+    pub rows_clear : (rows : List (List Oid)) → AreRows (IsSlotRow db bound) rows → IsClear (ReadCause db query) read_order
+    rows_clear rows all =
+        clear_both (ReadCause db query) bind_order (refusals.TooManyRows ∷ []) clear
+        (few_rows db query rows (rows_answer rows all) all.few, tt)
+
+    pub rows_told : (told : Option Refusal)
+        → IfSome told (λ refusal. (refusal ≡ refusals.TooManyRows) × AreTooMany (IsSlotRow db bound)) → IsToldBy (ReadCause db query) read_order told
+    rows_told None h = tt
+    rows_told (Some refusal) h =
+        told_right (ReadCause db query) bind_order (refusals.TooManyRows ∷ []) (Some refusal) clear (inl (rows_flood h.1, h.0))
+
+pub bind_refused : (db : Database) (query : t.SelectTree) (told : Option Refusal) → IsToldBy (ReadCause db query) bind_order told
+    → IsToldBy (ReadCause db query) read_order told
+bind_refused db query told h = told_left (ReadCause db query) bind_order (refusals.TooManyRows ∷ []) told h
 
 -- ---- rows that a search found
 pub slot_rows : (db : Database) (bound : BoundTree) (labels : List (List ℕ)) (edges : List Edge) (objects : List (Oid × Value)) (cond : Option (CondOf BoundPathTree))
@@ -88,8 +92,8 @@ pub slot_rows : (db : Database) (bound : BoundTree) (labels : List (List ℕ)) (
     → (row : List Oid) → IsPassed db.labels db.graph.edges (λ slots. HoldsOver labels edges objects slots cond) bound row ↔ IsSlotRow db bound row
 slot_rows db bound labels edges objects cond l e o c runnable row = rw (l, e, o, c) (passed_rows db bound row runnable)
 
-pub found_slot_rows : {E : Type 0} (P Q : List Oid → Type 0) (result : Result (Option (List (List Oid))) E) → ((row : List Oid) → P row ↔ Q row)
-    → IfOk result (λ found. MatchOption found (AreTooMany P) (AreRows P)) → IfOk result (λ found. MatchOption found (AreTooMany Q) (AreRows Q))
-found_slot_rows P Q (Err fault) same found = tt
-found_slot_rows P Q (Ok None) same many = too_many_asked P Q (λ row. (same row).0) many
-found_slot_rows P Q (Ok (Some rows)) same all = asked_rows P Q rows same all
+pub flood_slot_rows : (P Q : List Oid → Type 0) → ((row : List Oid) → P row ↔ Q row) → AreTooMany P → AreTooMany Q
+flood_slot_rows P Q same many = too_many_asked P Q (λ row. (same row).0) many
+
+pub found_slot_rows : (P Q : List Oid → Type 0) (rows : List (List Oid)) → ((row : List Oid) → P row ↔ Q row) → AreRows P rows → AreRows Q rows
+found_slot_rows P Q rows same all = asked_rows P Q rows same all

@@ -1,15 +1,17 @@
--- A sound select is shallow: each quantifier of its condition nests in its derivation.
-use Rattle.std.proofs.Common.{◌≡◌, ℕ, ◌+◌, ◌≤◌, max, List, Option, Some, None, refl, subst, arith}
+-- A sound select is shallow, and so is that of a sound update: each quantifier of its condition nests in its derivation.
+use Rattle.std.proofs.Common.{◌≡◌, ℕ, ◌+◌, ◌≤◌, max, List, Option, Some, None, refl, sym, ap, ◌∙◌, subst, arith}
 use Rattle.std.proofs.Math.Nat.{le_trans, le-max_left, le-max_right, max-le}
 use Rattle.lorel_trees.specs.Types.{NESTING}
 use Rattle.lorel_trees.specs.Trees as t
 use Rattle.lorel_trees.specs.Grammar as g
 use Rattle.lorel_trees.specs.Conditions.{tree_cond, nest_cond, trees_more_conjs, nest_more_conjs, tree_conj, nest_conj, trees_more_unaries, nest_more_unaries, tree_unary, nest_unary, joined}
+use Rattle.lorel_trees.specs.Literals.{nest_literal}
 use Rattle.lorel_trees.specs.Repetitions.{nest_each}
-use Rattle.lorel_trees.specs.Paths.{nest_path}
-use Rattle.lorel_trees.specs.Selects.{tree_select, nest_select, nest_item, nest_range}
+use Rattle.lorel_trees.specs.Paths.{tree_path, nest_path}
+use Rattle.lorel_trees.specs.Selects.{tree_tail, nest_tail, tree_select, nest_select, nest_item, nest_range}
 use Rattle.lorel_trees.specs.Statements.{tree_statement, nest_statement}
 use Rattle.lorel_trees.specs.Sound.{IsSound}
+use Rattle.lorel_trees.specs.UpdateRows.{target_select, pair_select, rows_of}
 use Rattle.lorel_bind.specs.Bindings.{depth_of, depth_of_all, IsShallow}
 
 both : (a b c d : ℕ) → a ≤ c → b ≤ d → max a b ≤ max c d
@@ -79,3 +81,49 @@ derived_shallow (g.generate seed count) query is deep = cc
 
 pub sound_shallow : (query : t.SelectTree) → IsSound (t.select query) → IsShallow query
 sound_shallow query sound = derived_shallow sound.spelled.by query sound.spelled.tree sound.spelled.deep
+
+-- ---- the select of an update
+tail_shallow : (target : t.RootedTree) (end : g.Tail) → nest_tail end ≤ NESTING → IsShallow (target_select target (tree_tail end))
+tail_shallow target (g.tail ranges None) deep = tt
+tail_shallow target (g.tail ranges (Some cond)) deep =
+    let inner = le-max_right (nest_each nest_range ranges) (nest_cond cond) in
+    omega (arith, cond_shallow cond, inner, deep)
+
+-- the one with this tail
+given_shallow : (target : t.RootedTree) (end : g.Tail) (given query : t.SelectTree) → given.tail ≡ tree_tail end → Some given ≡ Some query
+    → nest_tail end ≤ NESTING → IsShallow query
+given_shallow target end given query tail is deep =
+    let same : given ≡ query = cc in
+    let whole : tree_tail end ≡ query.tail = sym tail ∙ ap (λ (q : t.SelectTree). q.tail) same in
+    subst (λ (other : t.TailTree). IsShallow (target_select target other)) whole (tail_shallow target end deep)
+
+rows_derived : (by : g.Statement) (query : t.SelectTree) → rows_of (tree_statement by) ≡ Some query → nest_statement by ≤ NESTING → IsShallow query
+rows_derived (g.load name literal) query is deep = cc
+rows_derived (g.bind name path) query is deep = cc
+rows_derived (g.unname name) query is deep = cc
+rows_derived (g.assign target value end) query is deep =
+    given_shallow (tree_path target) end (target_select (tree_path target) (tree_tail end)) query refl is
+    (omega (arith, deep, le-max_right (nest_path target) (nest_tail end)))
+rows_derived (g.add target name (g.fresh literal) end) query is deep =
+    given_shallow (tree_path target) end (target_select (tree_path target) (tree_tail end)) query refl is
+    (omega (arith, deep, le-max_right (max (nest_path target) (nest_literal literal)) (nest_tail end)))
+rows_derived (g.add target name (g.link path) end) query is deep =
+    given_shallow (tree_path target) end (pair_select (tree_path target) (tree_path path) (tree_tail end)) query refl is
+    (omega (arith, deep, le-max_right (max (nest_path target) (nest_path path)) (nest_tail end)))
+rows_derived (g.remove target name right end) query is deep =
+    given_shallow (tree_path target) end (pair_select (tree_path target) (tree_path right) (tree_tail end)) query refl is
+    (omega (arith, deep, le-max_right (max (nest_path target) (nest_path right)) (nest_tail end)))
+rows_derived (g.select inner) query is deep = cc
+rows_derived (g.explain inner) query is deep = cc
+rows_derived g.guide query is deep = cc
+rows_derived (g.browse (g.walked name labels)) query is deep = cc
+rows_derived (g.sample (g.walked name labels) count) query is deep = cc
+rows_derived (g.set_nodes nodes) query is deep = cc
+rows_derived (g.set_plan mode) query is deep = cc
+rows_derived g.dump query is deep = cc
+rows_derived (g.restore text) query is deep = cc
+rows_derived (g.generate seed count) query is deep = cc
+
+pub rows_shallow : (statement : t.StatementTree) (query : t.SelectTree) → IsSound statement → rows_of statement ≡ Some query → IsShallow query
+rows_shallow statement query sound is =
+    rows_derived sound.spelled.by query (ap rows_of sound.spelled.tree ∙ is) sound.spelled.deep

@@ -18,10 +18,16 @@ use Rattle.lorel_bind.specs.Conditions.{CondOf, paths_of, paths_in}
 use Rattle.lorel_bind.specs.Bindings.{IsWithin, IsBoundWithin, AreInOrder, IsRunnable}
 use Rattle.lorel_bind.specs.SlotRows.{StartsAt, BoundStartsAt, MeetsBy, HoldsOver, AreFilled, IsSlotRow}
 use Rattle.lorel_bind.proofs.ConditionLaws.{ReachAlike, holds_like, like_itself}
-use Rattle.lore_db.proofs.MadeDatabaseLaws.{length-along}
 use Rattle.lore_db.proofs.FindLaws.{OfSome}
 use Rattle.lore_db.specs.Types.{Oid, Edge, Value, Start, RANGES}
 use Rattle.lore_db.specs.inside.Finding.{in_eight, IsPassed, Search, Gives, IsFound, IsReady}
+
+-- paired lists are equally long
+length_both : {A B : Type 0} (R : A → B → Type 0) (xs : List A) (ys : List B) → AllZip R xs ys → length xs ≡ length ys
+length_both R [] [] h = refl
+length_both R [] (y ∷ ys) h = absurd h
+length_both R (x ∷ xs) [] h = absurd h
+length_both R (x ∷ xs) (y ∷ ys) h = omega (arith, length_both R xs ys h.1)
 
 -- ---- the object of a start
 slice_get-front : {X : Type 0} (xs ys : List X) (k : ℕ) → k < length xs → slice_get (xs ++ ys) k ≡ slice_get xs k
@@ -254,7 +260,7 @@ pub passed_rows : (db : Database) (bound : BoundTree) (row : List Oid) → IsRun
 passed_rows db bound row runnable =
     let alike = λ (slots : List Oid) (filled : AreFilled db.labels db.graph.edges bound.ranges slots).
     holds_in_front db.labels db.graph.edges db.graph.objects slots (replicate (RANGES - length slots) (oid_of 0)) bound.cond
-    (subst (λ (n : ℕ). All (λ path. IsBoundWithin n path.start) (paths_in bound.cond)) (sym (length-along (λ range oid. (start : Oid) × StartsAt slots range.start start × Reaches db.labels db.graph.edges range.path start oid) bound.ranges slots filled)) runnable.condition_within) in (
+    (subst (λ (n : ℕ). All (λ path. IsBoundWithin n path.start) (paths_in bound.cond)) (length_both (λ range oid. (start : Oid) × StartsAt slots range.start start × Reaches db.labels db.graph.edges range.path start oid) bound.ranges slots filled) runnable.condition_within) in (
       λ h. record { slots = h.slots; filled = h.filled; holds = (alike h.slots h.filled).0 h.passed; shown = h.shown },
       λ h. record { slots = h.slots; filled = h.filled; passed = (alike h.slots h.filled).1 h.holds; shown = h.shown },
     )

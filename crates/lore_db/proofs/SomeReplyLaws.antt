@@ -1,201 +1,251 @@
 -- From each database that a `Db` can be, a sound statement has a reply, and leaves such a database.
-use Rattle.std.proofs.Common.{◌≡◌, ℕ, ◌+◌, ◌≤◌, inl, inr, Bool, false, if◌then◌else◌, List, [], ◌∷◌, ◌++◌, length, Option, Some, None, Less, refl, sym, ap, subst, ◌∙◌, arith, length-append}
-use Rattle.std.specs.Prelude.{◌<◌, ◌^◌}
-use Rattle.std.specs.List.{All, AllZip, Contains}
+use Rattle.std.proofs.Common.{◌≡◌, ◌≢◌, ℕ, ◌+◌, ◌<◌, ◌≤◌, inl, inr, Bool, true, false, true≢false, List, [], ◌∷◌, ◌++◌}
+use Rattle.std.proofs.Common.{length, Option, Some, None, refl, subst, ◌∙◌, arith}
+use Rattle.std.specs.Prelude.{MatchOption}
 use Rattle.std.specs.List.Sorted.{IsStrictlySortedBy}
-use Rattle.std.specs.BTreeMap.{insert_entry}
-use Rattle.std.proofs.lemmas.Bool.{cases_lt}
-use Rattle.std.proofs.lemmas.List.Elements.{All-head, All-tail}
-use Rattle.lore_db.specs.Types.{Oid, Edge, Value, Changes, Refusal, OBJECTS, Reply, Changed, Rows, Refused}
-use Rattle.lore_db.specs.Types.refusals
-use Rattle.lore_base.specs.Bytes.{bytes_cmp}
-use Rattle.lore_base.specs.Names.{IsName, object_of}
-use Rattle.lore_base.specs.Walks.{oid_of, edge_of, edge_cmp}
-use Rattle.lore_base.specs.Databases.{OemGraph, Database, IsOrdered, new_database}
-use Rattle.lore_base.specs.ChangeSets.{IsGraphThen}
-use Rattle.lorel_trees.specs.Trees as t
-use Rattle.lorel_trees.specs.Trees.{LiteralTree, SelectTree, StatementTree}
-use Rattle.lorel_bind.specs.Refusals.{IsFirst, IsClear}
-use Rattle.lorel_trees.specs.Formed.{IsFormedLiteral}
-use Rattle.lorel_trees.specs.Sound.{IsSound}
+use Rattle.std.proofs.lemmas.Bool.{cases_eq, cases_lt}
+use Rattle.lore_base.specs.Databases.{OemGraph, Database, new_database}
+use Rattle.lore_base.specs.ChangeSets.{Fits}
+use Rattle.lore_base.specs.ChangeCauses.{Outgrows, ChangeCause}
+use Rattle.lore_base.specs.Verdicts.{IsClear}
+use Rattle.lore_base.proofs.VerdictLaws.{clear_left, clear_right, clear_both}
+use Rattle.oem_changes.proofs.ToldLaws.{IsTold, told_same, told_not, told_either, told_paired, told_bytes, told_below}
+use Rattle.oem_changes.proofs.ToldCauseLaws.{told_adds_to_atom, told_hides_children, told_outgrows}
+use Rattle.oem_changes.proofs.SomeAfterLaws.{some_database_after}
+use Rattle.oem_changes.proofs.ValidLaws.{valid_after}
+use Rattle.lorel_trees.specs.Trees.{LiteralTree, SelectTree, StatementTree, bind, unname, select}
+use Rattle.lorel_trees.specs.Formed.{IsFormedStatement}
 use Rattle.lorel_trees.proofs.FormLaws.{sound_statement}
-use Rattle.oem_graph.proofs.NameLaws.{IsNameTable-names_after}
-use Rattle.oem_graph.proofs.ObjectLaws.{ascend-made, numbered-made}
-use Rattle.lore_db.specs.Built.{Built, load, select, built, has_local, has_path_variable}
-use Rattle.lore_db.specs.Made.{TextEdge, size, bodies, text_edges, labels_of, IsNumbered}
-use Rattle.oem_labels.specs.Labels.{first_uses}
-use Rattle.lore_db.specs.Statements.{IsBound, Cause, order, Loads, Performs, ExecutesBuilt, Executes}
+use Rattle.lorel_bind.specs.Answers.{IsAnswer}
+use Rattle.lorel_bind.specs.Refusals.{HasUnknownName, HasUnknownVariable}
+use Rattle.lorel_bind.specs.Refusals as binding
+use Rattle.lorel_bind.proofs.AnswerLaws.{has_one_answer}
+use Rattle.lorel_bind.proofs.SomeAnswerLaws.{has_some_answer}
+use Rattle.lorel_bind.proofs.RefusalLaws.{has_some_verdict}
+use Rattle.oem_text.specs.Literals.{HasDouble, HasUndefined}
+use Rattle.lore_db.specs.Types.{Oid, Changes, Refusal, LABELS, NAMES, OBJECTS, EDGES, NEXT_NUMBER, ROWS, Reply, Changed}
+use Rattle.lore_db.specs.Types.{Rows, Refused}
+use Rattle.lore_db.specs.Types.refusals
+use Rattle.lore_db.specs.Built.{reads, makes, path_select, is_built}
+use Rattle.lore_db.specs.Statements.{AreRowsOf, effects, IsUnbound, HasTooManyRows, IsNotOne, ChangesCause, OfReads}
+use Rattle.lore_db.specs.Statements.{Cause, order, LeadsOn, Performs, Executes}
+use Rattle.lorel_trees.specs.Sound.{IsSound}
 use Rattle.lore_db.specs.KeptDatabases.{IsKept}
-use Rattle.lore_db.specs.StatementLaws.{SomeReply, ExecutesAlways}
-use Rattle.lore_db.proofs.MadeLaws.{length-bodies, bodies_numbered}
-use Rattle.oem_labels.proofs.LabelLaws.{either, first_uses_distinct, first_uses_cover}
-use Rattle.lore_db.proofs.NumberLaws.{place_from_Contains}
-use Rattle.lore_db.proofs.LoadLaws.{after_loads}
-use Rattle.lore_db.proofs.KeptLaws.{kept_after}
-use Rattle.lore_db.proofs.MadeDatabaseLaws.{length-along}
-use Rattle.lore_db.proofs.GraphThenLaws.{members_of_both, edges_ordered}
-use Rattle.lorel_bind.proofs.AscentLaws.{IsSetOf, some_ordered}
-use Rattle.lore_db.proofs.VerdictLaws.{load_clear, bound_first, large_first, select_verdict}
+use Rattle.lore_db.specs.StatementLaws.{ExecutesAlways}
+use Rattle.lore_db.specs.inside.Stages.{fit_order}
+use Rattle.lore_db.proofs.TurnLaws.{AreTold, some_verdict, told_from_verdict, told_of_none, told_append}
+use Rattle.lore_db.proofs.LocalToldLaws.{told_double, told_undefined}
+use Rattle.lore_db.proofs.OneReplyLaws.{one_rows}
+use Rattle.lore_db.proofs.LiveRowLaws.{starts_somewhere}
+use Rattle.lore_db.proofs.EffectLaws.{effects_fit}
 
--- ---- what a load makes
-numbered_edges : (labels : List (List ℕ)) (text_edges : List TextEdge) → All (Contains labels) (labels_of text_edges)
-    → (edges : List Edge) × AllZip (IsNumbered labels) text_edges edges
-numbered_edges labels [] there = ([], tt)
-numbered_edges labels (text_edge ∷ text_edges) there =
-    let place = place_from_Contains labels text_edge.label (All-head (Contains labels) text_edge.label (labels_of text_edges) there) in
-    let rest = numbered_edges labels text_edges (All-tail (Contains labels) text_edge.label (labels_of text_edges) there) in
-    (edge_of text_edge.parent (record { 0 = place.0 }) text_edge.child ∷ rest.0, (record { parent = refl; label = place.1; child = refl }, rest.1))
+-- the order in stages: what is told of the text, where the last are told of a select and of a literal; of rows and the
+-- changes over them; and of what these leave
+abbrev bound_order : List Refusal
+bound_order = refusals.UnknownVariable ∷ refusals.DuplicateVariable ∷ refusals.TooManyRanges ∷ []
 
-module _ (db : Database) (name : List ℕ) (literal : LiteralTree) (plain : has_local literal ≡ false) (edges all : List Edge) where
-  abbrev texts : List (List ℕ)
-  texts = db.labels ++ first_uses db.labels (labels_of (text_edges db.graph.next literal))
+abbrev local_order : List Refusal
+local_order = refusals.DuplicateLocal ∷ refusals.UndefinedLocal ∷ []
 
-  abbrev changes : Changes
-  changes = record {
-    made = bodies db.graph.next literal;
-    values = [];
-    added = edges;
-    removed = [];
-    named = (name, oid_of db.graph.next) ∷ [];
-    unnamed = [];
-    labels = [];
-  }
+abbrev text_order : List Refusal
+text_order = refusals.Syntax ∷ refusals.UnknownName ∷ (bound_order ++ local_order)
 
-  abbrev graph : OemGraph
-  graph = record {
-    names = insert_entry bytes_cmp db.graph.names name (oid_of db.graph.next);
-    objects = db.graph.objects ++ bodies db.graph.next literal;
-    edges = all;
-    next = db.graph.next + size literal;
-  }
+abbrev row_order : List Refusal
+row_order =
+    refusals.TooManyRows ∷ refusals.NotOne ∷ refusals.AtomicParent ∷ refusals.HasChildren ∷ refusals.OidsSpent
+    ∷ refusals.TooManyLabels ∷ []
 
-  abbrev after : Database
-  after = record { labels = texts; graph = graph; nodes = db.nodes; mode = db.mode }
+abbrev limit_order : List Refusal
+limit_order = refusals.TooManyNames ∷ refusals.TooManyObjects ∷ refusals.TooManyEdges ∷ []
 
-  module _ (set : IsSetOf (λ a b. edge_cmp a b ≡ Less) (db.graph.edges ++ edges) all) where
-    graph_comes : IsGraphThen db.graph changes graph
-    graph_comes = record {
-      names = refl;
-      objects = refl;
-      edges_ascend = set.ascend;
-      edges = members_of_both db.graph.edges edges all set;
-      next = ap (λ n. db.graph.next + n) (sym (length-bodies db.graph.next literal));
-    }
+-- ---- what is told of the text
+told_false : (test : Bool) → IsTold (test ≡ false)
+told_false true = inr (λ is. true≢false is)
+told_false false = inl refl
 
-    graph_ordered : IsOrdered db.graph → db.graph.next + size literal ≤ 2 ^ 32 → IsOrdered graph
-    graph_ordered ordered room =
-        let made = bodies db.graph.next literal in
-        let count = length-bodies db.graph.next literal in
-        let from_next = bodies_numbered db.graph.next literal in
-        record {
-          names_ascend = IsNameTable-names_after db.graph.names ((name, oid_of db.graph.next) ∷ []) ordered.names_ascend;
-          objects_ascend = ascend-made db.graph.objects made db.graph.next ordered.objects_ascend ordered.objects_numbered from_next;
-          objects_numbered = subst (λ n. All (λ (o : Oid × Value). (1 ≤ o.0.0) × (o.0.0 < db.graph.next + n)) (db.graph.objects ++ made)) count
-              (numbered-made db.graph.objects made db.graph.next ordered.next_numbered.0 ordered.objects_numbered from_next);
-          edges_ascend = set.ascend;
-          next_numbered = (omega (arith, ordered.next_numbered.0), omega (arith, room));
-        }
+told_unbound : (db : Database) (statement : StatementTree) → IsTold (IsUnbound db statement)
+told_unbound db (unname name) = told_not (told_paired told_bytes db.graph.names name)
+told_unbound db statement = inr (λ h. h)
 
-    after_is_load : IsKept db → AllZip (IsNumbered texts) (text_edges db.graph.next literal) edges → Loads db name literal after
-    after_is_load kept numbered =
-        let apart = first_uses_distinct db.labels (labels_of (text_edges db.graph.next literal)) kept.valid.labels_distinct in
-        let loads = after_loads db.graph name literal plain texts changes refl refl numbered db.labels graph refl apart graph_comes in
-        record {
-          labels = refl;
-          names = refl;
-          objects = refl;
-          edges_ascend = set.ascend;
-          edges = loads.edges;
-          next = refl;
-          nodes = refl;
-          mode = refl;
-        }
+-- the causes that the select of a statement is refused for before it runs
+told_read : (names : List (List ℕ × Oid)) (read : Option SelectTree)
+    → AreTold (λ refusal. MatchOption read ⊥ (λ query. binding.Cause names query refusal)) binding.order
+told_read names None = told_of_none (λ refusal. ⊥) (λ refusal h. h) binding.order
+told_read names (Some query) =
+    told_from_verdict (binding.Cause names query) binding.order (has_some_verdict names query)
 
--- ---- a reply of a form that is built
-record SomeBuilt (before : Database) (form : Built) : Type 0 where
-  reply : Reply
-  after : Database
-  executed : ExecutesBuilt before form reply after
-  kept : IsKept after
+told_made : (Has : LiteralTree → Type 0) → ((literal : LiteralTree) → IsTold (Has literal))
+    → (made : Option LiteralTree) → IsTold (MatchOption made ⊥ Has)
+told_made Has told None = inr (λ h. h)
+told_made Has told (Some literal) = told literal
 
-some_refused : (db : Database) (form : Built) (refusal : Refusal) → IsFirst (Cause db form) order refusal → IsKept db → SomeBuilt db form
-some_refused db form refusal first kept =
-    record { reply = Refused refusal; after = db; executed = inr (refusal, first, (refl, refl)); kept = kept }
+-- ---- the rows
+some_rows : (db : Database) (statement : StatementTree) → (Cause db statement refusals.UnknownName → ⊥)
+    → (Cause db statement refusals.UnknownVariable → ⊥)
+    → (rows : List (List Oid)) × AreRowsOf db statement rows
+some_rows db statement known ranged =
+    elim (reads statement)
+    as (λ read. (MatchOption read ⊥ (HasUnknownName db.graph.names) → ⊥)
+    → (MatchOption read ⊥ (HasUnknownVariable db.graph.names) → ⊥)
+    → (rows : List (List Oid)) × MatchOption read (rows ≡ []) (λ query. IsAnswer db query rows)) [
+      | None ↦ λ named varied. ([], refl)
+      | Some query ↦ λ named varied. has_some_answer db query (starts_somewhere db.graph.names query named varied)
+    ] (λ h. known (inr h)) ranged
 
-some_performed : (db : Database) (form : Built) (reply : Reply) (after : Database) → IsClear (Cause db form) order → Performs db form reply after → IsKept after
-    → SomeBuilt db form
-some_performed db form reply after clear performed kept = record { reply = reply; after = after; executed = inl (clear, performed); kept = kept }
-
-some_loaded : (db : Database) (name : List ℕ) (literal : LiteralTree) → IsKept db → IsName name → IsFormedLiteral literal → has_local literal ≡ false
-    → object_of db.graph.names name ≡ None → length db.graph.objects + size literal ≤ OBJECTS → IsClear (Cause db (load name literal)) order
-    → SomeBuilt db (load name literal)
-some_loaded db name literal kept word formed plain unbound few clear =
-    let list = text_edges db.graph.next literal in
-    let edges = numbered_edges (db.labels ++ first_uses db.labels (labels_of list)) list (first_uses_cover db.labels (labels_of list)) in
-    let all = some_ordered (λ a b. edge_cmp a b ≡ Less) edges_ordered (db.graph.edges ++ edges.0) in
-    let loads = after_is_load db name literal plain edges.0 all.0 all.1 kept edges.1 in
-    let room : db.graph.next + size literal ≤ 2 ^ 32 = omega (arith, kept.dense, few) in
-    let ordered = graph_ordered db name literal plain edges.0 all.0 all.1 kept.valid.well_formed.ordered room in
-    let count : length all.0 ≤ length db.graph.edges + length list =
-    omega (arith, all.1.few, length-append db.graph.edges edges.0, length-along (IsNumbered (db.labels ++ first_uses db.labels (labels_of list))) list edges.0 edges.1) in
-    let later = after db name literal plain edges.0 all.0 in
-    some_performed db (load name literal) (Changed (length later.graph.objects) (length later.graph.edges)) later clear (loads, refl)
-    (kept_after db name literal plain later loads kept unbound word formed few ordered count)
-
-some_unbound : (db : Database) (name : List ℕ) (literal : LiteralTree) → IsKept db → IsName name → IsFormedLiteral literal → has_local literal ≡ false
-    → object_of db.graph.names name ≡ None → SomeBuilt db (load name literal)
-some_unbound db name literal kept word formed plain unbound =
-    let free : IsBound db name → ⊥ = λ bound. cc (unbound, bound.1) in
-    elim (cases_lt OBJECTS (length db.graph.objects + size literal)) [
-      | inl many ↦ some_refused db (load name literal) refusals.TooManyObjects (large_first db name literal free many) kept
-      | inr few ↦ (
-          let within : length db.graph.objects + size literal ≤ OBJECTS = omega (arith, few) in
-          some_loaded db name literal kept word formed plain unbound within (load_clear db name literal free within))
+-- ---- what is told of the rows
+told_many_rows : (db : Database) (statement : StatementTree) (rows : List (List Oid)) → AreRowsOf db statement rows
+    → IsTold (OfReads statement (HasTooManyRows db))
+told_many_rows db statement rows =
+    elim (reads statement)
+    as (λ read. MatchOption read (rows ≡ []) (λ query. IsAnswer db query rows)
+    → IsTold (MatchOption read ⊥ (HasTooManyRows db))) [
+      | None ↦ λ are. inr (λ h. h)
+      | Some query ↦ λ are. told_same (λ many. (rows, are, many))
+          (λ h. subst (λ (l : List (List Oid)). ROWS < length l) (has_one_answer db query h.0 rows h.1 are) h.2)
+          (told_below ROWS (length rows))
     ]
 
-some_load : (db : Database) (name : List ℕ) (literal : LiteralTree) → IsKept db → IsName name → IsFormedLiteral literal → has_local literal ≡ false
-    → SomeBuilt db (load name literal)
-some_load db name literal kept word formed plain =
-    elim (object_of db.graph.names name) as (λ o. object_of db.graph.names name ≡ o → SomeBuilt db (load name literal)) [
-      | None ↦ λ unbound. some_unbound db name literal kept word formed plain unbound
-      | Some oid ↦ λ bound. some_refused db (load name literal) refusals.Syntax (bound_first db name literal (oid, bound)) kept
-    ] refl
+told_not_one : (db : Database) (statement : StatementTree) (rows : List (List Oid)) → AreRowsOf db statement rows
+    → IsTold (IsNotOne db statement)
+told_not_one db (bind name path) rows are =
+    let Other = λ (l : List (List Oid)). length l ≢ 1 in
+    told_same (λ other. (rows, are, other))
+    (λ h. subst Other (has_one_answer db (path_select path) h.0 rows h.1 are) h.2)
+    (told_not (cases_eq (length rows) 1))
+told_not_one db statement rows are = inr (λ h. h)
 
-some_select : (db : Database) (query : SelectTree) → IsKept db → SomeBuilt db (select query)
-some_select db query kept = elim (select_verdict db query) [
-  | inl clear ↦ some_performed db (select query) (Rows clear.1.0) db clear.0 (refl, (clear.1.0, refl, clear.1.1)) kept
-  | inr refused ↦ some_refused db (select query) refused.0 refused.1 kept
-]
+-- of changes it is told with any list of the rows
+told_changes : (db : Database) (statement : StatementTree) (rows : List (List Oid)) → AreRowsOf db statement rows
+    → (refusal : Refusal)
+    → IsTold (ChangeCause db.labels db.graph (effects db statement rows) refusal)
+    → IsTold (ChangesCause db statement refusal)
+told_changes db (select query) rows are refusal told = inr (λ h. h)
+told_changes db statement rows are refusal told =
+    let Has = λ (l : List (List Oid)). ChangeCause db.labels db.graph (effects db statement l) refusal in
+    told_same (λ h. (rows, are, h)) (λ h. subst Has (one_rows db statement h.0 rows h.1 are) h.2) told
 
--- ---- a reply of a statement
-unbuilt : (db : Database) (statement : StatementTree) → built statement ≡ None → IsKept db → SomeReply db statement
-unbuilt db statement e kept = record { reply = Refused refusals.Syntax; after = db; executed = rw e (refl, refl); kept = kept }
+module _ (db : Database) (kept : IsKept db) (statement : StatementTree) (formed : IsFormedStatement statement) where
+  -- ---- what is told of the changes
+  module _ (rows : List (List Oid)) (are : AreRowsOf db statement rows) where
+    abbrev changes : Changes
+    changes = effects db statement rows
 
-from_built : (db : Database) (statement : StatementTree) (form : Built) → built statement ≡ Some form → SomeBuilt db form → SomeReply db statement
-from_built db statement form e some = record { reply = some.reply; after = some.after; executed = rw e some.executed; kept = some.kept }
+    told_changed : (refusal : Refusal) → IsTold (ChangeCause db.labels db.graph changes refusal)
+        → IsTold (ChangesCause db statement refusal)
+    told_changed = told_changes db statement rows are
+
+    -- where nothing before refuses them, they leave a graph
+    told_limits : IsClear (Cause db statement) fit_order → AreTold (Cause db statement) limit_order
+    told_limits clear =
+        let fits = effects_fit db kept.valid statement formed rows are clear in
+        let left = some_database_after db changes kept.valid.well_formed.ordered fits.graph in
+        let told : (count : OemGraph → ℕ) (limit : ℕ) → IsTold (Outgrows db.graph changes count limit) =
+        λ count limit. told_outgrows db.graph changes count limit left.0.graph left.1.graph in (
+          told_changed refusals.TooManyNames (told (λ after. length after.names) NAMES),
+          λ names. (
+            told_changed refusals.TooManyObjects (told (λ after. length after.objects) OBJECTS),
+            λ objects. (told_changed refusals.TooManyEdges (told (λ after. length after.edges) EDGES), λ edges. tt),
+          ),
+        )
+
+    told_rows : AreTold (Cause db statement) row_order
+    told_rows = (
+      told_many_rows db statement rows are,
+      λ short. (
+        told_not_one db statement rows are,
+        λ one. (
+          told_changed refusals.AtomicParent (told_adds_to_atom db.graph changes),
+          λ unatomic. (
+            told_changed refusals.HasChildren (told_hides_children db.graph changes),
+            λ shown. (
+              told_changed refusals.OidsSpent (told_below NEXT_NUMBER (db.graph.next + length changes.made)),
+              λ unspent. (
+                told_changed refusals.TooManyLabels (told_below LABELS (length db.labels + length changes.labels)),
+                λ labels. tt,
+              ),
+            ),
+          ),
+        ),
+      ),
+    )
+
+    told_behind : IsClear (Cause db statement) text_order → AreTold (Cause db statement) (row_order ++ limit_order)
+    told_behind clear =
+        told_append (Cause db statement) row_order limit_order told_rows
+        (λ behind. told_limits (clear_both (Cause db statement) text_order row_order clear behind))
+
+  -- ---- what is told of all
+  told_text : AreTold (Cause db statement) text_order
+  told_text =
+      let read = told_read db.graph.names (reads statement) in (
+        told_false (is_built statement),
+        λ built. (
+          told_either (told_unbound db statement) read.0,
+          λ known. told_append (Cause db statement) bound_order local_order (read.1 (λ h. known (inr h)))
+              (λ bound. (
+                told_made HasDouble told_double (makes statement),
+                λ single. (told_made HasUndefined told_undefined (makes statement), λ defined. tt),
+              )),
+        ),
+      )
+
+  told_order : AreTold (Cause db statement) order
+  told_order = told_append (Cause db statement) text_order (row_order ++ limit_order) told_text (λ clear.
+      let found = some_rows db statement clear.1.0 clear.1.1.0 in
+      told_behind found.0 found.1 clear)
+
+  -- ---- what is done where nothing refuses
+  at_most : (count limit : ℕ) → (limit < count → ⊥) → count ≤ limit
+  at_most count limit few = elim (cases_lt limit count) [ inl many ↦ absurd (few many) | inr low ↦ low ]
+
+  some_led : (rows : List (List Oid)) → AreRowsOf db statement rows → Fits db (effects db statement rows)
+      → (Outgrows db.graph (effects db statement rows) (λ after. length after.names) NAMES → ⊥)
+      → (Outgrows db.graph (effects db statement rows) (λ after. length after.objects) OBJECTS → ⊥)
+      → (Outgrows db.graph (effects db statement rows) (λ after. length after.edges) EDGES → ⊥)
+      → (reply : Reply) × (after : Database) × LeadsOn db statement reply after × IsKept after
+  some_led rows are fits names objects edges =
+      let made = effects db statement rows in
+      let left = some_database_after db made kept.valid.well_formed.ordered fits.graph in
+      let after = left.0 in
+      let graph = left.1.graph in
+      let valid = valid_after db made after kept.valid fits left.1
+      (at_most (length after.graph.names) NAMES (λ many. names (after.graph, graph, many)))
+      (at_most (length after.graph.objects) OBJECTS (λ many. objects (after.graph, graph, many)))
+      (at_most (length after.graph.edges) EDGES (λ many. edges (after.graph, graph, many))) in (
+        Changed (length after.graph.objects) (length after.graph.edges),
+        after,
+        ((rows, are, left.1), refl),
+        record { valid = valid; nodes = left.1.nodes ∙ kept.nodes; mode = left.1.mode ∙ kept.mode },
+      )
+
+some_performed : (db : Database) → IsKept db → (statement : StatementTree) → IsFormedStatement statement
+    → IsClear (Cause db statement) order
+    → (reply : Reply) × (after : Database) × Performs db statement reply after × IsKept after
+some_performed db kept (select query) formed clear =
+    let found = some_rows db (select query) clear.1.0 clear.1.1.0 in
+    (Rows found.0, db, (refl, (found.0, refl, found.1)), kept)
+some_performed db kept statement formed clear =
+    let found = some_rows db statement clear.1.0 clear.1.1.0 in
+    let limits = clear_right (Cause db statement) fit_order limit_order clear in
+    let fits = effects_fit db kept.valid statement formed found.0 found.1
+    (clear_left (Cause db statement) fit_order limit_order clear) in
+    some_led db kept statement formed found.0 found.1 fits (λ many. limits.0 (found.0, found.1, many))
+    (λ many. limits.1.0 (found.0, found.1, many)) (λ many. limits.1.1.0 (found.0, found.1, many))
 
 pub executes_always : ExecutesAlways
-executes_always db (t.load name literal) kept sound =
-    let formed = sound_statement (t.load name literal) sound in
-    let whole : Bool → Option Built = λ b. if b then None else Some (load name literal) in
-    elim (either (has_local literal)) [
-      | inl marked ↦ unbuilt db (t.load name literal) (ap whole marked) kept
-      | inr plain ↦ from_built db (t.load name literal) (load name literal) (ap whole plain)
-          (some_load db name literal kept formed.0 formed.1 plain)
+executes_always db statement kept sound =
+    let formed = sound_statement statement sound in
+    elim (some_verdict (Cause db statement) order (told_order db kept statement formed)) [
+      | inl clear ↦ (
+          let done = some_performed db kept statement formed clear in
+          record { reply = done.0; after = done.1; executed = inl (clear, done.2); kept = done.3 })
+      | inr first ↦ record {
+        reply = Refused first.0;
+        after = db;
+        executed = inr (first.0, first.1, (refl, refl));
+        kept = kept;
+      }
     ]
-executes_always db (t.select query) kept sound =
-    let whole : Bool → Option Built = λ b. if b then None else Some (select query) in
-    elim (either (has_path_variable query)) [
-      | inl some ↦ unbuilt db (t.select query) (ap whole some) kept
-      | inr none ↦ from_built db (t.select query) (select query) (ap whole none) (some_select db query kept)
-    ]
-executes_always db statement kept sound = unbuilt db statement refl kept
-
-pub some_execution : (before : Database) (statement : StatementTree) → IsKept before → IsSound statement
-    → (reply : Reply) × (after : Database) × Executes before statement reply after × IsKept after
-some_execution before statement kept sound =
-    let some = executes_always before statement kept sound in
-    (some.reply, some.after, some.executed, some.kept)
 
 pub begins_kept : IsKept new_database
 unfolding IsStrictlySortedBy
@@ -218,11 +268,18 @@ begins_kept = record {
     };
     labelled = λ k d low. absurd (omega (arith, low));
     reached = λ k d low. absurd (omega (arith, low));
+    few_labels = omega arith;
+    few_names = omega arith;
     few_objects = omega arith;
     few_edges = omega arith;
     nodes_limited = (omega arith, omega arith);
   };
-  dense = refl;
-  few_labels = omega arith;
-  few_edges = omega arith;
+  nodes = refl;
+  mode = refl;
 }
+
+pub some_execution : (before : Database) (statement : StatementTree) → IsKept before → IsSound statement
+    → (reply : Reply) × (after : Database) × Executes before statement reply after × IsKept after
+some_execution before statement kept sound =
+    let some = executes_always before statement kept sound in
+    (some.reply, some.after, some.executed, some.kept)

@@ -1,29 +1,30 @@
--- The forms of statement that are executed. A statement of any other form is refused `Syntax`.
-use Rattle.std.specs.Prelude.{ℕ, Bool, true, false, ◌||◌, if◌then◌else◌, List, Option, Some, None, is_some}
+-- The forms of statement that are executed, and what they read. A statement of any other form is refused `Syntax`.
+use Rattle.std.specs.Prelude.{Bool, true, false, ◌||◌, if◌then◌else◌, [], Option, Some, None, is_some}
 use Rattle.std.specs.List.{list_any}
-use Rattle.lorel_trees.specs.Trees as t
-use Rattle.lorel_trees.specs.Trees.{LiteralTree, MemberTrees, ItemTree, FromTree, SelectTree, StatementTree}
+use Rattle.lorel_trees.specs.Trees.{LiteralTree, RootedTree, ItemTree, object, path_of, FromTree, SelectTree, StatementTree}
+use Rattle.lorel_trees.specs.Trees.{load, bind, unname, add_new, select}
+use Rattle.lorel_trees.specs.UpdateRows.{target_select, rows_of}
 
--- a statement of a form that is built: a literal under a name, and a select
-pub data Built : Type 0 where
-  load : (name : List ℕ) (literal : LiteralTree) → Built
-  select : (query : SelectTree) → Built
+-- the select of one path
+abbrev pub path_select : RootedTree → SelectTree
+path_select path = target_select path (record { ranges = []; cond = None })
 
--- whether a local stands in the literal
-abbrev mutual
-  pub has_local : LiteralTree → Bool
-  has_local (t.local number) = true
-  has_local (t.atom mark value) = is_some mark
-  has_local (t.node mark members) = is_some mark || have_local members
+-- the select whose rows a statement is executed over: its own, that of the path to name, or that of an update
+abbrev pub reads : StatementTree → Option SelectTree
+reads (bind name path) = Some (path_select path)
+reads (select query) = Some query
+reads statement = rows_of statement
 
-  pub have_local : MemberTrees → Bool
-  have_local t.none = false
-  have_local (t.more label literal others) = has_local literal || have_local others
+-- the literal that a statement makes objects of
+abbrev pub makes : StatementTree → Option LiteralTree
+makes (load name literal) = Some literal
+makes (add_new target label literal tail) = Some literal
+makes statement = None
 
 -- whether an item shows a path variable
 abbrev pub is_path_variable : ItemTree → Bool
-is_path_variable (t.object path) = false
-is_path_variable (t.path_of variable) = true
+is_path_variable (object path) = false
+is_path_variable (path_of variable) = true
 
 -- whether a path variable stands in the select
 abbrev pub has_path_variable : SelectTree → Bool
@@ -31,8 +32,12 @@ has_path_variable query =
     list_any is_path_variable query.items
     || list_any (λ (range : FromTree). is_some range.word) query.tail.ranges
 
--- which form a statement has, if that is built: a load of a literal without locals, and a select without path variables
-abbrev pub built : StatementTree → Option Built
-built (t.load name literal) = if has_local literal then None else Some (load name literal)
-built (t.select query) = if has_path_variable query then None else Some (select query)
-built statement = None
+abbrev pub is_read : Option SelectTree → Bool
+is_read None = false
+is_read (Some query) = if has_path_variable query then false else true
+
+-- whether the form is built: a load, an unname, and what is executed over a select without path variables
+abbrev pub is_built : StatementTree → Bool
+is_built (load name literal) = true
+is_built (unname name) = true
+is_built statement = is_read (reads statement)

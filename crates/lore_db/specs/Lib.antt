@@ -1,7 +1,6 @@
 pub mod Types
 pub mod Answers
 pub mod Built
-pub mod Made
 pub mod Statements
 pub mod KeptDatabases
 pub mod StatementLaws

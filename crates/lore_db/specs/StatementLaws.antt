@@ -1,11 +1,10 @@
 -- Laws that make the meaning of one statement whole: its reply and the database after it are determined, and they exist
--- from each database that a `Db` can be; and so is the graph once changes are made.
+-- from each database that a `Db` can be.
 use Rattle.std.specs.Prelude.{◌≡◌}
-use Rattle.lore_base.specs.Databases.{OemGraph, Database, new_database}
-use Rattle.lore_base.specs.ChangeSets.{IsGraphThen}
+use Rattle.lore_base.specs.Databases.{Database, new_database}
 use Rattle.lorel_trees.specs.Trees.{StatementTree}
 use Rattle.lorel_trees.specs.Sound.{IsSound}
-use Rattle.lore_db.specs.Types.{Changes, Reply}
+use Rattle.lore_db.specs.Types.{Reply}
 use Rattle.lore_db.specs.KeptDatabases.{IsKept}
 use Rattle.lore_db.specs.Statements.{Executes}
 
@@ -30,12 +29,3 @@ ExecutesAlways =
 -- the new database is one that a `Db` can be
 abbrev pub BeginsKept : Type 0
 BeginsKept = IsKept new_database
-
--- changes that only add lead from a graph to one graph
-abbrev pub ChangesLeadToOne : Type 0
-ChangesLeadToOne = (before : OemGraph) (changes : Changes) (after other : OemGraph)
-    → IsGraphThen before changes after → IsGraphThen before changes other → after ≡ other
-
--- and they lead to some
-abbrev pub ChangesLeadToSome : Type 0
-ChangesLeadToSome = (before : OemGraph) (changes : Changes) → (after : OemGraph) × IsGraphThen before changes after

@@ -1,76 +1,159 @@
 -- What one statement answers, and the database that it leaves.
-use Rattle.std.specs.Prelude.{◌≡◌, ℕ, ◌+◌, ◌<◌, ◌⊎◌, ◌↔◌, List, [], ◌∷◌, ◌++◌, length, Some, MatchOption, Contains}
-use Rattle.std.specs.BTreeMap.{insert_entry}
-use Rattle.lore_db.specs.Types.{Oid, Edge, Refusal, OBJECTS, ROWS, Reply, Changed, Rows, Refused}
+use Rattle.std.specs.Prelude.{◌≡◌, ◌≢◌, ℕ, ◌+◌, ◌<◌, ◌⊎◌, false, List, [], ◌∷◌, ◌++◌, length, map, Some, None, MatchOption}
+use Rattle.lore_db.specs.Types.{Oid, Changes, Refusal, ROWS, Reply, Changed, Rows, Refused}
 use Rattle.lore_db.specs.Types.refusals
-use Rattle.lore_base.specs.Bytes.{bytes_cmp}
-use Rattle.lore_base.specs.Names.{object_of}
 use Rattle.lore_base.specs.Walks.{oid_of}
-use Rattle.lore_base.specs.Databases.{Database, AreAscendingEdges}
-use Rattle.lorel_trees.specs.Trees.{LiteralTree, SelectTree, StatementTree}
+use Rattle.lore_base.specs.Databases.{Database}
+use Rattle.lore_base.specs.ChangeSets.{IsBound, IsAfter}
+use Rattle.lore_base.specs.ChangeCauses.{ChangeCause}
+use Rattle.lore_base.specs.Verdicts.{IsFirst, IsClear}
+use Rattle.lorel_trees.specs.Trees.{LiteralTree, SelectTree, StatementTree, load, bind, unname, select}
 use Rattle.lorel_bind.specs.Answers.{IsAnswer}
-use Rattle.lorel_bind.specs.Refusals.{IsFirst, IsClear}
 use Rattle.lorel_bind.specs.Refusals as binding
 use Rattle.oem_labels.specs.Labels.{first_uses}
-use Rattle.lore_db.specs.Built.{Built, load, select, built}
-use Rattle.lore_db.specs.Made.{TextEdge, size, bodies, text_edges, labels_of, IsNumbered}
+use Rattle.oem_text.specs.Literals.{HasDouble, HasUndefined, labels_of, objects_of, edges_of}
+use Rattle.updates.specs.Effects.{Pair, no_changes, changes_by}
+use Rattle.lore_db.specs.Built.{reads, makes, path_select, is_built}
 
--- the name is bound
-abbrev pub IsBound : Database → List ℕ → Type 0
-IsBound db name = (oid : Oid) × (object_of db.graph.names name ≡ Some oid)
+-- What a statement changes.
+
+-- the objects of a row: that of its first cell, and that of its second one, if it has one
+abbrev pub pair_of : List Oid → Pair
+pair_of [] = (oid_of 0, None)
+pair_of (first ∷ []) = (first, None)
+pair_of (first ∷ second ∷ others) = (first, Some second)
+
+-- the rows that a statement is executed over: none where it reads nothing
+abbrev pub AreRowsOf : Database → StatementTree → List (List Oid) → Type 0
+AreRowsOf db statement rows = MatchOption (reads statement) (rows ≡ []) (λ query. IsAnswer db query rows)
+
+-- a literal is made and its first object named
+abbrev pub loading : Database → List ℕ → LiteralTree → Changes
+loading db name literal =
+    let new = first_uses db.labels (labels_of literal) in
+    record {
+      made = objects_of db.graph.next literal;
+      values = [];
+      added = edges_of db.graph.next (db.labels ++ new) literal;
+      removed = [];
+      named = (name, oid_of db.graph.next) ∷ [];
+      unnamed = [];
+      labels = new;
+    }
+
+-- the name is bound to the object of the first row
+abbrev pub naming : List ℕ → List Pair → Changes
+naming name [] = no_changes
+naming name (row ∷ rows) = record {
+  made = [];
+  values = [];
+  added = [];
+  removed = [];
+  named = (name, row.0) ∷ [];
+  unnamed = [];
+  labels = [];
+}
+
+-- the name is taken away
+abbrev pub unnaming : List ℕ → Changes
+unnaming name = record {
+  made = [];
+  values = [];
+  added = [];
+  removed = [];
+  named = [];
+  unnamed = name ∷ [];
+  labels = [];
+}
+
+-- what a statement changes, over its rows
+abbrev pub effects : Database → StatementTree → List (List Oid) → Changes
+effects db (load name literal) rows = loading db name literal
+effects db (bind name path) rows = naming name (map pair_of rows)
+effects db (unname name) rows = unnaming name
+effects db statement rows = changes_by db.labels db.graph statement (map pair_of rows)
+
+-- Why a statement is refused.
+
+-- the name that is to be taken away isn't bound
+abbrev pub IsUnbound : Database → StatementTree → Type 0
+IsUnbound db (unname name) = ¬ IsBound db.graph.names name
+IsUnbound db statement = ⊥
 
 -- the select has more rows than an answer may have
 abbrev pub HasTooManyRows : Database → SelectTree → Type 0
 HasTooManyRows db query = (rows : List (List Oid)) × IsAnswer db query rows × (ROWS < length rows)
 
--- the cause of each refusal of a statement of a form that is built. A load of a name that is bound isn't built
-abbrev pub Cause : Database → Built → Refusal → Type 0
-Cause db (load name literal) refusals.Syntax = IsBound db name
-Cause db (load name literal) refusals.TooManyObjects = OBJECTS < length db.graph.objects + size literal
-Cause db (load name literal) _ = ⊥
-Cause db (select query) refusals.TooManyRows = HasTooManyRows db query
-Cause db (select query) refusal = binding.Cause db.graph.names query refusal
+-- the path to name reaches no object, or several
+abbrev pub IsNotOne : Database → StatementTree → Type 0
+IsNotOne db (bind name path) =
+    (rows : List (List Oid)) × IsAnswer db (path_select path) rows × (length rows ≢ 1)
+IsNotOne db statement = ⊥
 
--- the order in which causes are tried
+-- the changes that a statement makes have this cause; a select makes none
+abbrev pub ChangesCause : Database → StatementTree → Refusal → Type 0
+ChangesCause db (select query) refusal = ⊥
+ChangesCause db statement refusal =
+    (rows : List (List Oid)) × AreRowsOf db statement rows × ChangeCause db.labels db.graph (effects db statement rows) refusal
+
+-- the select that a statement is executed over has this
+abbrev pub OfReads : StatementTree → (SelectTree → Type 0) → Type 0
+OfReads statement Has = MatchOption (reads statement) ⊥ Has
+
+-- the literal that a statement makes objects of has this
+abbrev pub OfMakes : StatementTree → (LiteralTree → Type 0) → Type 0
+OfMakes statement Has = MatchOption (makes statement) ⊥ Has
+
+-- the cause of each refusal of a statement
+abbrev pub Cause : Database → StatementTree → Refusal → Type 0
+Cause db statement refusals.Syntax = is_built statement ≡ false
+Cause db statement refusals.UnknownName =
+    IsUnbound db statement
+    ⊎ OfReads statement (λ query. binding.Cause db.graph.names query refusals.UnknownName)
+Cause db statement refusals.UnknownVariable =
+    OfReads statement (λ query. binding.Cause db.graph.names query refusals.UnknownVariable)
+Cause db statement refusals.DuplicateVariable =
+    OfReads statement (λ query. binding.Cause db.graph.names query refusals.DuplicateVariable)
+Cause db statement refusals.TooManyRanges =
+    OfReads statement (λ query. binding.Cause db.graph.names query refusals.TooManyRanges)
+Cause db statement refusals.DuplicateLocal = OfMakes statement HasDouble
+Cause db statement refusals.UndefinedLocal = OfMakes statement HasUndefined
+Cause db statement refusals.TooManyRows = OfReads statement (HasTooManyRows db)
+Cause db statement refusals.NotOne = IsNotOne db statement
+Cause db statement refusal = ChangesCause db statement refusal
+
+-- the order in which causes are tried: that of their numbers
 abbrev pub order : List Refusal
 order =
     refusals.Syntax ∷ refusals.UnknownName ∷ refusals.UnknownVariable ∷ refusals.DuplicateVariable
-    ∷ refusals.TooManyRanges ∷ refusals.TooManyRows ∷ refusals.TooManyObjects ∷ []
+    ∷ refusals.TooManyRanges ∷ refusals.DuplicateLocal ∷ refusals.UndefinedLocal ∷ refusals.TooManyRows
+    ∷ refusals.NotOne ∷ refusals.AtomicParent ∷ refusals.HasChildren ∷ refusals.OidsSpent
+    ∷ refusals.TooManyLabels ∷ refusals.TooManyNames ∷ refusals.TooManyObjects ∷ refusals.TooManyEdges ∷ []
 
--- a load makes the literal's objects and edges and binds the name to the first of them
-pub record Loads (before : Database) (name : List ℕ) (literal : LiteralTree) (after : Database) : Type 0 where
-  pub labels : after.labels
-      ≡ before.labels ++ first_uses before.labels (labels_of (text_edges before.graph.next literal))
-  pub names : after.graph.names ≡ insert_entry bytes_cmp before.graph.names name (oid_of before.graph.next)
-  pub objects : after.graph.objects ≡ before.graph.objects ++ bodies before.graph.next literal
-  pub edges_ascend : AreAscendingEdges after.graph.edges
-  pub edges : (edge : Edge) → Contains after.graph.edges edge
-      ↔ (Contains before.graph.edges edge
-      ⊎ ((text_edge : TextEdge) × Contains (text_edges before.graph.next literal) text_edge × IsNumbered after.labels text_edge edge))
-  pub next : after.graph.next ≡ before.graph.next + size literal
-  pub nodes : after.nodes ≡ before.nodes
-  pub mode : after.mode ≡ before.mode
+-- What a statement does where nothing refuses it.
 
--- what a statement does where nothing refuses it. A select answers all of its rows and changes nothing
-abbrev pub Performs : Database → Built → Reply → Database → Type 0
-Performs before (load name literal) reply after =
-    Loads before name literal after × (reply ≡ Changed (length after.graph.objects) (length after.graph.edges))
-Performs before (select query) reply after =
+-- the database after the changes that a statement makes, and the reply that counts what it holds
+abbrev pub LeadsOn : Database → StatementTree → Reply → Database → Type 0
+LeadsOn before statement reply after =
+    ((rows : List (List Oid)) × AreRowsOf before statement rows × IsAfter before (effects before statement rows) after)
+    × (reply ≡ Changed (length after.graph.objects) (length after.graph.edges))
+
+-- a select answers all of its rows and changes nothing
+abbrev pub Answers : Database → SelectTree → Reply → Database → Type 0
+Answers before query reply after =
     (after ≡ before) × ((rows : List (List Oid)) × (reply ≡ Rows rows) × IsAnswer before query rows)
+
+abbrev pub Performs : Database → StatementTree → Reply → Database → Type 0
+Performs before (select query) reply after = Answers before query reply after
+Performs before statement reply after = LeadsOn before statement reply after
 
 -- a refusal changes nothing
 abbrev pub Refuses : Refusal → Database → Reply → Database → Type 0
 Refuses refusal before reply after = (reply ≡ Refused refusal) × (after ≡ before)
 
--- a statement of a form that is built, its reply and the database after it: it is performed where no cause of a refusal
--- applies, and the first that applies refuses it
-abbrev pub ExecutesBuilt : Database → Built → Reply → Database → Type 0
-ExecutesBuilt before form reply after =
-    (IsClear (Cause before form) order × Performs before form reply after)
-    ⊎ ((refusal : Refusal) × IsFirst (Cause before form) order refusal × Refuses refusal before reply after)
-
--- one statement: its reply and the database after it
+-- one statement, its reply and the database after it: it is performed where no cause of a refusal applies, and the first
+-- that applies refuses it
 abbrev pub Executes : Database → StatementTree → Reply → Database → Type 0
 Executes before statement reply after =
-    MatchOption (built statement) (Refuses refusals.Syntax before reply after)
-    (λ form. ExecutesBuilt before form reply after)
+    (IsClear (Cause before statement) order × Performs before statement reply after)
+    ⊎ ((refusal : Refusal) × IsFirst (Cause before statement) order refusal × Refuses refusal before reply after)

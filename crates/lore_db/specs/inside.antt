@@ -1,5 +1,7 @@
 -- Definitions that no public contract cites.
+pub mod Stops
+pub mod Stages
 pub mod Finding
 pub mod Legs
-pub mod Making
 pub mod RowOrder
+pub mod Locals

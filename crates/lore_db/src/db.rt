@@ -7,11 +7,11 @@ ghost use Rattle.lorel_trees.specs.Sound.{IsSound};
 ghost use Rattle.lore_db.specs.Statements.{Executes};
 
 use crate::replies::Reply;
+use crate::stops::reply_of;
 use index_traits::ValueOf;
 use lore_base::{Label, NoMemory, OemText, Oid, Refusal, Steps, Value};
+use lore_store::Store;
 use lorel_trees::Statement;
-use oem_graph::Graph;
-use oem_labels::LabelTable;
 use std::alloc::Global;
 use std::marker::Model;
 use std::sync::ledger::Ledger;
@@ -19,19 +19,18 @@ use std::sync::ledger::Ledger;
 /// A database that statements are executed on, seen by contracts as that database.
 #[derive(Drop)]
 pub struct Db {
-    pub(crate) graph: Graph,
-    pub(crate) labels: LabelTable,
+    pub(crate) store: Store,
 }
 
 impl Model for Db {
     ghost use Rattle.lore_base.specs.Databases.{Database};
-    ghost use Rattle.lore_db.specs.KeptDatabases.{database_of, IsKept};
+    ghost use Rattle.lore_db.specs.KeptDatabases.{IsKept};
 
     ghost Value = { Database };
 
-    ghost view = { λ s. database_of s.labels s.graph.graph };
+    ghost view = { λ s. s.store.db };
 
-    ghost invariant = { λ s. IsKept (database_of s.labels s.graph.graph) };
+    ghost invariant = { λ s. IsKept s.store.db };
 }
 
 impl Db {
@@ -40,9 +39,15 @@ impl Db {
         ensures { IfOk result (λ db. db ≡ new_database) }
     {
         Ok(Db {
-            graph: Graph::new(alloc),
-            labels: LabelTable::new(alloc),
+            store: Store::new(alloc),
         })
+    }
+
+    /// The store that the database is kept in. Takes no memory.
+    pub fn store(&self) -> &Store
+        ensures { result.now.db ≡ self.now }
+    {
+        &self.store
     }
 
     /// The object's value; None exactly where the object isn't live. Takes no memory.
@@ -53,14 +58,14 @@ impl Db {
         ensures only { (value : TheValue) → Contains self.now.graph.objects (oid, value)
             → option_copied result ≡ Some value }
     {
-        self.graph.value_of(oid)
+        self.store.graph().value_of(oid)
     }
 
     /// The label's text; None exactly where the label has no text. Takes no memory.
     pub fn label(&self, label: Label) -> Option<&OemText>
         ensures { option_copied result ≡ slice_get self.now.labels label.0 }
     {
-        self.labels.text(label)
+        self.store.labels().text(label)
     }
 
     /// Executes a statement. A refusal, and want of memory, leave the database as it was.
@@ -78,8 +83,14 @@ impl Db {
         ensures err { OnErr result (self.new ≡ self.old) }
     {
         match statement {
-            Statement::Load { name, literal } => self.load(alloc, name, literal),
-            Statement::Select(query) => self.select(alloc, query, steps),
+            Statement::Load { name, literal } => reply_of(self.load(alloc, name, literal, steps)),
+            Statement::Name { name, path } => reply_of(self.name(alloc, name, path, steps)),
+            Statement::Unname { name } => reply_of(self.unname(alloc, name, steps)),
+            Statement::Assign { .. }
+            | Statement::AddNew { .. }
+            | Statement::AddLink { .. }
+            | Statement::Remove { .. } => reply_of(self.update(alloc, statement, steps)),
+            Statement::Select(query) => reply_of(self.select(alloc, query, steps)),
             _ => Ok(Reply::Refused(Refusal::Syntax)),
         }
     }

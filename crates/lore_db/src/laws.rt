@@ -1,7 +1,6 @@
 //! Laws of the meaning of statements, each shown by a function that does nothing.
 
 ghost use Rattle.lore_db.specs.StatementLaws.{ExecutesOnce, ExecutesAlways, BeginsKept};
-ghost use Rattle.lore_db.specs.StatementLaws.{ChangesLeadToOne, ChangesLeadToSome};
 
 /// A statement has one reply, and leaves one database.
 pub fn one_reply()
@@ -13,10 +12,4 @@ pub fn one_reply()
 pub fn some_reply()
     ensures begun { BeginsKept }
     ensures always { ExecutesAlways }
-{}
-
-/// Changes that only add lead from a graph to exactly one graph.
-pub fn graph_then()
-    ensures one { ChangesLeadToOne }
-    ensures some { ChangesLeadToSome }
 {}

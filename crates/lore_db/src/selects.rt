@@ -1,80 +1,103 @@
-ghost use Rattle.std.specs.Prelude.{◌≡◌, Some, map, is_some, MatchOption, IfOk};
+ghost use Rattle.std.specs.Prelude.{◌≡◌, map, is_some, IfSome, IfOk, IfErr, OnOk};
 ghost use Rattle.std.specs.List.{list_any};
 ghost use Rattle.lorel_trees.specs.Trees.{FromTree, item_tree, from_tree, select_tree, select};
 ghost use Rattle.lorel_bind.specs.Bound.{bound_tree};
-ghost use Rattle.lorel_bind.specs.Bindings.{IsShallow, IsRunnable};
+ghost use Rattle.lore_base.specs.Verdicts.{IsClear, IsToldBy};
+ghost use Rattle.lorel_bind.specs.Answers.{IsAnswer};
+ghost use Rattle.lorel_bind.specs.Bindings.{IsBinding, IsShallow, IsRunnable};
 ghost use Rattle.lorel_bind.specs.SlotRows.{IsSlotRow};
-ghost use Rattle.lorel_bind.specs.Faults.{refusal_of};
-ghost use Rattle.lore_db.specs.Types.{Refusal as TheRefusal, Refused};
+ghost use Rattle.lore_db.specs.Types.refusals;
 ghost use Rattle.lore_db.specs.Built.{is_path_variable, has_path_variable};
-ghost use Rattle.lore_db.specs.Statements.{Executes};
+ghost use Rattle.lore_db.specs.Statements.{Cause, order, Executes};
+ghost use Rattle.lore_db.specs.inside.Stops.{told};
+ghost use Rattle.lore_db.specs.inside.Stages.{ReadCause, bind_order, read_order};
 ghost use Rattle.lore_db.specs.inside.Finding.{AreRows, AreTooMany};
 
 use crate::answers::Answer;
 use crate::db::Db;
 use crate::replies::Reply;
 use crate::rows::find_rows;
-use lore_base::{Fault, NoMemory, Refusal, Steps};
-use lorel_bind::{BindFault, Bound, bind};
+use crate::stops::Stop;
+use lore_base::{Refusal, Steps};
+use lorel_bind::{Bound, bind};
 use lorel_eval::Test;
 use lorel_trees::{FromItem, Item, Select};
 use std::alloc::Global;
 use std::sync::ledger::Ledger;
 
 impl Db {
-    /// Selects rows. Refused are a select with a path variable (`Syntax`), one that can't be bound
-    /// (`UnknownName`, `UnknownVariable`, `DuplicateVariable`, `TooManyRanges`), and one with more
-    /// than 100,000 rows (`TooManyRows`).
+    /// Selects rows.
     pub(crate) fn select<L: Ledger>(
         &self,
         alloc: Global,
         query: &Select,
         steps: &mut Steps<L>,
-    ) -> Result<Reply, NoMemory>
+    ) -> Result<Reply, Stop>
         requires { IsShallow (select_tree query.now) }
-        ensures { IfOk result (λ reply.
+        ensures ok { IfOk result (λ reply.
             Executes self.now (select (select_tree query.now)) reply self.now) }
+        ensures refused { let tree = select (select_tree query.now) in
+            IfErr result (λ stop. IsToldBy (Cause self.now tree) order (told stop)) }
     {
-        if has_path_variable(query) {
-            return Ok(Reply::Refused(Refusal::Syntax));
-        }
-        let bound = match bind(alloc, query, self.graph.names()) {
-            Ok(bound) => bound,
-            Err(fault) => return refused(&fault),
-        };
-        let found = self.run(alloc, &bound, steps);
-        // A drop that is written out is proved once; else it is proved in this function, at length.
-        drop(bound);
-        match found? {
-            Some(answer) => Ok(Reply::Rows(answer)),
-            None => Ok(Reply::Refused(Refusal::TooManyRows)),
-        }
+        Ok(Reply::Rows(self.rows_of(alloc, query, steps)?))
     }
 
-    // The rows of a bound select; None where there are more than 100,000.
-    fn run<L: Ledger>(
+    /// The rows of a select. Refused are a select with a path variable (`Syntax`), one that can't be
+    /// bound (`UnknownName`, `UnknownVariable`, `DuplicateVariable`, `TooManyRanges`), and one with
+    /// more than 100,000 rows (`TooManyRows`).
+    pub(crate) fn rows_of<L: Ledger>(
+        &self,
+        alloc: Global,
+        query: &Select,
+        steps: &mut Steps<L>,
+    ) -> Result<Answer, Stop>
+        requires { IsShallow (select_tree query.now) }
+        ensures rows { IfOk result (λ answer. IsAnswer self.now (select_tree query.now) answer) }
+        ensures ok { OnOk result (IsClear (ReadCause self.now (select_tree query.now)) read_order) }
+        ensures refused { let cause = ReadCause self.now (select_tree query.now) in
+            IfErr result (λ stop. IsToldBy cause read_order (told stop)) }
+    {
+        let bound = self.bound(alloc, query)?;
+        let found = self.found(alloc, &bound, steps);
+        // A drop that is written out is proved once; else it is proved in this function, at length.
+        drop(bound);
+        found
+    }
+
+    /// A select, bound. Refused are a select with a path variable and one that can't be bound.
+    pub(crate) fn bound(&self, alloc: Global, query: &Select) -> Result<Bound, Stop>
+        requires { IsShallow (select_tree query.now) }
+        ensures binding { IfOk result (λ bound.
+            IsBinding self.now.graph.names (select_tree query.now) (bound_tree bound)) }
+        ensures runnable { IfOk result (λ bound. IsRunnable (bound_tree bound)) }
+        ensures ok { OnOk result (IsClear (ReadCause self.now (select_tree query.now)) bind_order) }
+        ensures refused { let cause = ReadCause self.now (select_tree query.now) in
+            IfErr result (λ stop. IsToldBy cause bind_order (told stop)) }
+    {
+        if has_path_variable(query) {
+            return Err(Stop::Refused(Refusal::Syntax));
+        }
+        Ok(bind(alloc, query, self.store.graph().names())?)
+    }
+
+    /// The rows of a bound select. Refused are more than 100,000.
+    pub(crate) fn found<L: Ledger>(
         &self,
         alloc: Global,
         bound: &Bound,
         steps: &mut Steps<L>,
-    ) -> Result<Option<Answer>, NoMemory>
+    ) -> Result<Answer, Stop>
         requires { IsRunnable (bound_tree bound.now) }
-        ensures { let is_row = IsSlotRow self.now (bound_tree bound.now) in
-            IfOk result (λ found. MatchOption found (AreTooMany is_row) (AreRows is_row)) }
+        ensures rows { IfOk result (AreRows (IsSlotRow self.now (bound_tree bound.now))) }
+        ensures refused { IfErr result (λ stop. IfSome (told stop) (λ refusal.
+            (refusal ≡ refusals.TooManyRows) × AreTooMany (IsSlotRow self.now (bound_tree bound.now)))) }
     {
-        let test = Test::new(bound.cond.as_ref(), &self.graph, &self.graph, &self.labels);
-        find_rows(alloc, bound, &test, &self.graph, &self.labels, steps)
-    }
-}
-
-// The reply to a fault, unless it is want of memory.
-fn refused(fault: &BindFault) -> Result<Reply, NoMemory>
-    ensures { IfOk result (λ reply. (refusal : TheRefusal)
-        × (refusal_of fault.now ≡ Some refusal) × (reply ≡ Refused refusal)) }
-{
-    match fault.refusal() {
-        Some(refusal) => Ok(Reply::Refused(refusal)),
-        None => Err(NoMemory),
+        let (graph, labels) = (self.store.graph(), self.store.labels());
+        let test = Test::new(bound.cond.as_ref(), graph, graph, labels);
+        match find_rows(alloc, bound, &test, graph, labels, steps)? {
+            Some(answer) => Ok(answer),
+            None => Err(Stop::Refused(Refusal::TooManyRows)),
+        }
     }
 }
 

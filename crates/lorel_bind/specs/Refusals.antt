@@ -4,6 +4,7 @@ use Rattle.std.specs.List.{flat_map}
 use Rattle.lorel_bind.specs.Types.{Oid, Refusal, RANGES, ITEMS, LEAVES}
 use Rattle.lorel_bind.specs.Types.refusals
 use Rattle.lore_base.specs.Names.{object_of}
+pub use Rattle.lore_base.specs.Verdicts.{IsFirst, IsClear, IsToldBy}
 use Rattle.lore_base.specs.Paths.{leaves_of, trees_of}
 use Rattle.lorel_trees.specs.Trees.{SelectTree, FromTree, CondTree, CondTrees}
 use Rattle.lorel_trees.specs.Trees as t
@@ -100,22 +101,9 @@ Cause names query _ = ⊥
 abbrev pub order : List Refusal
 order = refusals.UnknownName ∷ refusals.UnknownVariable ∷ refusals.DuplicateVariable ∷ refusals.TooManyRanges ∷ []
 
--- of causes that are tried in order
-module _ (Applies : Refusal → Type 0) where
-  -- this is the first that applies
-  abbrev pub IsFirst : List Refusal → Refusal → Type 0
-  IsFirst [] refusal = ⊥
-  IsFirst (next ∷ others) refusal =
-      (Applies next × (refusal ≡ next)) ⊎ ((Applies next → ⊥) × IsFirst others refusal)
-
-  -- none applies
-  abbrev pub IsClear : List Refusal → Type 0
-  IsClear [] = Unit {0}
-  IsClear (next ∷ others) = (Applies next → ⊥) × IsClear others
-
 -- a fault of binding is want of memory, or tells the first cause that applies
 abbrev pub IsRefusedBy : List (List ℕ × Oid) → SelectTree → BindFault → Type 0
-IsRefusedBy names query fault = MatchOption (refusal_of fault) (Unit {0}) (IsFirst (Cause names query) order)
+IsRefusedBy names query fault = IsToldBy (Cause names query) order (refusal_of fault)
 
 -- no cause applies
 abbrev pub IsAccepted : List (List ℕ × Oid) → SelectTree → Type 0

@@ -71,15 +71,3 @@ pub ascend-append : (xs ys : List Edge) → AreAscendingEdges xs → AreAscendin
 ascend-append xs ys ascend_xs ascend_ys last first at_last at_first less =
     AllPairs-append (λ a b. edge_cmp a b ≡ Less) xs ys ascend_xs ascend_ys
     (λ i j d lt_i lt_j. from_first ys ascend_ys first (get_or xs i d) at_first (up_to_last xs ascend_xs last first at_last less i d lt_i) j d lt_j)
-
--- what stands in either of two lists, of which the second has the members of a third
-pub members-append : (xs ys zs : List Edge) (edge : Edge) → Contains ys edge ↔ Contains zs edge → Contains (xs ++ ys) edge ↔ (Contains xs edge ⊎ Contains zs edge)
-members-append xs ys zs edge same = (
-  λ at. elim (Contains-append_cases xs ys edge at) [ inl first ↦ inl first | inr second ↦ inr (same.0 second) ],
-  λ either. elim either [ inl first ↦ Contains-append_left xs ys edge first | inr second ↦ Contains-append_right xs ys edge (same.1 second) ],
-)
-
-pub members-joined : (all xs ys zs : List Edge) (edge : Edge) → Contains all edge ↔ Contains (xs ++ ys) edge → Contains ys edge ↔ Contains zs edge → Contains all edge ↔ (Contains xs edge ⊎ Contains zs edge)
-members-joined all xs ys zs edge whole same =
-    let parts = members-append xs ys zs edge same in
-    (λ at. parts.0 (whole.0 at), λ either. whole.1 (parts.1 either))

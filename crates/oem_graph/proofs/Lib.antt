@@ -2,7 +2,12 @@ pub mod ObjectLaws
 pub mod EdgeLaws
 pub mod StrandLaws
 pub mod SearchLaws
-pub mod RunLaws
-pub mod NameLaws
+pub mod LayerLaws
+pub mod LinkLaws
+pub mod DeadLaws
+pub mod LeftLaws
+pub mod OverlayLaws
 pub mod PlanLaws
+pub mod AfterLaws
+pub mod RunLaws
 pub mod GraphLaws

@@ -59,7 +59,7 @@ here_value objects oid place object lt is tested =
     let same : ◌≡◌ {A = Oid × Value} object (oid, object.1) = ap (λ n. (record { 0 = n }, object.1)) number in
     (place, lt, get_or_default objects place (oid, object.1) object lt ∙ sym is ∙ same)
 
-comparison_rises : (a b n : ℕ) → a ≤ b → ordering_index (nat_cmp a n) ≤ ordering_index (nat_cmp b n)
+pub comparison_rises : (a b n : ℕ) → a ≤ b → ordering_index (nat_cmp a n) ≤ ordering_index (nat_cmp b n)
 comparison_rises a b n h = grind (arith, nat_tests)
 
 -- along ascending objects the comparisons with a number rise
@@ -81,21 +81,7 @@ none_live objects ascend oid place gap live =
     ]
 
 -- made objects are numbered by their places
-number_at : (next : ℕ) (made : List (Oid × Value)) → AreNumberedFrom next made → (d : Oid × Value) (k : ℕ) → k < length made → (get_or made k d).0.0 ≡ next + k
+pub number_at : (next : ℕ) (made : List (Oid × Value)) → AreNumberedFrom next made → (d : Oid × Value) (k : ℕ) → k < length made → (get_or made k d).0.0 ≡ next + k
 number_at next [] h d k lt = absurd (omega arith)
 number_at next (o ∷ made) h d zero lt = omega (arith, h.0)
 number_at next (o ∷ made) h d (suc k) lt = omega (arith, number_at (next + 1) made h.1 d k (omega arith))
-
--- made objects come behind those that are there
-pub ascend-made : (objects made : List (Oid × Value)) (next : ℕ) → AreAscendingObjects objects → All (λ o. (1 ≤ o.0.0) × (o.0.0 < next)) objects → AreNumberedFrom next made → AreAscendingObjects (objects ++ made)
-ascend-made objects made next ascend numbered from_next =
-    AllPairs-append (λ a b. a.0.0 < b.0.0) objects made ascend
-    (λ i j d lt len. omega (arith, number_at next made from_next d i (omega arith), number_at next made from_next d j len))
-    (λ i j d lt_i lt_j. omega (arith, (numbered i d lt_i).1, number_at next made from_next d j lt_j))
-
--- and are below the number after them
-pub numbered-made : (objects made : List (Oid × Value)) (next : ℕ) → 1 ≤ next → All (λ o. (1 ≤ o.0.0) × (o.0.0 < next)) objects → AreNumberedFrom next made → All (λ o. (1 ≤ o.0.0) × (o.0.0 < next + length made)) (objects ++ made)
-numbered-made objects made next from_one numbered from_next =
-    All-append (λ o. (1 ≤ o.0.0) × (o.0.0 < next + length made)) objects made
-    (λ k d lt. ((numbered k d lt).0, omega (arith, (numbered k d lt).1)))
-    (λ k d lt. (omega (arith, number_at next made from_next d k lt), omega (arith, number_at next made from_next d k lt)))

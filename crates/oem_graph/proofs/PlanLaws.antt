@@ -1,82 +1,58 @@
--- What a plan makes of a graph that is in order, where it brings what changes ask for.
-use Rattle.std.proofs.Common.{◌≡◌, ℕ, ◌+◌, ◌≤◌, ◌↔◌, ◌⊎◌, inl, inr, List, [], ◌∷◌, ◌++◌, length, Contains, refl, sym, ap, ◌∙◌, subst, arith}
-use Rattle.oem_graph.specs.Types.{Oid, Edge, Value, Changes}
-use Rattle.lore_base.specs.Databases.{OemGraph, IsOrdered, AreAscendingEdges}
-use Rattle.lore_base.specs.ChangeSets.{FitsGraph, IsGraphThen, names_after}
+-- What is planned for the edges and the objects of a graph.
+use Rattle.std.proofs.Common.{◌≡◌, ◌↔◌, inl, inr, List, [], ◌∷◌, ◌++◌, AllPairs, Contains, sym, ap, ◌∙◌, subst, arith}
+use Rattle.std.proofs.lemmas.List.Elements.{Contains-append_cases, Contains-append_left, Contains-append_right}
 use Rattle.lore_base.proofs.MemberLaws.{Contains-none}
-use Rattle.oem_graph.specs.Plans.{PlannedChange, staying, objects_then, LeadsTo, LeadsFrom}
-use Rattle.oem_graph.proofs.NameLaws.{IsNameTable-names_after}
-use Rattle.oem_graph.proofs.ObjectLaws.{ascend-made, numbered-made}
+use Rattle.lore_base.specs.Databases.{AreAscendingEdges}
+use Rattle.oem_graph.specs.Types.{Oid, Edge, Value, Changes}
+use Rattle.oem_graph.specs.inside.Strands.{AreJoined}
+use Rattle.oem_graph.specs.inside.Layers.{staying, layered}
+use Rattle.oem_graph.specs.inside.Left.{AreOrdered, objects_left, edges_left, ListsObjectsLeft}
+use Rattle.oem_graph.proofs.LayerLaws.{ascend-staying, ascend-layered, members-layered, same-edges, joined-is}
+use Rattle.oem_graph.proofs.LeftLaws.{all-left, all-edges-left}
 
--- where none goes all stay
-pub staying-none : (objects : List (Oid × Value)) → staying [] objects ≡ objects
-staying-none [] = refl
-staying-none (object ∷ objects) = ap (λ (l : List (Oid × Value)). object ∷ l) (staying-none objects)
+-- fresh edges that come behind all, where nothing goes
+pub edges-behind : (kept lost fresh : List Edge) (dead : List Oid) → AreAscendingEdges kept → lost ≡ []
+    → dead ≡ [] → AreAscendingEdges (kept ++ fresh)
+    → kept ++ fresh ≡ edges_left dead (layered kept lost fresh)
+edges-behind kept lost fresh dead ascend no_lost no_dead behind =
+    let whole = layered kept lost fresh in
+    let same : kept ++ fresh ≡ whole = same-edges (kept ++ fresh) whole behind (ascend-layered kept lost fresh ascend) (λ edge.
+    let are = members-layered kept lost fresh edge in (
+      λ at. are.1 (elim (Contains-append_cases kept fresh edge at) [
+        | inl there ↦ inl (there, λ gone. Contains-none edge (subst (λ (l : List Edge). Contains l edge) no_lost gone))
+        | inr come ↦ inr come
+      ]),
+      λ at. elim (are.0 at) [ inl stays ↦ Contains-append_left kept fresh edge stays.0 | inr come ↦ Contains-append_right kept fresh edge come ],
+    )) in
+    same ∙ sym (ap (λ (d : List Oid). edges_left d whole) no_dead ∙ all-edges-left whole)
 
--- the plan brings what the changes ask for, and nothing goes
-pub record Brings (graph : OemGraph) (changes : Changes) (plan : PlannedChange) : Type 0 where
-  pub names : plan.names ≡ names_after graph.names changes.named
-  pub objects_gone : plan.objects_gone ≡ []
-  pub objects_come : plan.objects_come ≡ changes.made
-  pub edges_gone : plan.edges_gone ≡ []
-  pub edges_come : (edge : Edge) → Contains plan.edges_come edge → Contains changes.added edge
-  pub edges_added : (edge : Edge) → Contains changes.added edge → Contains graph.edges edge ⊎ Contains plan.edges_come edge
+-- the whole list of the edges that are left
+pub edges-whole : (kept lost fresh whole left : List Edge) (dead : List Oid) → AreAscendingEdges kept
+    → AreJoined (staying lost kept) fresh whole → left ≡ edges_left dead whole
+    → left ≡ edges_left dead (layered kept lost fresh)
+edges-whole kept lost fresh whole left dead ascend joined is =
+    is ∙ ap (edges_left dead) (joined-is (staying lost kept) fresh whole (ascend-staying lost kept ascend) joined)
 
-module _ (graph : OemGraph) (changes : Changes) (plan : PlannedChange) (brings : Brings graph changes plan) where
-  objects_brought : objects_then graph plan ≡ graph.objects ++ changes.made
-  objects_brought = rw (brings.objects_gone, brings.objects_come) (ap (λ (l : List (Oid × Value)). l ++ changes.made) (staying-none graph.objects))
+-- made objects behind all, where nothing goes and no value is new
+pub objects-behind : (kept copy : List (Oid × Value)) (changes : Changes) (dead : List Oid) → changes.values ≡ []
+    → dead ≡ [] → copy ≡ changes.made
+    → ListsObjectsLeft kept changes dead (kept ++ copy)
+objects-behind kept copy changes dead no_values no_dead is = (
+  [],
+  record {
+    ascend = λ i j d lt len. absurd (omega arith);
+    members = λ object. (λ none. absurd (Contains-none object none), λ none. absurd (Contains-none object (subst (λ (l : List (Oid × Value)). Contains l object) no_values none)));
+  },
+  ap (λ (l : List (Oid × Value)). kept ++ l) is
+      ∙ sym (ap (λ (d : List Oid). objects_left [] d kept ++ objects_left [] d changes.made) no_dead
+      ∙ ap (λ (l : List (Oid × Value)). l ++ objects_left [] [] changes.made) (all-left kept)
+      ∙ ap (λ (l : List (Oid × Value)). kept ++ l) (all-left changes.made)),
+)
 
-  pub leads-brought : IsOrdered graph → FitsGraph graph changes → LeadsFrom graph plan
-  leads-brought ordered fits = record {
-    names_ascend = rw brings.names (IsNameTable-names_after graph.names changes.named ordered.names_ascend);
-    objects_ascend = rw objects_brought (ascend-made graph.objects changes.made graph.next ordered.objects_ascend ordered.objects_numbered fits.numbered);
-    objects_numbered = rw (objects_brought, brings.objects_come) (numbered-made graph.objects changes.made graph.next ordered.next_numbered.0 ordered.objects_numbered fits.numbered);
-    next_numbered = (omega (arith, ordered.next_numbered.0), rw brings.objects_come fits.room);
-  }
-
-  pub then-brought : (after : OemGraph) → LeadsTo graph plan after → IsGraphThen graph changes after
-  then-brought after leads = record {
-    names = leads.names ∙ brings.names;
-    objects = leads.objects ∙ objects_brought;
-    edges_ascend = leads.edges_ascend;
-    edges = λ edge. (
-      λ at. elim ((leads.edges edge).0 at) [ inl kept ↦ inl kept.0 | inr come ↦ inr (brings.edges_come edge come) ],
-      λ either. elim either [
-        | inl kept ↦ (leads.edges edge).1 (inl (kept, λ gone. Contains-none edge (subst (λ l. Contains l edge) brings.edges_gone gone)))
-        | inr added ↦ elim (brings.edges_added edge added) [
-          | inl kept ↦ (leads.edges edge).1 (inl (kept, λ gone. Contains-none edge (subst (λ l. Contains l edge) brings.edges_gone gone)))
-          | inr come ↦ (leads.edges edge).1 (inr come)
-        ]
-      ],
-    );
-    next = leads.next ∙ ap (λ made. graph.next + length made) brings.objects_come;
-  }
-
--- a graph that a plan leads to is in order
-pub ordered-led : (before after : OemGraph) (plan : PlannedChange) → LeadsFrom before plan → LeadsTo before plan after → IsOrdered after
-ordered-led before after plan from leads = record {
-  names_ascend = rw leads.names from.names_ascend;
-  objects_ascend = rw leads.objects from.objects_ascend;
-  objects_numbered = rw (leads.objects, leads.next) from.objects_numbered;
-  edges_ascend = leads.edges_ascend;
-  next_numbered = rw leads.next from.next_numbered;
-}
-
--- what is put behind the objects and among the edges is what the plan brings
-pub led : (before : OemGraph) (names : List (List ℕ × Oid)) (made objects : List (Oid × Value)) (added edges : List Edge) (next : ℕ)
-    → objects ≡ before.objects ++ made → AreAscendingEdges edges
-    → ((edge : Edge) → Contains edges edge ↔ (Contains before.edges edge ⊎ Contains added edge))
-    → length edges ≤ length before.edges + length added → next ≡ before.next + length made
-    → LeadsTo before (record { names = names; objects_gone = []; objects_come = made; edges_gone = []; edges_come = added })
-    (record { names = names; objects = objects; edges = edges; next = next })
-led before names made objects added edges next is ascend members few number = record {
-  names = refl;
-  objects = is ∙ ap (λ (l : List (Oid × Value)). l ++ made) (sym (staying-none before.objects));
-  edges_ascend = ascend;
-  edges = λ edge. (
-    λ at. elim ((members edge).0 at) [ inl kept ↦ inl (kept, λ gone. Contains-none edge gone) | inr come ↦ inr come ],
-    λ either. elim either [ inl kept ↦ (members edge).1 (inl kept.0) | inr come ↦ (members edge).1 (inr come) ],
-  );
-  few_edges = few;
-  next = number;
-}
+-- the whole list of the objects that are left
+pub objects-whole : (kept values first whole : List (Oid × Value)) (changes : Changes) (dead : List Oid)
+    → AreOrdered changes.values values
+    → first ≡ objects_left values dead kept → whole ≡ first ++ objects_left [] dead changes.made
+    → ListsObjectsLeft kept changes dead whole
+objects-whole kept values first whole changes dead ordered first_is whole_is =
+    (values, ordered, whole_is ∙ ap (λ (l : List (Oid × Value)). l ++ objects_left [] dead changes.made) first_is)

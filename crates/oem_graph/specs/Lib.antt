@@ -2,3 +2,4 @@ pub mod Types
 pub mod inside
 pub mod Graphs
 pub mod Plans
+pub mod Overlays

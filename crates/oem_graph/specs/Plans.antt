@@ -1,51 +1,41 @@
--- Plans of changes: what goes and what comes, and which graph they lead to.
-use Rattle.std.specs.Prelude.{◌≡◌, ℕ, ◌+◌, ◌<◌, ◌≤◌, ◌⊎◌, ◌↔◌, not, ◌==◌, List, ◌++◌, length, filter, All}
-use Rattle.std.specs.Prelude.{Contains}
-use Rattle.std.specs.List.{list_any}
-use Rattle.oem_graph.specs.Types.{Oid, Edge, Value, NEXT_NUMBER}
-use Rattle.lore_base.specs.Names.{IsNameTable}
-use Rattle.lore_base.specs.Databases.{OemGraph, AreAscendingObjects, AreAscendingEdges}
+-- Plans of changes: what becomes of a graph's lists, and which graph a plan leads to.
+use Rattle.std.specs.Prelude.{◌≡◌, ℕ, ◌≤◌, List, ◌++◌, length}
+use Rattle.oem_graph.specs.Types.{Oid, Edge, Value}
+use Rattle.lore_base.specs.Databases.{OemGraph}
 use Rattle.oem_graph.specs.Graphs.{RoomyGraph}
 
--- what goes and what comes with a plan: the table that the names are then, and objects and edges
-pub record PlannedChange : Type 0 where
+-- what becomes of a list: more items come behind it, or a whole list stands in its place
+pub data PlannedList (T : Type 0) : Type 0 where
+  behind : (more : List T) → PlannedList T
+  whole : (items : List T) → PlannedList T
+
+-- the list that there is then
+abbrev pub list_then : {T : Type 0} → List T → PlannedList T → List T
+list_then items (behind more) = items ++ more
+list_then items (whole others) = others
+
+-- how many items come behind
+abbrev pub count_behind : {T : Type 0} → PlannedList T → ℕ
+count_behind (behind more) = length more
+count_behind (whole others) = 0
+
+-- what becomes of each part of a graph
+pub record PlannedGraph : Type 0 where
   pub names : List (List ℕ × Oid)
-  pub objects_gone : List Oid
-  pub objects_come : List (Oid × Value)
-  pub edges_gone : List Edge
-  pub edges_come : List Edge
+  pub objects : PlannedList (Oid × Value)
+  pub edges : PlannedList Edge
+  pub next : ℕ
 
--- the objects that stay where these go
-abbrev pub staying : List Oid → List (Oid × Value) → List (Oid × Value)
-staying gone objects = filter (λ object. not (list_any (λ oid. oid.0 == object.0.0) gone)) objects
-
--- the objects that there are then
-abbrev pub objects_then : OemGraph → PlannedChange → List (Oid × Value)
-objects_then before plan = staying plan.objects_gone before.objects ++ plan.objects_come
-
--- the number that the next object gets then
-abbrev pub next_then : OemGraph → PlannedChange → ℕ
-next_then before plan = before.next + length plan.objects_come
-
--- the plan leads from one graph to the other
-pub record LeadsTo (before : OemGraph) (plan : PlannedChange) (after : OemGraph) : Type 0 where
-  pub names : after.names ≡ plan.names
-  pub objects : after.objects ≡ objects_then before plan
-  pub edges_ascend : AreAscendingEdges after.edges
-  pub edges : (edge : Edge) → Contains after.edges edge
-      ↔ ((Contains before.edges edge × (¬ Contains plan.edges_gone edge)) ⊎ Contains plan.edges_come edge)
-  pub few_edges : length after.edges ≤ length before.edges + length plan.edges_come
-  pub next : after.next ≡ next_then before plan
-
--- the plan leads from the graph: its names, and the objects that there are then, are in order
-pub record LeadsFrom (before : OemGraph) (plan : PlannedChange) : Type 0 where
-  pub names_ascend : IsNameTable plan.names
-  pub objects_ascend : AreAscendingObjects (objects_then before plan)
-  pub objects_numbered :
-      All (λ object. (1 ≤ object.0.0) × (object.0.0 < next_then before plan)) (objects_then before plan)
-  pub next_numbered : (1 ≤ next_then before plan) × (next_then before plan ≤ NEXT_NUMBER)
+-- the graph that the plan leads to
+abbrev pub graph_then : OemGraph → PlannedGraph → OemGraph
+graph_then before plan = record {
+  names = plan.names;
+  objects = list_then before.objects plan.objects;
+  edges = list_then before.edges plan.edges;
+  next = plan.next;
+}
 
 -- the graph keeps the room free that the plan needs
-pub record HasRoom (kept : RoomyGraph) (plan : PlannedChange) : Type 0 where
-  pub objects : length plan.objects_come ≤ kept.object_room
-  pub edges : length plan.edges_come ≤ kept.edge_room
+pub record HasRoom (kept : RoomyGraph) (plan : PlannedGraph) : Type 0 where
+  pub objects : count_behind plan.objects ≤ kept.object_room
+  pub edges : count_behind plan.edges ≤ kept.edge_room

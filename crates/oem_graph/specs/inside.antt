@@ -1,3 +1,6 @@
 -- Definitions that no public contract cites.
 pub mod EdgeTests
 pub mod Strands
+pub mod Planned
+pub mod Layers
+pub mod Left

@@ -1,12 +1,12 @@
-ghost use Rattle.std.specs.Prelude.{◌≡◌, ◌+◌, ◌≤◌, ◌↔◌, ◌⊎◌, ◌++◌, length, filter, not, Contains};
-ghost use Rattle.std.specs.Prelude.{IfOk};
+ghost use Rattle.std.specs.Prelude.{◌≡◌, ◌++◌, filter, not, IfOk};
 ghost use Rattle.std.specs.Bool.{OnTrue};
-ghost use Rattle.oem_graph.specs.Types.{Edge as TheEdge};
 ghost use Rattle.lore_base.specs.Databases.{AreAscendingEdges};
-ghost use Rattle.oem_graph.specs.inside.EdgeTests.{is_listed, AreFresh};
+ghost use Rattle.oem_graph.specs.inside.EdgeTests.{is_listed, AreFresh, AreLost};
+ghost use Rattle.oem_graph.specs.inside.Layers.{staying};
+ghost use Rattle.oem_graph.specs.inside.Strands.{AreJoined};
 
-use crate::edge_strands::sorted_set;
-use lore_base::{Edge, EdgeBuf, NoMemory, RoomyList};
+use crate::edge_strands::{joined, sorted_set};
+use lore_base::{Edge, EdgeBuf, NoMemory};
 use std::alloc::Global;
 
 // How many strands are taken out of the added edges before what is left is sorted as any list.
@@ -54,6 +54,34 @@ fn without_kept(alloc: Global, kept: &[Edge], more: &[Edge]) -> Result<EdgeBuf, 
     Ok(fresh)
 }
 
+// The edges of `more` that are kept, in the same order.
+fn only_kept(alloc: Global, kept: &[Edge], more: &[Edge]) -> Result<EdgeBuf, NoMemory>
+    requires { AreAscendingEdges kept.now }
+    ensures { IfOk result (λ lost. lost ≡ filter (λ edge. is_listed kept.now edge) more.now) }
+{
+    let mut lost = EdgeBuf::with_capacity(alloc, more.len())?;
+    'edges: for edge in more {
+        if is_kept(kept, edge) {
+            lost.push(*edge)?;
+        }
+    }
+    Ok(lost)
+}
+
+// The removed edges that are kept, in ascending order, each once.
+pub(crate) fn lost_edges(
+    alloc: Global,
+    kept: &[Edge],
+    removed: &[Edge],
+) -> Result<EdgeBuf, NoMemory>
+    requires { AreAscendingEdges kept.now }
+    ensures { IfOk result (λ lost. AreLost kept.now removed.now lost) }
+{
+    let sorted = sorted_set(alloc, removed, STRANDS)?;
+    let lost = only_kept(alloc, kept, sorted.as_slice())?;
+    Ok(lost)
+}
+
 // The added edges that aren't kept, in ascending order, each once. Where all come behind those that
 // are kept, the usual case of a load, none of them is looked for.
 pub(crate) fn fresh_edges(alloc: Global, kept: &[Edge], added: &[Edge]) -> Result<EdgeBuf, NoMemory>
@@ -68,20 +96,19 @@ pub(crate) fn fresh_edges(alloc: Global, kept: &[Edge], added: &[Edge]) -> Resul
     Ok(fresh)
 }
 
-// Puts ascending edges among those that are kept, for which there is room. Edges that all come
-// behind, the usual case, are put behind without a look at the others.
-pub(crate) fn add_edges(kept: &mut RoomyList<Edge>, more: &[Edge])
-    requires kept { AreAscendingEdges kept.old.items }
-    requires more { AreAscendingEdges more.now }
-    requires room { length more.now ≤ kept.old.room }
-    ensures ascend { AreAscendingEdges kept.new.items }
-    ensures members { (edge : TheEdge)
-        → Contains kept.new.items edge ↔ (Contains kept.old.items edge ⊎ Contains more.now edge) }
-    ensures few { length kept.new.items ≤ length kept.old.items + length more.now }
+// The run of kept edges without those that are lost, and with the fresh ones, in ascending order.
+pub(crate) fn layered_run(
+    alloc: Global,
+    kept: &[Edge],
+    lost: &[Edge],
+    fresh: &[Edge],
+) -> Result<EdgeBuf, NoMemory>
+    requires kept { AreAscendingEdges kept.now }
+    requires lost { AreAscendingEdges lost.now }
+    requires fresh { AreAscendingEdges fresh.now }
+    ensures { IfOk result (λ run. AreJoined (staying lost.now kept.now) fresh.now run) }
 {
-    let behind = come_behind(more, kept.as_slice());
-    kept.append_reserved(more);
-    if !behind {
-        kept.sort_set();
-    }
+    let stay = without_kept(alloc, lost, kept)?;
+    let run = joined(alloc, stay.as_slice(), fresh)?;
+    Ok(run)
 }

@@ -1,30 +1,39 @@
-use lore_base::{EdgeBuf, Names, Oid, Value};
+ghost use Rattle.std.specs.Prelude.{◌≡◌, length};
+
+use crate::planned_items::PlannedItems;
+use lore_base::{Edge, Names, Oid, Value};
 use std::marker::Model;
 
-/// What goes and what comes with a change of the graph, worked out by `Graph::prepare` and put in
-/// place by `Graph::commit`: the whole table of names, the objects that are made, and the added
-/// edges that the graph lacks, in ascending order. Nothing goes, since changes only add.
+/// What becomes of a graph with a change, worked out by `Graph::prepare` and put in place by
+/// `Graph::commit`: the whole table of names, the objects and the edges that come behind those that
+/// are kept or stand in their place, and the next number.
 #[derive(Drop)]
 pub struct GraphPlan {
     pub(crate) names: Names,
-    pub(crate) made: Vec<(Oid, Value)>,
-    pub(crate) fresh: EdgeBuf,
+    pub(crate) objects: PlannedItems<(Oid, Value)>,
+    pub(crate) edges: PlannedItems<Edge>,
+    pub(crate) next: u64,
 }
 
 impl Model for GraphPlan {
-    ghost use Rattle.std.specs.Prelude.{[]};
-    ghost use Rattle.lore_base.specs.Databases.{AreAscendingEdges};
-    ghost use Rattle.oem_graph.specs.Plans.{PlannedChange};
+    ghost use Rattle.oem_graph.specs.Plans.{PlannedGraph};
+    ghost use Rattle.oem_graph.specs.inside.Planned.{planned};
 
-    ghost Value = { PlannedChange };
+    ghost Value = { PlannedGraph };
 
     ghost view = { λ p. record {
       names = p.names;
-      objects_gone = [];
-      objects_come = p.made.items;
-      edges_gone = [];
-      edges_come = p.fresh;
+      objects = planned p.objects;
+      edges = planned p.edges;
+      next = p.next;
     } };
+}
 
-    ghost invariant = { λ p. AreAscendingEdges p.fresh };
+impl GraphPlan {
+    /// The number of names then.
+    pub fn names_len(&self) -> usize
+        ensures { result ≡ length self.now.names }
+    {
+        self.names.len()
+    }
 }

@@ -6,12 +6,18 @@
 //! comes, `reserve` takes the memory for it, and `commit` puts it in place and cannot fail.
 #![tactic(auto)]
 
+pub use edge_overlay::Overlay;
 pub use graph_plan::GraphPlan;
 pub use sorted_graph::Graph;
 
+mod dead_oids;
+mod edge_overlay;
 mod edge_runs;
 mod edge_sets;
 mod edge_strands;
+mod edges_then;
 mod graph_plan;
 mod object_lists;
+mod objects_then;
+mod planned_items;
 mod sorted_graph;

@@ -1,15 +1,18 @@
-ghost use Rattle.std.specs.Prelude.{◌≡◌, ◌+◌, ◌<◌, ◌≤◌, ◌^◌, [], length, Contains, IfOk, OnOk};
-ghost use Rattle.oem_graph.specs.Types.{Edge as TheEdge};
+ghost use Rattle.std.specs.Prelude.{◌≡◌, ◌↔◌, length, IsTrue, IfOk, OnOk};
 ghost use Rattle.lore_base.specs.Names.{object_of};
-ghost use Rattle.lore_base.specs.Databases.{OemGraph, new_graph};
-ghost use Rattle.lore_base.specs.ChangeSets.{FitsGraph, OnlyAdds, IsGraphThen, AreDead};
+ghost use Rattle.lore_base.specs.Databases.{IsWellFormed, new_graph};
+ghost use Rattle.lore_base.specs.ChangeSets.{HasChildren, FitsGraph, IsOverlay, IsGraphAfter, AreDead};
 ghost use Rattle.oem_graph.specs.Graphs.{IsIndexable};
-ghost use Rattle.oem_graph.specs.Plans.{LeadsFrom, LeadsTo, HasRoom};
+ghost use Rattle.oem_graph.specs.Plans.{graph_then, HasRoom};
 
+use crate::edge_overlay::Overlay;
 use crate::edge_runs::run_of;
-use crate::edge_sets::{add_edges, fresh_edges};
+use crate::edge_sets::{fresh_edges, lost_edges};
+use crate::edges_then::planned_edges;
 use crate::graph_plan::GraphPlan;
-use crate::object_lists::{copied_objects, value_in};
+use crate::object_lists::value_in;
+use crate::objects_then::planned_objects;
+use crate::planned_items::{count_then, make_room, put_in_place};
 use index_traits::{Adjacent, ValueOf};
 use lore_base::{
     Changes, Edge, EdgeBuf, Names, NoMemory, OemText, Oid, OidBuf, RoomyList, Steps, Value,
@@ -103,31 +106,65 @@ impl Graph {
         self.next
     }
 
-    /// Works out what goes and what comes with these changes, which only make, add and bind. `dead`
-    /// lists the objects that no name walks to once they are made, and is empty. The graph stays as
-    /// it is.
-    ///
-    /// It sorts the added edges, which takes linear time where they come in text order, and copies
-    /// the names and the made objects.
-    pub fn prepare(&self, changes: &Changes, dead: &OidBuf) -> Result<GraphPlan, NoMemory>
-        requires fits { FitsGraph self.now.graph changes.now }
-        requires only_adds { OnlyAdds changes.now }
-        requires dead { AreDead self.now.graph changes.now dead.now }
-        requires none_dead { dead.now ≡ [] }
-        ensures leads { IfOk result (λ plan. LeadsFrom self.now.graph plan) }
-        ensures after { IfOk result (λ plan. (after : OemGraph)
-            → LeadsTo self.now.graph plan after → IsGraphThen self.now.graph changes.now after) }
-        ensures fresh { IfOk result (λ plan. (edge : TheEdge)
-            → Contains plan.edges_come edge → ¬ Contains self.now.graph.edges edge) }
-        ensures few { IfOk result (λ plan. length plan.edges_come ≤ length changes.now.added) }
+    /// Whether an edge leaves the object. Takes no memory and counts no step.
+    pub fn has_edge(&self, oid: Oid) -> bool
+        ensures { IsTrue result ↔ HasChildren self.now.graph.edges oid }
     {
-        prove!(dead.is_empty());
-        let alloc = self.objects.allocator();
+        !run_of(self.edges.as_slice(), oid).is_empty()
+    }
+
+    /// The edges that there are once the changes are made, before objects vanish. No step is
+    /// counted.
+    pub fn overlay<'a>(&'a self, changes: &'a Changes) -> Result<Overlay<'a>, NoMemory>
+        requires fits { FitsGraph self.now.graph changes.now }
+        ensures { IfOk result (λ overlay. IsOverlay self.now.graph.edges changes.now
+            overlay.edges overlay.lost overlay.fresh) }
+    {
+        let alloc = self.edges.allocator();
+        let kept = self.edges.as_slice();
+        let lost = lost_edges(alloc, kept, changes.removed.as_slice())?;
+        let fresh = fresh_edges(alloc, kept, changes.added.as_slice())?;
+        Ok(Overlay { kept, lost, fresh })
+    }
+
+    /// Works out what becomes of the graph with these changes, where `dead` lists the objects that
+    /// no name walks to once they are made, in ascending order. The graph stays as it is.
+    pub fn prepare(&self, changes: &Changes, dead: &OidBuf) -> Result<GraphPlan, NoMemory>
+        requires well_formed { IsWellFormed self.now.graph }
+        requires fits { FitsGraph self.now.graph changes.now }
+        requires dead { AreDead self.now.graph changes.now dead.now }
+        ensures after { IfOk result (λ plan.
+            IsGraphAfter self.now.graph changes.now (graph_then self.now.graph plan)) }
+    {
+        let alloc = self.edges.allocator();
+        let dead = dead.as_slice();
+        let names = self.names.changed_by(changes)?;
+        let objects = planned_objects(alloc, self.objects.as_slice(), changes, dead)?;
+        let kept = self.edges.as_slice();
+        let lost = lost_edges(alloc, kept, changes.removed.as_slice())?;
+        let fresh = fresh_edges(alloc, kept, changes.added.as_slice())?;
+        let edges = planned_edges(alloc, kept, lost.as_slice(), fresh, dead)?;
+        let next = self.next + changes.made.len() as u64;
         Ok(GraphPlan {
-            names: self.names.joined(&changes.named)?,
-            made: copied_objects(alloc, &changes.made)?,
-            fresh: fresh_edges(alloc, self.edges.as_slice(), changes.added.as_slice())?,
+            names,
+            objects,
+            edges,
+            next,
         })
+    }
+
+    /// The number of objects that the plan leads to, of this graph or of one that is equal.
+    pub fn objects_then(&self, plan: &GraphPlan) -> usize
+        ensures { result ≡ length (graph_then self.now.graph plan.now).objects }
+    {
+        count_then(&self.objects, &plan.objects)
+    }
+
+    /// The number of edges that the plan leads to, of this graph or of one that is equal.
+    pub fn edges_then(&self, plan: &GraphPlan) -> usize
+        ensures { result ≡ length (graph_then self.now.graph plan.now).edges }
+    {
+        count_then(&self.edges, &plan.edges)
     }
 
     /// Takes the memory that `commit` needs for this plan. The graph stays equal, whatever the
@@ -136,24 +173,28 @@ impl Graph {
         ensures room { OnOk result (HasRoom self.new plan.now) }
         ensures same { self.new.graph ≡ self.old.graph }
     {
-        self.objects.reserve(plan.made.len())?;
-        self.edges.reserve(plan.fresh.len())?;
+        make_room(&mut self.objects, &plan.objects)?;
+        make_room(&mut self.edges, &plan.edges)?;
         Ok(())
     }
 
-    /// Puts in place what the plan brings. Takes no memory.
+    /// Puts in place what the plan brings. Takes no memory. The graph after it is in order and has
+    /// fewer than 4,294,967,296 edges.
     pub fn commit(&mut self, plan: GraphPlan)
-        requires leads { LeadsFrom self.old.graph plan }
+        requires leads { IsIndexable (graph_then self.old.graph plan) }
         requires room { HasRoom self.old plan }
-        requires few { (after : OemGraph)
-            → LeadsTo self.old.graph plan after → length after.edges < 2 ^ 32 }
-        ensures { LeadsTo self.old.graph plan self.new.graph }
+        ensures { self.new.graph ≡ graph_then self.old.graph plan }
     {
-        let GraphPlan { names, made, fresh } = plan;
+        let GraphPlan {
+            names,
+            objects,
+            edges,
+            next,
+        } = plan;
         self.names = names;
-        self.next += made.len() as u64;
-        self.objects.take_reserved(made);
-        add_edges(&mut self.edges, fresh.as_slice());
+        put_in_place(&mut self.objects, objects);
+        put_in_place(&mut self.edges, edges);
+        self.next = next;
     }
 }
 

@@ -1,5 +1,5 @@
 use Rattle.std.proofs.Common.{◌≡◌}
-use Rattle.lore_base.specs.ChangeSets.{names_after}
+use Rattle.lore_base.specs.inside.NameTables.{names_after}
 use Rattle.lore_base.proofs.name_table.Names.put_all.Given as goal
 
 abbrev pub invariant-entries : goal.invariant-entries

@@ -1,5 +1,5 @@
 use Rattle.std.proofs.Common.{ap, ◌∙◌}
-use Rattle.lore_base.specs.ChangeSets.{names_after}
+use Rattle.lore_base.specs.inside.NameTables.{names_after}
 use Rattle.lore_base.proofs.NameLaws.{names_after-none}
 use Rattle.lore_base.proofs.name_table.NamesTryCopy.try_copy.Goals as goal
 

@@ -1,9 +1,11 @@
-use Rattle.std.proofs.Common.{subst}
+use Rattle.std.proofs.Common.{sym, subst, IfOk}
 use Rattle.lorel_trees.specs.declared.statements.Statement.{Statement}
-use Rattle.lorel_trees.specs.Trees.{load, literal_tree, select_tree, statement_tree}
+use Rattle.lorel_trees.specs.Trees.{load, bind, unname, select, literal_tree, rooted_tree, select_tree, statement_tree}
 use Rattle.lorel_trees.specs.Sound.{IsSound}
 use Rattle.lorel_trees.proofs.FormLaws.{sound_statement}
+use Rattle.lore_db.specs.Statements.{Executes}
 use Rattle.lore_db.proofs.ShallowLaws.{sound_shallow}
+use Rattle.lore_db.proofs.ExecutionLaws.{unchanged, replied}
 use Rattle.lore_db.proofs.db.Db.execute.Goals as goal
 
 pub load-requires-clause-name : goal.load-requires-clause-name
@@ -16,5 +18,39 @@ load-requires-clause-literal g c =
     let sound = subst (λ (s : Statement). IsSound (statement_tree s)) c.in-Load.is c.requires in
     (sound_statement (load c.in-Load.name (literal_tree c.in-Load.literal)) sound).1
 
+pub name-requires-clause-name : goal.name-requires-clause-name
+name-requires-clause-name g c =
+    let sound = subst (λ (s : Statement). IsSound (statement_tree s)) c.in-Name.is c.requires in
+    (sound_statement (bind c.in-Name.name (rooted_tree c.in-Name.path)) sound).0
+
 pub select-requires : goal.select-requires
 select-requires g c = sound_shallow (select_tree c.in-Select.query) (subst (λ (s : Statement). IsSound (statement_tree s)) c.in-Select.is c.requires)
+
+pub returns-in-Load-clause-ok : goal.returns-in-Load-clause-ok
+returns-in-Load-clause-ok g c =
+    subst (λ (s : Statement). IfOk c.reply_of.result (λ reply. Executes c.args.self.now (statement_tree s) reply c.load.new.self)) (sym c.in-Load.is)
+    (replied c.args.self.now c.load.new.self (load c.in-Load.name (literal_tree c.in-Load.literal)) c.load.result c.reply_of.result c.reply_of.ensures
+    c.load.ensures.ok c.load.ensures.same c.load.ensures.refused)
+
+pub returns-in-Name-clause-ok : goal.returns-in-Name-clause-ok
+returns-in-Name-clause-ok g c =
+    subst (λ (s : Statement). IfOk c.reply_of-in-Name.result (λ reply. Executes c.args.self.now (statement_tree s) reply c.name.new.self)) (sym c.in-Name.is)
+    (replied c.args.self.now c.name.new.self (bind c.in-Name.name (rooted_tree c.in-Name.path)) c.name.result c.reply_of-in-Name.result
+    c.reply_of-in-Name.ensures c.name.ensures.ok c.name.ensures.same c.name.ensures.refused)
+
+pub returns-in-Unname-clause-ok : goal.returns-in-Unname-clause-ok
+returns-in-Unname-clause-ok g c =
+    subst (λ (s : Statement). IfOk c.reply_of-in-Unname.result (λ reply. Executes c.args.self.now (statement_tree s) reply c.unname.new.self)) (sym c.in-Unname.is)
+    (replied c.args.self.now c.unname.new.self (unname c.in-Unname.name) c.unname.result c.reply_of-in-Unname.result
+    c.reply_of-in-Unname.ensures c.unname.ensures.ok c.unname.ensures.same c.unname.ensures.refused)
+
+pub returns-in-Select-clause-ok : goal.returns-in-Select-clause-ok
+returns-in-Select-clause-ok g c =
+    subst (λ (s : Statement). IfOk c.reply_of-in-Select.result (λ reply. Executes c.args.self.now (statement_tree s) reply c.args.self.now)) (sym c.in-Select.is)
+    (replied c.args.self.now c.args.self.now (select (select_tree c.in-Select.query)) c.select.result c.reply_of-in-Select.result
+    c.reply_of-in-Select.ensures c.select.ensures.ok (unchanged c.select.result c.args.self.now) c.select.ensures.refused)
+
+pub returns-in-Assign-clause-ok : goal.returns-in-Assign-clause-ok
+returns-in-Assign-clause-ok g c =
+    replied c.args.self.now c.update.new.self (statement_tree c.args.statement.now) c.update.result c.reply_of-in-Assign.result
+    c.reply_of-in-Assign.ensures c.update.ensures.ok c.update.ensures.same c.update.ensures.refused

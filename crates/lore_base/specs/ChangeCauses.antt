@@ -1,0 +1,40 @@
+-- Why changes of a graph are refused.
+use Rattle.std.specs.Prelude.{◌≢◌, ℕ, ◌+◌, ◌<◌, List, length, Contains}
+use Rattle.lore_base.specs.Types.{Oid, Edge, Value, Complex, Changes, Refusal}
+use Rattle.lore_base.specs.Types.{NEXT_NUMBER, LABELS, NAMES, OBJECTS, EDGES}
+use Rattle.lore_base.specs.Types.refusals
+use Rattle.lore_base.specs.Databases.{OemGraph}
+use Rattle.lore_base.specs.ChangeSets.{HasChildren, IsGraphAfter}
+
+-- an edge is added that leaves an atomic object
+pub record AddsToAtom (graph : OemGraph) (changes : Changes) : Type 0 where
+  pub edge : Edge
+  pub value : Value
+  pub added : Contains changes.added edge
+  pub valued : Contains graph.objects (edge.parent, value)
+  pub atomic : value ≢ Complex
+
+-- an object that some edge leaves is given an atomic value
+pub record HidesChildren (graph : OemGraph) (changes : Changes) : Type 0 where
+  pub oid : Oid
+  pub value : Value
+  pub valued : Contains changes.values (oid, value)
+  pub atomic : value ≢ Complex
+  pub parent : HasChildren graph.edges oid
+
+-- the graph after the changes has more than so many of what is counted
+abbrev pub Outgrows : OemGraph → Changes → (OemGraph → ℕ) → ℕ → Type 0
+Outgrows graph changes count limit =
+    (after : OemGraph) × IsGraphAfter graph changes after × (limit < count after)
+
+-- the cause of each refusal of changes of a graph, whose labels have these texts
+abbrev pub ChangeCause : List (List ℕ) → OemGraph → Changes → Refusal → Type 0
+ChangeCause labels graph changes refusals.AtomicParent = AddsToAtom graph changes
+ChangeCause labels graph changes refusals.HasChildren = HidesChildren graph changes
+ChangeCause labels graph changes refusals.OidsSpent = NEXT_NUMBER < graph.next + length changes.made
+ChangeCause labels graph changes refusals.TooManyLabels = LABELS < length labels + length changes.labels
+ChangeCause labels graph changes refusals.TooManyNames = Outgrows graph changes (λ after. length after.names) NAMES
+ChangeCause labels graph changes refusals.TooManyObjects =
+    Outgrows graph changes (λ after. length after.objects) OBJECTS
+ChangeCause labels graph changes refusals.TooManyEdges = Outgrows graph changes (λ after. length after.edges) EDGES
+ChangeCause labels graph changes _ = ⊥

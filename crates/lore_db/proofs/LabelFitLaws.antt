@@ -1,0 +1,62 @@
+-- The texts that a list uses first come to a table: none of them is there, none comes twice, and the labels of all texts
+-- of the list are those of the table then.
+use Rattle.std.proofs.Common.{◌≡◌, ◌≢◌, ◌⊎◌, inl, inr, ℕ, ◌+◌, ◌<◌, Bool, true, false, if◌then◌else◌, List, [], ◌∷◌, ◌++◌, length, map, All, AllPairs, Contains, refl, sym, ap, subst, ◌∙◌, arith}
+use Rattle.std.specs.Str.{bytes_eq}
+use Rattle.std.specs.List.{list_any}
+use Rattle.std.proofs.lemmas.List.Elements.{All-nil, All-contains, Contains-append_right, Contains-append_left}
+use Rattle.std.proofs.lemmas.Slice.Eq.{bytes_eq-Decides}
+use Rattle.lore_base.specs.Names.{IsLabel}
+use Rattle.lore_base.proofs.MemberLaws.{Contains-none, Contains-cases, Contains-tail}
+use Rattle.lore_base.proofs.ListLaws.{AllPairs-head, AllPairs-tail}
+use Rattle.oem_changes.proofs.RootedLaws.{All-of_members}
+use Rattle.oem_labels.specs.Labels.{first_uses, place_in, label_in}
+use Rattle.oem_labels.proofs.LabelLaws.{first_uses_distinct, first_uses_cover, All-first_uses}
+
+-- ---- lists apart
+apart_right : (known fresh : List (List ℕ)) → AllPairs (λ a b. a ≢ b) (known ++ fresh) → AllPairs (λ a b. a ≢ b) fresh
+apart_right [] fresh apart = apart
+apart_right (text ∷ known) fresh apart = apart_right known fresh (AllPairs-tail (λ a b. a ≢ b) text (known ++ fresh) apart)
+
+apart_across : (known fresh : List (List ℕ)) → AllPairs (λ a b. a ≢ b) (known ++ fresh) → (text : List ℕ) → Contains fresh text → Contains known text → ⊥
+apart_across [] fresh apart text at old = Contains-none text old
+apart_across (first ∷ known) fresh apart text at old = elim (Contains-cases first known text old) [
+  | inl same ↦ AllPairs-head (λ a b. a ≢ b) first (known ++ fresh) apart text (Contains-append_right known fresh text at) same
+  | inr later ↦ apart_across known fresh (AllPairs-tail (λ a b. a ≢ b) first (known ++ fresh) apart) text at later
+]
+
+-- ---- texts that come
+module _ (table texts : List (List ℕ)) (distinct : AllPairs (λ a b. a ≢ b) table) where
+  pub labels_come_new : All (λ text. ¬ Contains table text) (first_uses table texts)
+  labels_come_new = All-of_members (λ (text : List ℕ). ¬ Contains table text) (first_uses table texts)
+      (λ text at old. apart_across table (first_uses table texts) (first_uses_distinct table texts distinct) text at old)
+
+  pub labels_come_once : AllPairs (λ a b. a ≢ b) (first_uses table texts)
+  labels_come_once = apart_right table (first_uses table texts) (first_uses_distinct table texts distinct)
+
+pub labels_come_formed : (table texts : List (List ℕ)) → All IsLabel texts → All IsLabel (first_uses table texts)
+labels_come_formed table texts formed = All-first_uses IsLabel table texts formed
+
+-- ---- labels of texts
+place_from : (test : Bool) (first : List ℕ) (texts : List (List ℕ)) (text : List ℕ) → bytes_eq first text ≡ test
+    → (test ≡ false → place_in texts text < length texts) → place_in (first ∷ texts) text < length (first ∷ texts)
+place_from true first texts text is later =
+    let here : place_in (first ∷ texts) text ≡ 0 = ap (λ b. if b then 0 else (1 + place_in texts text)) is in omega (arith, here)
+place_from false first texts text is later =
+    let behind : place_in (first ∷ texts) text ≡ 1 + place_in texts text = ap (λ b. if b then 0 else (1 + place_in texts text)) is in
+    omega (arith, behind, later refl)
+
+apart_tests : (first text : List ℕ) → bytes_eq first text ≡ false → first ≡ text → ⊥
+apart_tests first text is same = let passes : bytes_eq first text ≡ true = (bytes_eq-Decides first text).1 same in cc
+
+pub place_below : (texts : List (List ℕ)) (text : List ℕ) → Contains texts text → place_in texts text < length texts
+place_below [] text at = absurd (Contains-none text at)
+place_below (first ∷ texts) text at =
+    let later : bytes_eq first text ≡ false → place_in texts text < length texts = (λ is. elim (Contains-cases first texts text at) [
+      | inl same ↦ absurd (apart_tests first text is same)
+      | inr behind ↦ place_below texts text behind
+    ]) in
+    place_from (bytes_eq first text) first texts text refl later
+
+-- each text of the list is in the table then
+pub labels_there : (table texts : List (List ℕ)) → All (Contains (table ++ first_uses table texts)) texts
+labels_there table texts = first_uses_cover table texts

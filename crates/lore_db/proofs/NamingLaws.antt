@@ -1,0 +1,113 @@
+-- Names: what refuses one that is bound to a path, and what binds it or takes it away.
+use Rattle.std.proofs.Common.{◌≡◌, inl, ℕ, List, [], ◌∷◌, length, map, Bool, true, false, true≢false, not, is_some, Option, Some, None, All, refl, sym, ap, subst, ◌∙◌}
+use Rattle.std.specs.List.{Contains}
+use Rattle.lore_base.specs.Names.{IsName, IsNameTable, object_of}
+use Rattle.lore_base.specs.Databases.{Database, IsValid}
+use Rattle.lore_base.specs.ChangeSets.{IsBound, Fits, IsAfter}
+use Rattle.lore_base.specs.ChangeCauses.{ChangeCause}
+use Rattle.lore_base.specs.Verdicts.{IsClear, IsToldBy}
+use Rattle.lore_base.proofs.NameLaws.{found_bound, bound_found}
+use Rattle.oem_changes.proofs.RootedLaws.{All-of_members}
+use Rattle.lorel_trees.specs.Trees.{RootedTree, SelectTree, StatementTree, bind, unname}
+use Rattle.lorel_bind.specs.Answers.{IsAnswer}
+use Rattle.lore_db.specs.Types.{Oid, Changes, Refusal, Reply, Changed}
+use Rattle.lore_db.specs.Types.refusals
+use Rattle.lore_db.specs.Built.{path_select}
+use Rattle.lore_db.specs.Statements.{pair_of, naming, unnaming, effects, Cause, order, Executes}
+use Rattle.lore_db.specs.inside.Stops.{told}
+use Rattle.lore_db.specs.inside.Stages.{ReadCause, read_order, found_order, change_order, fit_order, IsOnly, IsNotOnly}
+use Rattle.lore_db.specs.declared.stops.Stop.{Stop}
+use Rattle.lore_db.proofs.OrderLaws.{told_left}
+use Rattle.lore_db.proofs.FitLaws.{name_fits, unname_fits}
+use Rattle.lore_db.proofs.LiveRowLaws.{starts_somewhere, IsOneCell, one_cell, one_targets}
+use Rattle.lore_db.proofs.ReadLaws.{read_found, read_clear}
+use Rattle.lore_db.proofs.CauseLaws.{sizes, name_locals, name_clear, name_told, name_its, unname_clear, unname_told, unname_its}
+use Rattle.lore_db.proofs.ExecutionLaws.{same_as, changes_told, changes_lead}
+
+-- ---- bound names
+some_none : (oid : Oid) → Some oid ≡ None → ⊥
+some_none oid same = cc
+
+-- a name that isn't found isn't bound
+pub unbound_by : (names : List (List ℕ × Oid)) (name : List ℕ) (found : Option Oid) (none : Bool) → IsNameTable names → found ≡ object_of names name
+    → is_some found ≡ not none → none ≡ true → IsBound names name → ⊥
+unbound_by names name None none table is tests missing bound = some_none bound.0 (sym (is ∙ bound_found names name bound.0 table bound.1))
+unbound_by names name (Some oid) none table is tests missing bound = true≢false (tests ∙ ap not missing)
+
+pub bound_by : (names : List (List ℕ × Oid)) (name : List ℕ) (found : Option Oid) (none : Bool) → found ≡ object_of names name
+    → is_some found ≡ not none → none ≡ false → IsBound names name
+bound_by names name None none is tests there = absurd (true≢false (sym (tests ∙ ap not there)))
+bound_by names name (Some oid) none is tests there = (oid, found_bound names name oid (sym is))
+
+-- ---- a name for a path
+module _ (db : Database) (valid : IsValid db) (name : List ℕ) (path : RootedTree) where
+  abbrev naming_tree : StatementTree
+  naming_tree = bind name path
+
+  abbrev query : SelectTree
+  query = path_select path
+
+  -- what refuses the select refuses the statement
+  pub path_stops : (told : Option Refusal) → IsToldBy (ReadCause db query) read_order told → IsToldBy (Cause db naming_tree) order told
+  path_stops told h =
+      told_left (Cause db naming_tree) found_order change_order told
+      (read_found db naming_tree query refl refl (λ unbound. unbound) (name_locals db valid name path) told h)
+
+  module _ (rows : List (List Oid)) (answer : IsAnswer db query rows) (clear : IsClear (ReadCause db query) read_order) where
+    each : (row : List Oid) → Contains rows row → IsOneCell db row
+    each row there =
+        one_cell db valid path (record { ranges = []; cond = None }) (starts_somewhere db.graph.names query clear.1.0 clear.1.1.0) row
+        ((answer.exact row).0 there)
+
+    pub single_cells : All (λ row. length row ≡ 1) rows
+    single_cells = All-of_members (λ (row : List Oid). length row ≡ 1) rows (λ row there. ap length (each row there).is)
+
+    found_clear : IsClear (Cause db naming_tree) found_order
+    found_clear = read_clear db naming_tree query refl refl (λ unbound. unbound) (name_locals db valid name path) clear
+
+    pub several_stop : (stop : Stop) → IsNotOnly rows stop → IsToldBy (Cause db naming_tree) order (told stop)
+    several_stop stop h =
+        subst (IsToldBy (Cause db naming_tree) order) (sym h.0) (name_told db valid name path rows answer h.1 found_clear)
+
+    module _ (formed : IsName name) (oid : Oid) (only : IsOnly rows oid) (changes : Changes) (is : changes ≡ naming name ((oid, None) ∷ [])) where
+      lists : changes ≡ effects db naming_tree rows
+      lists = is ∙ ap (λ (l : List (List Oid)). naming name (map pair_of l)) (sym only)
+
+      fit_clear : IsClear (Cause db naming_tree) fit_order
+      fit_clear = name_clear db valid name path rows answer (ap length only) found_clear
+
+      pub named_fit : Fits db changes
+      named_fit = subst (λ (c : Changes). Fits db c) (sym lists) (name_fits db valid name (map pair_of rows) formed (one_targets db rows each))
+
+      pub named_stop : (told : Option Refusal) → IsToldBy (ChangeCause db.labels db.graph changes) sizes told → IsToldBy (Cause db naming_tree) order told
+      named_stop told h =
+          changes_told db naming_tree rows answer changes (same_as (effects db naming_tree rows) changes lists) fit_clear (name_its db name path) told h
+
+      pub named_executes : (after : Database) (reply : Reply) → IsClear (ChangeCause db.labels db.graph changes) sizes → IsAfter db changes after
+          → reply ≡ Changed (length after.graph.objects) (length after.graph.edges) → Executes db naming_tree reply after
+      named_executes after reply left leads counts =
+          inl (changes_lead db naming_tree rows answer changes (same_as (effects db naming_tree rows) changes lists) fit_clear (name_its db name path)
+          after reply left leads counts)
+
+-- ---- a name taken away
+module _ (db : Database) (valid : IsValid db) (name : List ℕ) where
+  abbrev unnaming_tree : StatementTree
+  unnaming_tree = unname name
+
+  pub unbound_stop : (IsBound db.graph.names name → ⊥) → IsToldBy (Cause db unnaming_tree) order (Some refusals.UnknownName)
+  unbound_stop unbound = unname_told db valid name unbound
+
+  module _ (bound : IsBound db.graph.names name) (changes : Changes) (is : changes ≡ unnaming name) where
+    bound_clear : IsClear (Cause db unnaming_tree) fit_order
+    bound_clear = unname_clear db valid name (λ unbound. unbound bound)
+
+    pub unnamed_fit : Fits db changes
+    unnamed_fit = subst (λ (c : Changes). Fits db c) (sym is) (unname_fits db valid name bound)
+
+    pub unnamed_stop : (told : Option Refusal) → IsToldBy (ChangeCause db.labels db.graph changes) sizes told → IsToldBy (Cause db unnaming_tree) order told
+    unnamed_stop told h = changes_told db unnaming_tree [] refl changes (same_as (unnaming name) changes is) bound_clear (unname_its db name) told h
+
+    pub unnamed_executes : (after : Database) (reply : Reply) → IsClear (ChangeCause db.labels db.graph changes) sizes → IsAfter db changes after
+        → reply ≡ Changed (length after.graph.objects) (length after.graph.edges) → Executes db unnaming_tree reply after
+    unnamed_executes after reply left leads counts =
+        inl (changes_lead db unnaming_tree [] refl changes (same_as (unnaming name) changes is) bound_clear (unname_its db name) after reply left leads counts)

@@ -1,0 +1,133 @@
+-- A statement that is executed over a select is refused for what the select is refused for.
+use Rattle.std.proofs.Common.{◌≡◌, ◌≢◌, ◌↔◌, inl, inr, Bool, true, false, if◌then◌else◌, true≢false, ℕ, ◌<◌, ◌≤◌, List, [], ◌∷◌, ◌++◌, length, Option, Some, None, AllPairs, All, refl, sym, ap, subst, ◌∙◌, arith}
+use Rattle.std.specs.Prelude.{MatchOption}
+use Rattle.std.specs.List.{Contains}
+use Rattle.graph_search.proofs.SumLaws.{length-within}
+use Rattle.lore_base.specs.Databases.{Database}
+use Rattle.lore_base.specs.Verdicts.{IsClear, IsToldBy}
+use Rattle.lorel_trees.specs.Trees.{SelectTree, StatementTree}
+use Rattle.lorel_bind.specs.Answers.{IsAnswer}
+use Rattle.lorel_bind.specs.Refusals as binding
+use Rattle.lorel_bind.specs.Refusals.{IsAccepted}
+use Rattle.lorel_bind.proofs.AnswerLaws.{has_one_answer}
+use Rattle.lorel_bind.proofs.SomeAnswerLaws.{has_some_answer}
+use Rattle.lore_db.specs.Types.{Oid, Refusal, ROWS}
+use Rattle.lore_db.specs.Types.refusals
+use Rattle.lore_db.specs.Built.{reads, has_path_variable, is_read, is_built}
+use Rattle.lore_db.specs.Statements.{IsUnbound, OfReads, HasTooManyRows, Cause}
+use Rattle.lore_db.specs.inside.Stages.{ReadCause, bind_order, read_order, found_order}
+use Rattle.lore_db.proofs.OrderLaws.{AreAlike, told_left, told_right, told_between, clear_between, clear_alike, told_alike}
+use Rattle.lore_db.proofs.LiveRowLaws.{starts_somewhere}
+
+-- ---- answers that are too long
+-- an answer that is not too long is the one answer
+pub few_rows : (db : Database) (query : SelectTree) (rows : List (List Oid)) → IsAnswer db query rows → length rows ≤ ROWS → HasTooManyRows db query → ⊥
+few_rows db query rows answer few many =
+    let same = has_one_answer db query many.0 rows many.1 answer in
+    let more : ROWS < length rows = subst (λ (l : List (List Oid)). ROWS < length l) same many.2 in
+    omega (arith, more, few)
+
+-- the answer is as long as any list of different rows of it
+pub many_rows : (db : Database) (query : SelectTree) (rows : List (List Oid)) → IsAccepted db.graph.names query → AllPairs (λ a b. a ≢ b) rows
+    → ((answer : List (List Oid)) → IsAnswer db query answer → All (Contains answer) rows) → ROWS < length rows → HasTooManyRows db query
+many_rows db query rows accepted apart there many =
+    let answer = has_some_answer db query (starts_somewhere db.graph.names query accepted.0 accepted.1.0) in
+    let fits = length-within rows answer.0 apart (there answer.0 answer.1) in
+    (answer.0, answer.1, omega (arith, many, fits))
+
+-- ---- path variables
+unread : (test : Bool) → (if test then false else true) ≡ false → test ≡ true
+unread true h = refl
+unread false h = absurd (true≢false h)
+
+-- the refusal of a select with a path variable
+pub variable_told : (db : Database) (query : SelectTree) → has_path_variable query ≡ true → IsToldBy (ReadCause db query) bind_order (Some refusals.Syntax)
+variable_told db query some = inl (some, refl)
+
+module _ (db : Database) (query : SelectTree) (none : has_path_variable query ≡ false) where
+  pub bind_told : (told : Option Refusal) → IsToldBy (binding.Cause db.graph.names query) binding.order told → IsToldBy (ReadCause db query) bind_order told
+  bind_told None h = tt
+  bind_told (Some refusal) h = inr (λ some. true≢false (sym some ∙ none), h)
+
+  pub bind_clear : IsAccepted db.graph.names query → IsClear (ReadCause db query) bind_order
+  bind_clear accepted = (λ some. true≢false (sym some ∙ none), accepted)
+
+pub accepted_from : (db : Database) (query : SelectTree) → IsClear (ReadCause db query) bind_order → IsAccepted db.graph.names query
+accepted_from db query clear = clear.1
+
+-- ---- the statement
+module _ (db : Database) (statement : StatementTree) (query : SelectTree) (built : is_built statement ≡ is_read (Some query))
+    (reading : reads statement ≡ Some query) (named : IsUnbound db statement → ⊥) where
+  of_reads : (Has : SelectTree → Type 0) → Has query ↔ OfReads statement Has
+  of_reads Has = (
+    λ h. subst (λ (o : Option SelectTree). MatchOption o ⊥ Has) (sym reading) h,
+    λ h. subst (λ (o : Option SelectTree). MatchOption o ⊥ Has) reading h,
+  )
+
+  same_syntax : ReadCause db query refusals.Syntax ↔ Cause db statement refusals.Syntax
+  same_syntax = (
+    λ some. built ∙ ap (λ b. if b then false else true) some,
+    λ fails. unread (has_path_variable query) (sym built ∙ fails),
+  )
+
+  same_name : ReadCause db query refusals.UnknownName ↔ Cause db statement refusals.UnknownName
+  same_name =
+      let of = of_reads (λ q. binding.Cause db.graph.names q refusals.UnknownName) in
+      (λ h. inr (of.0 h), λ h. elim h [ inl unbound ↦ absurd (named unbound) | inr unknown ↦ of.1 unknown ])
+
+  bind_alike : AreAlike (ReadCause db query) (Cause db statement) bind_order
+  bind_alike = (
+    same_syntax,
+    (
+      same_name,
+      (
+        of_reads (λ q. binding.Cause db.graph.names q refusals.UnknownVariable),
+        (
+          of_reads (λ q. binding.Cause db.graph.names q refusals.DuplicateVariable),
+          (of_reads (λ q. binding.Cause db.graph.names q refusals.TooManyRanges), tt),
+        ),
+      ),
+    ),
+  )
+
+  read_alike : AreAlike (ReadCause db query) (Cause db statement) read_order
+  read_alike = (
+    same_syntax,
+    (
+      same_name,
+      (
+        of_reads (λ q. binding.Cause db.graph.names q refusals.UnknownVariable),
+        (
+          of_reads (λ q. binding.Cause db.graph.names q refusals.DuplicateVariable),
+          (
+            of_reads (λ q. binding.Cause db.graph.names q refusals.TooManyRanges),
+            (of_reads (HasTooManyRows db), tt),
+          ),
+        ),
+      ),
+    ),
+  )
+
+  pub read_binds : (told : Option Refusal) → IsToldBy (ReadCause db query) bind_order told → IsToldBy (Cause db statement) bind_order told
+  read_binds told h = told_alike (ReadCause db query) (Cause db statement) bind_order told bind_alike h
+
+  pub read_bound : IsClear (ReadCause db query) bind_order → IsClear (Cause db statement) bind_order
+  read_bound clear = clear_alike (ReadCause db query) (Cause db statement) bind_order bind_alike clear
+
+  pub rows_many : HasTooManyRows db query → Cause db statement refusals.TooManyRows
+  rows_many many = (of_reads (HasTooManyRows db)).0 many
+
+  pub rows_few : (HasTooManyRows db query → ⊥) → Cause db statement refusals.TooManyRows → ⊥
+  rows_few few many = few ((of_reads (HasTooManyRows db)).1 many)
+
+  -- where no local is wrong
+  module _ (locals : IsClear (Cause db statement) (refusals.DuplicateLocal ∷ refusals.UndefinedLocal ∷ [])) where
+    pub read_found : (told : Option Refusal) → IsToldBy (ReadCause db query) read_order told → IsToldBy (Cause db statement) found_order told
+    read_found told h =
+        told_between (Cause db statement) bind_order (refusals.DuplicateLocal ∷ refusals.UndefinedLocal ∷ []) (refusals.TooManyRows ∷ []) told locals
+        (told_alike (ReadCause db query) (Cause db statement) read_order told read_alike h)
+
+    pub read_clear : IsClear (ReadCause db query) read_order → IsClear (Cause db statement) found_order
+    read_clear clear =
+        clear_between (Cause db statement) bind_order (refusals.DuplicateLocal ∷ refusals.UndefinedLocal ∷ []) (refusals.TooManyRows ∷ []) locals
+        (clear_alike (ReadCause db query) (Cause db statement) read_order read_alike clear)

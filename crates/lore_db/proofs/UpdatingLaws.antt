@@ -1,0 +1,88 @@
+-- Updates over their rows as pairs: what the targets are, what refuses the changes, and what is performed.
+use Rattle.std.proofs.Common.{◌≡◌, inl, inr, ℕ, List, [], length, map, Option, Some, sym, subst, ◌∙◌}
+use Rattle.std.specs.Prelude.{MatchOption}
+use Rattle.lore_base.specs.Databases.{OemGraph, Database, IsValid}
+use Rattle.lore_base.specs.ChangeSets.{AreSame, Fits, IsAfter}
+use Rattle.lore_base.specs.ChangeCauses.{ChangeCause}
+use Rattle.lore_base.specs.Verdicts.{IsClear, IsToldBy}
+use Rattle.lorel_trees.specs.Trees.{SelectTree, StatementTree}
+use Rattle.lorel_trees.specs.Sound.{IsSound}
+use Rattle.lorel_trees.specs.UpdateRows.{rows_of}
+use Rattle.lorel_trees.proofs.FormLaws.{sound_statement}
+use Rattle.lorel_bind.specs.Answers.{IsAnswer}
+use Rattle.lorel_bind.specs.Bound.{BoundTree}
+use Rattle.lorel_bind.specs.Bindings.{IsBinding}
+use Rattle.lorel_bind.specs.SlotRows.{IsSlotRow}
+use Rattle.updates.specs.Effects.{Pair, changes_by}
+use Rattle.updates.specs.Causes.{IsUpdate, HasTargets}
+use Rattle.updates.specs.Causes as updating
+use Rattle.lore_db.specs.Types.{Oid, Changes, Refusal, Reply, Changed}
+use Rattle.lore_db.specs.Statements.{pair_of, AreRowsOf, effects, Cause, order, Executes}
+use Rattle.lore_db.specs.inside.Finding.{AreRows}
+use Rattle.lore_db.specs.inside.Locals.{StopsRows}
+use Rattle.lore_db.specs.inside.Stages.{ReadCause, bind_order, found_order, fit_order}
+use Rattle.lore_db.proofs.CauseLaws.{sizes, update_its, update_effects}
+use Rattle.lore_db.proofs.EffectLaws.{rows_targets}
+use Rattle.lore_db.proofs.ExecutionLaws.{changes_fit, changes_told, changes_lead, update_performs}
+use Rattle.lore_db.proofs.SelectLaws.{rows_answer}
+use Rattle.lore_db.proofs.UpdateLaws.{update_form, literal_stops, rows_stop, update_told, update_clear}
+
+-- ---- the rows
+module _ (db : Database) (statement : StatementTree) (update : IsUpdate statement) (query : SelectTree) (form : rows_of statement ≡ Some query)
+    (bound : BoundTree) (binds : IsBinding db.graph.names query bound) where
+  pub rows_are : (rows : List (List Oid)) → AreRows (IsSlotRow db bound) rows → AreRowsOf db statement rows
+  rows_are rows all =
+      subst (λ (o : Option SelectTree). MatchOption o (rows ≡ []) (λ q. IsAnswer db q rows)) (sym (update_form statement update ∙ form))
+      (rows_answer db query bound binds rows all)
+
+  pub rows_told : IsClear (ReadCause db query) bind_order → (told : Option Refusal) → StopsRows db statement bound told
+      → IsToldBy (Cause db statement) found_order told
+  rows_told clear told (inl h) = literal_stops db statement update query form clear told h
+  rows_told clear told (inr h) = rows_stop db statement update query form clear bound binds h.0 told h.1
+
+-- ---- the changes, over labels and a graph that are the database's
+module _ (db : Database) (valid : IsValid db) (statement : StatementTree) (update : IsUpdate statement) (pairs : List Pair) (rows : List (List Oid))
+    (are : AreRowsOf db statement rows) (is : pairs ≡ map pair_of rows) (clear : IsClear (Cause db statement) found_order)
+    (table : List (List ℕ)) (graph : OemGraph) (labelled : table ≡ db.labels) (drawn : graph ≡ db.graph) where
+  -- what holds of these holds of the database's, over the rows
+  moved : (P : List (List ℕ) → OemGraph → List Pair → Type 0) → P table graph pairs → P db.labels db.graph (map pair_of rows)
+  moved P h =
+      subst (λ (l : List (List ℕ)). P l db.graph (map pair_of rows)) labelled
+      (subst (λ (g : OemGraph). P table g (map pair_of rows)) drawn (subst (λ (l : List Pair). P table graph l) is h))
+
+  pub pairs_targets : HasTargets graph pairs
+  pairs_targets =
+      subst (λ (g : OemGraph). HasTargets g pairs) (sym drawn)
+      (subst (λ (l : List Pair). HasTargets db.graph l) (sym is) (rows_targets db valid statement update rows are clear))
+
+  -- what refuses the changes before they are made
+  pub pairs_told : (told : Option Refusal) → IsToldBy (updating.Cause table graph statement pairs) (updating.order statement) told
+      → IsToldBy (Cause db statement) order told
+  pairs_told told h =
+      update_told db valid statement update rows are clear told
+      (moved (λ l g p. IsToldBy (updating.Cause l g statement p) (updating.order statement) told) h)
+
+  module _ (changes : Changes) (same : AreSame (changes_by table graph statement pairs) changes)
+      (left : IsClear (updating.Cause table graph statement pairs) (updating.order statement)) where
+    same_effects : AreSame (effects db statement rows) changes
+    same_effects =
+        subst (λ (all : Changes). AreSame all changes) (update_effects db statement update rows)
+        (moved (λ l g p. AreSame (changes_by l g statement p) changes) same)
+
+    fit_clear : IsClear (Cause db statement) fit_order
+    fit_clear =
+        update_clear db valid statement update rows are clear
+        (moved (λ l g p. IsClear (updating.Cause l g statement p) (updating.order statement)) left)
+
+    pub pairs_fit : IsSound statement → Fits db changes
+    pairs_fit sound = changes_fit db statement rows are changes same_effects fit_clear valid (sound_statement statement sound)
+
+    -- how large the database gets
+    pub pairs_grown : (told : Option Refusal) → IsToldBy (ChangeCause db.labels db.graph changes) sizes told → IsToldBy (Cause db statement) order told
+    pairs_grown told h = changes_told db statement rows are changes same_effects fit_clear (update_its db statement update) told h
+
+    pub pairs_performed : (after : Database) (reply : Reply) → IsClear (ChangeCause db.labels db.graph changes) sizes → IsAfter db changes after
+        → reply ≡ Changed (length after.graph.objects) (length after.graph.edges) → Executes db statement reply after
+    pairs_performed after reply few made counts =
+        let led = changes_lead db statement rows are changes same_effects fit_clear (update_its db statement update) after reply few made counts in
+        inl (led.0, update_performs db statement update reply after led.1)

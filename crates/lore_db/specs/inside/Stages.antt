@@ -1,0 +1,61 @@
+-- The order of refusals in stages: those of what a statement reads, of its rows, and of its changes.
+use Rattle.std.specs.Prelude.{◌≡◌, ◌≢◌, ℕ, true, List, [], ◌∷◌, ◌++◌, length, Some}
+use Rattle.lore_db.specs.Types.{Oid, Changes, Refusal}
+use Rattle.lore_db.specs.Types.refusals
+use Rattle.lore_base.specs.Databases.{Database}
+use Rattle.lorel_trees.specs.Trees.{SelectTree}
+use Rattle.lorel_bind.specs.Refusals as binding
+use Rattle.oem_text.specs.declared.parts.Part.{Part}
+use Rattle.lore_db.specs.declared.stops.Stop.{Stop}
+use Rattle.lore_db.specs.Built.{has_path_variable}
+use Rattle.lore_db.specs.Statements.{HasTooManyRows}
+use Rattle.lore_db.specs.inside.Stops.{told}
+
+-- the cause of each refusal of a select
+abbrev pub ReadCause : Database → SelectTree → Refusal → Type 0
+ReadCause db query refusals.Syntax = has_path_variable query ≡ true
+ReadCause db query refusals.TooManyRows = HasTooManyRows db query
+ReadCause db query refusal = binding.Cause db.graph.names query refusal
+
+-- what a select is refused for before its rows are found, and with them
+abbrev pub bind_order : List Refusal
+bind_order = refusals.Syntax ∷ binding.order
+
+abbrev pub read_order : List Refusal
+read_order = bind_order ++ refusals.TooManyRows ∷ []
+
+-- what a statement is refused for before its changes are made
+abbrev pub found_order : List Refusal
+found_order = bind_order ++ refusals.DuplicateLocal ∷ refusals.UndefinedLocal ∷ refusals.TooManyRows ∷ []
+
+-- what is refused before the changes are known to fit the database
+abbrev pub fit_order : List Refusal
+fit_order =
+    found_order ++ refusals.NotOne ∷ refusals.AtomicParent ∷ refusals.HasChildren ∷ refusals.OidsSpent
+    ∷ refusals.TooManyLabels ∷ []
+
+-- what is left then
+abbrev pub change_order : List Refusal
+change_order =
+    refusals.NotOne ∷ refusals.AtomicParent ∷ refusals.HasChildren ∷ refusals.OidsSpent ∷ refusals.TooManyLabels
+    ∷ refusals.TooManyNames ∷ refusals.TooManyObjects ∷ refusals.TooManyEdges ∷ []
+
+-- the changes that make the part and bind the name to its first object
+abbrev pub loading_part : List ℕ → Part → Changes
+loading_part name part = record {
+  made = part.made;
+  values = [];
+  added = part.added;
+  removed = [];
+  named = (name, part.root) ∷ [];
+  unnamed = [];
+  labels = part.labels;
+}
+
+-- there is one row, and it has this object
+abbrev pub IsOnly : List (List Oid) → Oid → Type 0
+IsOnly rows oid = rows ≡ (oid ∷ []) ∷ []
+
+-- there is no row, or there are several
+abbrev pub IsNotOnly : List (List Oid) → Stop → Type 0
+IsNotOnly rows stop = (told stop ≡ Some refusals.NotOne) × (length rows ≢ 1)

@@ -1,0 +1,19 @@
+-- Why the work on a statement ends early, and how it is answered then.
+use Rattle.std.specs.Prelude.{◌≡◌, Option, Some, None}
+use Rattle.std.specs.declared.result.Result.{Result}
+use Rattle.std.specs.declared.result.Result.TheVariants.{Ok, Err}
+use Rattle.lore_db.specs.Types.{Refusal, Reply, Refused}
+use Rattle.lore_base.specs.declared.no_memory.NoMemory.{NoMemory}
+use Rattle.lore_db.specs.declared.stops.Stop.{Stop}
+use Rattle.lore_db.specs.declared.stops.Stop.TheVariants as stop
+
+-- the refusal that a stop tells; none for want of memory
+abbrev pub told : Stop → Option Refusal
+told (stop.Refused refusal) = Some refusal
+told stop.NoMemory = None
+
+-- the reply, or the refusal that a stop tells
+abbrev pub IsRepliedTo : Result Reply Stop → Result Reply NoMemory → Type 0
+IsRepliedTo (Ok reply) result = result ≡ Ok reply
+IsRepliedTo (Err (stop.Refused refusal)) result = result ≡ Ok (Refused refusal)
+IsRepliedTo (Err stop.NoMemory) result = (error : NoMemory) × (result ≡ Err error)

@@ -1,0 +1,134 @@
+ghost use Rattle.std.specs.Prelude.{◌≡◌, List, map, IfOk, IfErr, OnOk, OnErr};
+ghost use Rattle.lore_db.specs.Types.{Oid as TheOid};
+ghost use Rattle.lore_base.specs.Verdicts.{IsClear, IsToldBy};
+ghost use Rattle.lorel_trees.specs.Trees.{statement_tree};
+ghost use Rattle.lorel_trees.specs.Sound.{IsSound};
+ghost use Rattle.lorel_bind.specs.Bound.{bound_tree};
+ghost use Rattle.lorel_bind.specs.Bindings.{IsRunnable};
+ghost use Rattle.lorel_bind.specs.SlotRows.{IsSlotRow};
+ghost use Rattle.updates.specs.Causes.{IsUpdate};
+ghost use Rattle.oem_text.specs.Faults.{local_refusal};
+ghost use Rattle.oem_text.specs.Parts.{local_order};
+ghost use Rattle.lore_db.specs.Statements.{pair_of, AreRowsOf, Cause, order, Executes};
+ghost use Rattle.lore_db.specs.inside.Stops.{told};
+ghost use Rattle.lore_db.specs.inside.Stages.{found_order};
+ghost use Rattle.lore_db.specs.inside.Finding.{AreRows};
+ghost use Rattle.lore_db.specs.inside.Locals.{HasSoundLocals, MadeLocals, StopsRows};
+
+use crate::answers::{Answer, AnswerRow};
+use crate::db::Db;
+use crate::replies::Reply;
+use crate::stops::Stop;
+use lore_base::{NoMemory, Oid, Steps};
+use lorel_bind::Bound;
+use lorel_trees::{Statement, rows_form};
+use oem_text::{LocalFault, check_locals};
+use std::alloc::Global;
+use std::sync::ledger::Ledger;
+use updates::{PairList, changes_of};
+
+impl Db {
+    /// Makes the changes of an update, one of the four forms, all over the state before.
+    pub(crate) fn update<L: Ledger>(
+        &mut self,
+        alloc: Global,
+        statement: &Statement,
+        steps: &mut Steps<L>,
+    ) -> Result<Reply, Stop>
+        requires sound { IsSound (statement_tree statement.now) }
+        requires update { IsUpdate (statement_tree statement.now) }
+        ensures ok { IfOk result (λ reply.
+            Executes self.old (statement_tree statement.now) reply self.new) }
+        ensures same { OnErr result (self.new ≡ self.old) }
+        ensures refused { IfErr result (λ stop.
+            IsToldBy (Cause self.old (statement_tree statement.now)) order (told stop)) }
+    {
+        let rows = self.update_rows(alloc, statement, steps)?;
+        let (graph, labels) = (self.store.graph(), self.store.labels());
+        let changes = changes_of(alloc, statement, &rows, graph, labels)?;
+        self.apply(alloc, &changes, steps)?;
+        Ok(self.counts())
+    }
+
+    // The rows of an update, as pairs.
+    fn update_rows<L: Ledger>(
+        &self,
+        alloc: Global,
+        statement: &Statement,
+        steps: &mut Steps<L>,
+    ) -> Result<PairList, Stop>
+        requires sound { IsSound (statement_tree statement.now) }
+        requires update { IsUpdate (statement_tree statement.now) }
+        ensures rows { let tree = statement_tree statement.now in
+            IfOk result (λ pairs. (rows : List (List TheOid)) × AreRowsOf self.now tree rows
+            × (pairs ≡ map pair_of rows)) }
+        ensures ok { let cause = Cause self.now (statement_tree statement.now) in
+            OnOk result (IsClear cause found_order) }
+        ensures refused { let cause = Cause self.now (statement_tree statement.now) in
+            IfErr result (λ stop. IsToldBy cause found_order (told stop)) }
+    {
+        let Some(query) = rows_form(alloc, statement)? else {
+            unreachable!();
+        };
+        let bound = self.bound(alloc, &query);
+        drop(query);
+        let bound = bound?;
+        let answer = self.sound_rows(alloc, statement, &bound, steps);
+        drop(bound);
+        Ok(pairs_of(alloc, &answer?)?)
+    }
+
+    // The rows of an update's bound select. Locals are looked at before rows are found.
+    fn sound_rows<L: Ledger>(
+        &self,
+        alloc: Global,
+        statement: &Statement,
+        bound: &Bound,
+        steps: &mut Steps<L>,
+    ) -> Result<Answer, Stop>
+        requires update { IsUpdate (statement_tree statement.now) }
+        requires runnable { IsRunnable (bound_tree bound.now) }
+        ensures locals { OnOk result (HasSoundLocals (statement_tree statement.now)) }
+        ensures rows { IfOk result (AreRows (IsSlotRow self.now (bound_tree bound.now))) }
+        ensures refused { let tree = statement_tree statement.now in
+            IfErr result (λ stop. StopsRows self.now tree (bound_tree bound.now) (told stop)) }
+    {
+        check_literal(alloc, statement)?;
+        self.found(alloc, bound, steps)
+    }
+}
+
+// Looks at the locals of the literal that is copied, if there is one.
+fn check_literal(alloc: Global, statement: &Statement) -> Result<(), LocalFault>
+    requires { IsUpdate (statement_tree statement.now) }
+    ensures ok { OnOk result (HasSoundLocals (statement_tree statement.now)) }
+    ensures refused { let tree = statement_tree statement.now in
+        IfErr result (λ fault. IsToldBy (MadeLocals tree) local_order (local_refusal fault)) }
+{
+    match statement {
+        Statement::AddNew { literal, .. } => check_locals(alloc, literal),
+        _ => Ok(()),
+    }
+}
+
+// The rows as pairs.
+fn pairs_of(alloc: Global, answer: &Answer) -> Result<PairList, NoMemory>
+    ensures { IfOk result (λ pairs. pairs ≡ map pair_of answer.now) }
+{
+    let mut pairs = PairList::with_capacity(alloc, answer.len())?;
+    'rows: for row in answer.as_slice() {
+        pairs.push(pair_of(row))?;
+    }
+    Ok(pairs)
+}
+
+// The objects of a row: that of its first cell, and that of its second one, if it has one.
+fn pair_of(row: &AnswerRow) -> (Oid, Option<Oid>)
+    ensures { result ≡ pair_of row.now }
+{
+    match row.as_slice() {
+        [] => (Oid(0), None),
+        [first] => (*first, None),
+        [first, second, ..] => (*first, Some(*second)),
+    }
+}

@@ -1,0 +1,92 @@
+-- The database that a prepared change leads to: what vanishes where nothing is linked anew, its labels, and that it is valid.
+use Rattle.std.proofs.Common.{◌≡◌, ◌≢◌, ℕ, ◌+◌, ◌<◌, ◌≤◌, ◌^◌, ◌⊎◌, ◌↔◌, List, [], ◌++◌, length, get_or, AllPairs, All, refl, sym, ap, subst, inl, inr, arith, ◌∙◌}
+use Rattle.std.specs.List.{Contains}
+use Rattle.std.proofs.lemmas.List.Elements.{All-contains, Contains-get_or}
+use Rattle.lore_store.specs.Types.{Changes, NAMES, OBJECTS, EDGES, NODES, Auto}
+use Rattle.lore_base.specs.declared.edges.Oid.{Oid}
+use Rattle.lore_base.specs.declared.edges.Edge.{Edge}
+use Rattle.lore_base.specs.declared.values.Value.{Value}
+use Rattle.lore_base.specs.Databases.{OemGraph, Database, IsLive, IsReached, IsValid, IsRooted}
+use Rattle.lore_base.specs.ChangeSets.{FitsGraph, Fits, EdgesThen, NamesThen, IsRenamed, IsBound, IsLiveThen, IsReachedThen, IsGraphAfter, IsAfter, AreDead}
+use Rattle.lore_base.specs.Verdicts.{IsClear}
+use Rattle.lore_base.proofs.MemberLaws.{Contains-none}
+use Rattle.lore_base.proofs.ListLaws.{AllPairs-append}
+use Rattle.oem_labels.specs.Labels.{first_uses}
+use Rattle.oem_labels.proofs.TextSetLaws.{first_uses-apart}
+use Rattle.oem_changes.proofs.ValidLaws.{valid_after}
+use Rattle.lore_store.specs.Stores.{PlannedDatabase, database_then, order}
+use Rattle.lore_store.specs.inside.Sizes.{SizeCause}
+use Rattle.lore_store.specs.inside.Unlinked.{LinkNothing}
+
+-- nothing stands in a list without items
+none_of : {X : Type 0} (xs : List X) (x : X) → xs ≡ [] → Contains xs x → ⊥
+none_of {X} xs x none there = Contains-none x (subst (λ (l : List X). Contains l x) none there)
+
+module _ (graph : OemGraph) (changes : Changes) (rooted : IsRooted graph) (fits : FitsGraph graph changes) (nothing : LinkNothing changes) where
+  same_edges : (edge : Edge) → Contains graph.edges edge ↔ EdgesThen graph.edges changes edge
+  same_edges edge = (
+    λ there. inr (there, none_of changes.removed edge nothing.removed),
+    λ then_there. elim then_there [
+      | inl added ↦ absurd (none_of changes.added edge nothing.added added)
+      | inr (there, stays) ↦ there
+    ],
+  )
+
+  -- no name is renamed
+  not_renamed : (name : List ℕ) → IsRenamed changes name → ⊥
+  not_renamed name (inl bound) = none_of changes.named (name, bound.0) nothing.named bound.1
+  not_renamed name (inr unnamed) = none_of changes.unnamed name nothing.unnamed unnamed
+
+  reached_then : (oid : Oid) → IsReached graph.names graph.edges oid → IsReachedThen graph.names changes graph.edges oid
+  reached_then oid reached = record {
+    name = reached.name;
+    start = reached.start;
+    word = reached.word;
+    named = inr (reached.named, not_renamed reached.name);
+    walked = reached.walked;
+  }
+
+  live_reached : (oid : Oid) → IsLive graph.objects oid → IsReachedThen graph.names changes graph.edges oid
+  live_reached oid live =
+      reached_then oid (All-contains (λ (object : Oid × Value). IsReached graph.names graph.edges object.0) graph.objects (oid, live.0) rooted.reached live.1)
+
+  then_reached : (oid : Oid) → IsLiveThen graph.objects changes oid → IsReachedThen graph.names changes graph.edges oid
+  then_reached oid (value, inl made) = absurd (none_of changes.made (oid, value) nothing.made made)
+  then_reached oid (value, inr (inl given)) =
+      live_reached oid (All-contains (λ (object : Oid × Value). IsLive graph.objects object.0) changes.values (oid, value) fits.values_live given)
+  then_reached oid (value, inr (inr (kept, same))) = live_reached oid (value, kept)
+
+  -- where nothing is linked anew, nothing vanishes
+  pub none_dead : AreDead graph changes []
+  none_dead = record {
+    between = graph.edges;
+    linked = record { ascend = rooted.well_formed.ordered.edges_ascend; exact = same_edges };
+    ascend = λ i j d low within. absurd (omega (arith, within));
+    vanish = λ oid dead. absurd (Contains-none oid dead);
+    stay = λ oid live. inr (then_reached oid live);
+  }
+
+module _ (db : Database) (changes : Changes) (valid : IsValid db) (fits : Fits db changes) where
+  -- the listed labels are the new ones
+  pub labels_come : first_uses db.labels changes.labels ≡ changes.labels
+  labels_come = first_uses-apart db.labels changes.labels
+      (AllPairs-append (λ a b. a ≢ b) db.labels changes.labels valid.labels_distinct fits.labels_distinct
+      (λ i j d low_i low_j same. All-contains (λ text. Contains db.labels text → ⊥) changes.labels (get_or changes.labels j d) fits.labels_new
+      (Contains-get_or changes.labels j d low_j) (subst (Contains db.labels) same (Contains-get_or db.labels i d low_i))))
+
+  pub labels_fit : length db.labels + length (first_uses db.labels changes.labels) < 2 ^ 32
+  labels_fit = let same = ap length labels_come in omega (arith, same, fits.few_labels)
+
+  module _ (plan : PlannedDatabase) (labels : plan.labels.come ≡ first_uses db.labels changes.labels)
+      (graph : IsGraphAfter db.graph changes (database_then db plan).graph) where
+    pub leads_after : IsAfter db changes (database_then db plan)
+    leads_after = record { labels = ap (λ l. db.labels ++ l) (labels ∙ labels_come); graph = graph; nodes = refl; mode = refl }
+
+    pub leads_valid : IsClear (SizeCause (database_then db plan).graph) order → IsValid (database_then db plan)
+    leads_valid sized = valid_after db changes (database_then db plan) valid fits leads_after
+        (few NAMES (length (database_then db plan).graph.names) sized.0)
+        (few OBJECTS (length (database_then db plan).graph.objects) sized.1.0)
+        (few EDGES (length (database_then db plan).graph.edges) sized.1.1.0)
+      where
+        few : (limit count : ℕ) → (limit < count → ⊥) → count ≤ limit
+        few limit count not_more = omega (arith, not_more)

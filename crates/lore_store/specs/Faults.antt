@@ -1,0 +1,13 @@
+-- What a fault of a change is answered with.
+use Rattle.std.specs.Prelude.{Option, Some, None}
+use Rattle.lore_store.specs.Types.refusals
+use Rattle.lore_store.specs.Types.{Refusal}
+use Rattle.lore_store.specs.declared.faults.StoreFault.{StoreFault}
+use Rattle.lore_store.specs.declared.faults.StoreFault.TheVariants as fault
+
+-- the refusal of the same name; none for want of memory
+abbrev pub refusal_of : StoreFault → Option Refusal
+refusal_of fault.TooManyNames = Some refusals.TooManyNames
+refusal_of fault.TooManyObjects = Some refusals.TooManyObjects
+refusal_of fault.TooManyEdges = Some refusals.TooManyEdges
+refusal_of fault.NoMemory = None

@@ -1,0 +1,4 @@
+pub mod Types
+pub mod inside
+pub mod Faults
+pub mod Stores

@@ -1,0 +1,62 @@
+ghost use Rattle.std.specs.Prelude.{◌≡◌};
+ghost use Rattle.lore_store.specs.declared.faults.StoreFault.TheVariants as fault;
+ghost use Rattle.lore_store.specs.Faults as spec;
+
+use lore_base::{Fault, NoMemory, Refusal};
+use std::alloc::{AllocError, AllocFailed};
+use thiserror::Error;
+
+/// Why a change is refused for what the database would hold afterwards. The first cause that applies
+/// is answered, in this order.
+#[derive(Clone, Copy, Debug, PartialEq, Eq, Error)]
+pub enum StoreFault {
+    /// There would be more than 1,024 names.
+    #[error("too many names")]
+    TooManyNames,
+    /// There would be more than 65,536 objects.
+    #[error("too many objects")]
+    TooManyObjects,
+    /// There would be more than 262,144 edges.
+    #[error("too many edges")]
+    TooManyEdges,
+    /// Memory was refused.
+    #[error("out of memory")]
+    NoMemory,
+}
+
+impl Fault for StoreFault {
+    ghost refusal_of = { spec.refusal_of };
+
+    fn refusal(&self) -> Option<Refusal> {
+        match self {
+            StoreFault::TooManyNames => Some(Refusal::TooManyNames),
+            StoreFault::TooManyObjects => Some(Refusal::TooManyObjects),
+            StoreFault::TooManyEdges => Some(Refusal::TooManyEdges),
+            StoreFault::NoMemory => None,
+        }
+    }
+}
+
+impl From<NoMemory> for StoreFault {
+    ghost from_gives = { λ _ given. given ≡ fault.NoMemory };
+
+    fn from(_error: NoMemory) -> StoreFault {
+        StoreFault::NoMemory
+    }
+}
+
+impl From<AllocError> for StoreFault {
+    ghost from_gives = { λ _ given. given ≡ fault.NoMemory };
+
+    fn from(_error: AllocError) -> StoreFault {
+        StoreFault::NoMemory
+    }
+}
+
+impl<T: Drop> From<AllocFailed<T>> for StoreFault {
+    ghost from_gives = { λ _ given. given ≡ fault.NoMemory };
+
+    fn from(_error: AllocFailed<T>) -> StoreFault {
+        StoreFault::NoMemory
+    }
+}

@@ -1,0 +1,13 @@
+//! One OEM database with all that is kept of it: its graph and its table of labels.
+//!
+//! A change comes in three calls: `prepare` works out what it leads to, `reserve` takes the memory
+//! for it, and `commit` puts it in place and cannot fail.
+#![tactic(auto)]
+
+pub use faults::StoreFault;
+pub use prepared::Prepared;
+pub use store::Store;
+
+mod faults;
+mod prepared;
+mod store;

@@ -1,0 +1,164 @@
+ghost use Rattle.std.specs.Prelude.{◌≡◌, IsTrue, IfOk, IfErr, OnOk};
+ghost use Rattle.lore_base.specs.Databases.{IsValid, new_database};
+ghost use Rattle.lore_base.specs.ChangeSets.{FitsGraph, Fits, IsAfter, AreDead};
+ghost use Rattle.lore_base.specs.ChangeCauses.{ChangeCause};
+ghost use Rattle.lore_base.specs.Verdicts.{IsClear, IsToldBy};
+ghost use Rattle.oem_graph.specs.Plans.{graph_then};
+ghost use Rattle.oem_labels.specs.Labels.{LeadsFrom};
+ghost use Rattle.lore_store.specs.Faults.{refusal_of};
+ghost use Rattle.lore_store.specs.Stores.{database_then, HasRoomFor, order};
+ghost use Rattle.lore_store.specs.inside.Sizes.{SizeCause};
+ghost use Rattle.lore_store.specs.inside.Unlinked.{LinkNothing};
+
+use crate::faults::StoreFault;
+use crate::prepared::Prepared;
+use lore_base::limits::{EDGES, NAMES, OBJECTS};
+use lore_base::{Changes, NoMemory, OidBuf, Steps};
+use oem_graph::{Graph, GraphPlan};
+use oem_labels::LabelTable;
+use oem_reach::dead_objects;
+use std::alloc::Global;
+use std::marker::Model;
+use std::sync::ledger::Ledger;
+
+/// One valid database, seen by contracts as that database and the graph with the room that it is
+/// kept in.
+#[derive(Drop)]
+pub struct Store {
+    graph: Graph,
+    labels: LabelTable,
+}
+
+impl Model for Store {
+    ghost use Rattle.lore_base.specs.Databases.{IsValid};
+    ghost use Rattle.lore_store.specs.Stores.{RoomyDatabase, database_of};
+
+    ghost Value = { RoomyDatabase };
+
+    ghost view = { λ s. record { db = database_of s.labels s.graph.graph; kept = s.graph } };
+
+    ghost invariant = { λ s. IsValid (database_of s.labels s.graph.graph) };
+}
+
+impl Store {
+    /// The new database. Takes no memory.
+    pub fn new(alloc: Global) -> Store
+        ensures { result.db ≡ new_database }
+    {
+        Store {
+            graph: Graph::new(alloc),
+            labels: LabelTable::new(alloc),
+        }
+    }
+
+    /// The graph of the database.
+    pub fn graph(&self) -> &Graph
+        ensures graph { result.now.graph ≡ self.now.db.graph }
+        ensures valid { IsValid self.now.db }
+    {
+        &self.graph
+    }
+
+    /// The table of its labels.
+    pub fn labels(&self) -> &LabelTable
+        ensures { result.now ≡ self.now.db.labels }
+    {
+        &self.labels
+    }
+
+    /// Works out what these changes, which fit the database, lead to: what no name walks to then
+    /// vanishes. The database stays as it is. Refused are, in this order, more names, objects and
+    /// edges than a database holds (`TooManyNames`, `TooManyObjects`, `TooManyEdges`).
+    pub fn prepare<L: Ledger>(
+        &self,
+        alloc: Global,
+        changes: &Changes,
+        steps: &mut Steps<L>,
+    ) -> Result<Prepared, StoreFault>
+        requires fits { Fits self.now.db changes.now }
+        ensures after { IfOk result (λ plan. IsAfter self.now.db changes.now (database_then self.now.db plan)) }
+        ensures valid { IfOk result (λ plan. IsValid (database_then self.now.db plan)) }
+        ensures labels { IfOk result (λ plan. LeadsFrom self.now.db.labels plan.labels) }
+        ensures ok { let cause = ChangeCause self.now.db.labels self.now.db.graph changes.now in
+            OnOk result (IsClear cause order) }
+        ensures err { let cause = ChangeCause self.now.db.labels self.now.db.graph changes.now in
+            IfErr result (λ fault. IsToldBy cause order (refusal_of fault)) }
+    {
+        let dead = self.dead(alloc, changes, steps)?;
+        let graph = self.graph.prepare(changes, &dead)?;
+        self.check_sizes(&graph)?;
+        let labels = self.labels.plan_new(&changes.labels)?;
+        Ok(Prepared { graph, labels })
+    }
+
+    /// Takes the memory that `commit` needs for this plan. The database stays equal, whatever the
+    /// answer.
+    pub fn reserve(&mut self, prepared: &Prepared) -> Result<(), NoMemory>
+        ensures room { OnOk result (HasRoomFor self.new prepared.now) }
+        ensures same { self.new.db ≡ self.old.db }
+    {
+        self.graph.reserve(&prepared.graph)
+    }
+
+    /// Puts in place what was prepared. Takes no memory.
+    pub fn commit(&mut self, prepared: Prepared)
+        requires valid { IsValid (database_then self.old.db prepared) }
+        requires labels { LeadsFrom self.old.db.labels prepared.labels }
+        requires room { HasRoomFor self.old prepared }
+        ensures { self.new.db ≡ database_then self.old.db prepared }
+    {
+        let Prepared { graph, labels } = prepared;
+        self.graph.commit(graph);
+        self.labels.commit_new(labels);
+    }
+
+    // The objects that no name walks to once the changes are made. Where they link nothing anew
+    // there is none, and nothing is searched.
+    fn dead<L: Ledger>(
+        &self,
+        alloc: Global,
+        changes: &Changes,
+        steps: &mut Steps<L>,
+    ) -> Result<OidBuf, NoMemory>
+        requires { FitsGraph self.now.db.graph changes.now }
+        ensures { IfOk result (λ dead. AreDead self.now.db.graph changes.now dead) }
+    {
+        let names = self.graph.names();
+        if link_nothing(changes) {
+            return Ok(OidBuf::new(alloc));
+        }
+        let overlay = self.graph.overlay(changes)?;
+        let (lost, fresh) = (overlay.lost(), overlay.fresh());
+        dead_objects(alloc, names, &overlay, lost, fresh, changes, steps)
+    }
+
+    // Refuses a plan after which the database would hold too much.
+    fn check_sizes(&self, plan: &GraphPlan) -> Result<(), StoreFault>
+        ensures ok { let after = graph_then self.now.db.graph plan.now in
+            OnOk result (IsClear (SizeCause after) order) }
+        ensures err { let after = graph_then self.now.db.graph plan.now in
+            IfErr result (λ fault. IsToldBy (SizeCause after) order (refusal_of fault)) }
+    {
+        if plan.names_len() > NAMES {
+            return Err(StoreFault::TooManyNames);
+        }
+        if self.graph.objects_then(plan) > OBJECTS {
+            return Err(StoreFault::TooManyObjects);
+        }
+        if self.graph.edges_then(plan) > EDGES {
+            return Err(StoreFault::TooManyEdges);
+        }
+        Ok(())
+    }
+}
+
+// Whether no object is made, and no edge and no name comes or goes.
+fn link_nothing(changes: &Changes) -> bool
+    ensures { IsTrue result → LinkNothing changes.now }
+{
+    changes.made.is_empty()
+        && changes.added.is_empty()
+        && changes.removed.is_empty()
+        && changes.named.len() == 0
+        && changes.unnamed.is_empty()
+}

@@ -1,0 +1,13 @@
+pub mod AscentLaws
+pub mod CountLaws
+pub mod ToldLaws
+pub mod EdgeOrderLaws
+pub mod TableLaws
+pub mod ClosureLaws
+pub mod SameLaws
+pub mod DeterminedLaws
+pub mod RootedLaws
+pub mod ValidLaws
+pub mod SomeAfterLaws
+pub mod GrowthLaws
+pub mod ToldCauseLaws

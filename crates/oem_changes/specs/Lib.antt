@@ -1,0 +1,3 @@
+pub mod Types
+pub mod Growth
+pub mod Laws

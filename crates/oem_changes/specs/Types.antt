@@ -1,0 +1,8 @@
+-- The declared types that the definitions of this crate cite, and the limits, under one module.
+pub use Rattle.lore_base.specs.declared.edges.Oid.{Oid}
+pub use Rattle.lore_base.specs.declared.edges.Label.{Label}
+pub use Rattle.lore_base.specs.declared.edges.Edge.{Edge}
+pub use Rattle.lore_base.specs.declared.values.Value.{Value}
+pub use Rattle.lore_base.specs.declared.values.Value.TheVariants.{Whole, Chars, Complex}
+pub use Rattle.lore_base.specs.declared.change_set.Changes.{Changes}
+pub use Rattle.lore_base.specs.declared.limits.TheConstants.{LABELS, NAMES, OBJECTS, EDGES, NEXT_NUMBER}

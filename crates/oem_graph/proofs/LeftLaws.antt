@@ -1,0 +1,180 @@
+-- What is left of objects and edges where some objects are dead and others have new values.
+use Rattle.std.proofs.Common.{◌≡◌, ℕ, ◌+◌, ◌-◌, ◌<◌, ◌≤◌, ◌↔◌, ◌⊎◌, ◌||◌, Bool, true, false, not, cond, nat_eq, inl}
+use Rattle.std.proofs.Common.{inr, List, [], ◌∷◌, ◌++◌, length, get_or, map, All, AllPairs, Contains, refl, sym, ap}
+use Rattle.std.proofs.Common.{◌∙◌, subst, arith}
+use Rattle.std.specs.List.{filter}
+use Rattle.std.proofs.lemmas.Bool.{true≢false, cases_lt}
+use Rattle.std.proofs.lemmas.Bool.Decides.{nat_tests}
+use Rattle.std.proofs.lemmas.List.{get_or-map, length-map}
+use Rattle.std.proofs.lemmas.List.Elements.{Contains-get_or, Contains-append_cases, Contains-append_left}
+use Rattle.std.proofs.lemmas.List.Elements.{Contains-append_right}
+use Rattle.std.proofs.lemmas.List.Kept.{AllPairs-filter}
+use Rattle.std.specs.List.Sorted.{IsPermutation, IsNonDecreasingBy}
+use Rattle.std.proofs.lemmas.List.Sorted.{IsPermutation-sym, Contains-permutation}
+use Rattle.std.proofs.lemmas.Map.Keys.{IsDistinct-from_apart, IsDistinct-IsPermutation, apart_from_distinct}
+use Rattle.lore_base.proofs.ListLaws.{AllPairs-append, AllPairs-tail, AllPairs-head}
+use Rattle.lore_base.proofs.MemberLaws.{Contains-none, Contains-head, Contains-tail, Contains-cases, Contains-same}
+use Rattle.lore_base.proofs.MemberLaws.{Contains-filter, unfiltered}
+use Rattle.oem_graph.specs.Types.{Oid, Edge, Value}
+use Rattle.lore_base.specs.Databases.{AreAscendingObjects, IsLive}
+use Rattle.oem_graph.specs.inside.Left.{is_among, AreOrdered, value_then, with_value, objects_left, edges_left}
+
+eq_self : (a : ℕ) → nat_eq a a ≡ true
+eq_self a = grind (arith, nat_tests)
+
+same_oid : (a b : Oid) → nat_eq a.0 b.0 ≡ true → a ≡ b
+same_oid a b h = let number : a.0 ≡ b.0 = grind (arith, nat_tests) in ap (λ (n : ℕ). record { 0 = n }) number
+
+other_oid : (a b : ℕ) → a < b → nat_eq a b ≡ false
+other_oid a b less = grind (arith, nat_tests)
+
+nat_eq_flips : (a b : ℕ) → nat_eq a b ≡ nat_eq b a
+nat_eq_flips a b = grind (arith, nat_tests)
+
+-- which objects are among those listed
+pub among : (oids : List Oid) (oid : Oid) → Contains oids oid → is_among oids oid ≡ true
+among [] oid at = absurd (Contains-none oid at)
+among (first ∷ oids) oid at = elim (Contains-cases first oids oid at) [
+  | inl same ↦ ap (λ (o : Oid). nat_eq oid.0 o.0 || is_among oids oid) same ∙ ap (λ (b : Bool). b || is_among oids oid) (eq_self oid.0)
+  | inr later ↦ let rest = among oids oid later in elim (nat_eq oid.0 first.0) as (λ b. b || is_among oids oid ≡ true) [ true ↦ refl | false ↦ rest ]
+]
+
+pub among-back : (oids : List Oid) (oid : Oid) → is_among oids oid ≡ true → Contains oids oid
+among-back [] oid h = absurd (true≢false (sym h))
+among-back (first ∷ oids) oid h =
+    elim (nat_eq oid.0 first.0) as (λ b. nat_eq oid.0 first.0 ≡ b → (b || is_among oids oid) ≡ true → Contains (first ∷ oids) oid) [
+      | true ↦ λ same _. Contains-same (first ∷ oids) first oid (sym (same_oid oid first same)) (Contains-head first oids)
+      | false ↦ λ other later. Contains-tail first oids oid (among-back oids oid later)
+    ] refl h
+
+pub not_among : (oids : List Oid) (oid : Oid) → (Contains oids oid → ⊥) → is_among oids oid ≡ false
+not_among oids oid none = elim (is_among oids oid) as (λ b. is_among oids oid ≡ b → b ≡ false) [
+  | true ↦ λ yes. absurd (none (among-back oids oid yes))
+  | false ↦ λ no. refl
+] refl
+
+-- an object is live or not
+pub live-cases : (objects : List (Oid × Value)) (oid : Oid) → IsLive objects oid ⊎ (IsLive objects oid → ⊥)
+live-cases [] oid = inr (λ live. Contains-none _ live.1)
+live-cases (first ∷ objects) oid =
+    elim (nat_eq first.0.0 oid.0) as (λ b. nat_eq first.0.0 oid.0 ≡ b → IsLive (first ∷ objects) oid ⊎ (IsLive (first ∷ objects) oid → ⊥)) [
+      | true ↦ λ same. inl (first.1, Contains-same (first ∷ objects) first (oid, first.1) (ap (λ (o : Oid). (o, first.1)) (same_oid first.0 oid same)) (Contains-head first objects))
+      | false ↦ λ other. elim (live-cases objects oid) [
+        | inl live ↦ inl (live.0, Contains-tail first objects (oid, live.0) live.1)
+        | inr none ↦ inr (λ live. elim (Contains-cases first objects (oid, live.0) live.1) [
+          | inl same ↦ true≢false (sym (ap (λ (o : Oid × Value). nat_eq o.0.0 oid.0) same ∙ eq_self oid.0) ∙ other)
+          | inr later ↦ none (live.0, later)
+        ])
+      ]
+    ] refl
+
+-- the value that an object has then
+pub given-value : (values : List (Oid × Value)) → AreAscendingObjects values
+    → (object : Oid × Value) (value : Value) → Contains values (object.0, value) → value_then values object ≡ value
+given-value [] ascend object value at = absurd (Contains-none _ at)
+given-value (first ∷ values) ascend object value at = elim (Contains-cases first values (object.0, value) at) [
+  | inl same ↦
+      let tested : nat_eq first.0.0 object.0.0 ≡ true = ap (λ (o : Oid × Value). nat_eq o.0.0 object.0.0) same ∙ eq_self object.0.0 in
+      rw tested (ap (λ (o : Oid × Value). o.1) same)
+  | inr later ↦
+      let less : first.0.0 < object.0.0 = AllPairs-head (λ (a b : Oid × Value). a.0.0 < b.0.0) first values ascend (object.0, value) later in
+      rw (other_oid first.0.0 object.0.0 less) (given-value values (AllPairs-tail (λ (a b : Oid × Value). a.0.0 < b.0.0) first values ascend) object value later)
+]
+
+pub old-value : (values : List (Oid × Value)) (object : Oid × Value) → (IsLive values object.0 → ⊥)
+    → value_then values object ≡ object.1
+old-value [] object none = refl
+old-value (first ∷ values) object none =
+    let rest = old-value values object (λ live. none (live.0, Contains-tail first values (object.0, live.0) live.1)) in
+    elim (nat_eq first.0.0 object.0.0) as (λ b. nat_eq first.0.0 object.0.0 ≡ b → cond b first.1 (value_then values object) ≡ object.1) [
+      | true ↦ λ same. absurd (none (first.1, Contains-same (first ∷ values) first (object.0, first.1) (ap (λ (o : Oid). (o, first.1)) (same_oid first.0 object.0 same)) (Contains-head first values)))
+      | false ↦ λ other. rest
+    ] refl
+
+-- what stands in a list of images
+pub mapped : {X Y : Type 0} (f : X → Y) (xs : List X) (y : Y) → Contains (map f xs) y → (x : X) × Contains xs x × (f x ≡ y)
+mapped f [] y at = absurd (Contains-none y at)
+mapped f (x ∷ xs) y at = elim (Contains-cases (f x) (map f xs) y at) [
+  | inl same ↦ (x, Contains-head x xs, same)
+  | inr later ↦ let rest = mapped f xs y later in (rest.0, Contains-tail x xs rest.0 rest.1, rest.2)
+]
+
+pub map-contains : {X Y : Type 0} (f : X → Y) (xs : List X) (x : X) → Contains xs x → Contains (map f xs) (f x)
+map-contains f [] x at = absurd (Contains-none x at)
+map-contains f (first ∷ xs) x at = elim (Contains-cases first xs x at) [
+  | inl same ↦ Contains-same (map f (first ∷ xs)) (f first) (f x) (ap f same) (Contains-head (f first) (map f xs))
+  | inr later ↦ Contains-tail (f first) (map f xs) (f x) (map-contains f xs x later)
+]
+
+-- the objects that are left of a list
+pub left-object : (values : List (Oid × Value)) (dead : List Oid) (objects : List (Oid × Value)) (object : Oid × Value) → Contains (objects_left values dead objects) object
+    → (old : Oid × Value) × Contains objects old × (Contains dead old.0 → ⊥) × (with_value values old ≡ object)
+left-object values dead objects object at =
+    let from = mapped (with_value values) (filter (λ o. not (is_among dead o.0)) objects) object at in
+    let passed = unfiltered (λ (o : Oid × Value). not (is_among dead o.0)) objects from.0 from.1 in
+    (from.0, passed.0, λ there. true≢false (sym passed.1 ∙ ap not (among dead from.0.0 there)), from.2)
+
+pub object-left : (values : List (Oid × Value)) (dead : List Oid) (objects : List (Oid × Value)) (old : Oid × Value) → Contains objects old → (Contains dead old.0 → ⊥)
+    → Contains (objects_left values dead objects) (with_value values old)
+object-left values dead objects old at living =
+    map-contains (with_value values) (filter (λ o. not (is_among dead o.0)) objects) old
+    (Contains-filter (λ (o : Oid × Value). not (is_among dead o.0)) objects old at (ap not (not_among dead old.0 living)))
+
+ascend-mapped : (values objects : List (Oid × Value)) → AreAscendingObjects objects
+    → AreAscendingObjects (map (with_value values) objects)
+ascend-mapped values objects ascend i j d lt len =
+    let long = length-map objects (with_value values) in
+    let first = get_or-map (with_value values) objects i d d (omega (arith, long)) in
+    let second = get_or-map (with_value values) objects j d d (omega (arith, long)) in
+    rw (first, second) (ascend i j d lt (omega (arith, long)))
+
+pub ascend-left : (values : List (Oid × Value)) (dead : List Oid) (objects : List (Oid × Value))
+    → AreAscendingObjects objects → AreAscendingObjects (objects_left values dead objects)
+ascend-left values dead objects ascend =
+    ascend-mapped values (filter (λ o. not (is_among dead o.0)) objects)
+    (AllPairs-filter (λ (a b : Oid × Value). a.0.0 < b.0.0) (λ (o : Oid × Value). not (is_among dead o.0)) objects ascend)
+
+-- where nothing is dead and no value new, all is left
+pub all-left : (objects : List (Oid × Value)) → objects_left [] [] objects ≡ objects
+all-left [] = refl
+all-left (object ∷ objects) = ap (λ (l : List (Oid × Value)). object ∷ l) (all-left objects)
+
+pub all-edges-left : (edges : List Edge) → edges_left [] edges ≡ edges
+all-edges-left [] = refl
+all-edges-left (edge ∷ edges) = ap (λ (l : List Edge). edge ∷ l) (all-edges-left edges)
+
+-- the edges that are left
+pub members-edges_left : (dead : List Oid) (edges : List Edge) (edge : Edge)
+    → Contains (edges_left dead edges) edge ↔ (Contains edges edge × (Contains dead edge.parent → ⊥))
+members-edges_left dead edges edge = (
+  λ at.
+      let passed = unfiltered (λ (e : Edge). not (is_among dead e.parent)) edges edge at in
+      (passed.0, λ there. true≢false (sym passed.1 ∙ ap not (among dead edge.parent there))),
+  λ both. Contains-filter (λ (e : Edge). not (is_among dead e.parent)) edges edge both.0 (ap not (not_among dead edge.parent both.1)),
+)
+
+-- values that were sorted by their objects, each of which has one
+apart_numbers : (a b : Oid) → (a ≡ b → ⊥) → nat_eq a.0 b.0 ≡ false
+apart_numbers a b other = elim (nat_eq a.0 b.0) as (λ t. nat_eq a.0 b.0 ≡ t → t ≡ false) [
+  | true ↦ λ same. absurd (other (same_oid a b same))
+  | false ↦ λ no. refl
+] refl
+
+rises : (a b : ℕ) → a ≤ b → nat_eq a b ≡ false → a < b
+rises a b le other = grind (arith, nat_tests)
+
+pub values-ordered : (given copy values : List (Oid × Value)) → AllPairs (λ a b. a.0 ≡ b.0 → ⊥) given
+    → copy ≡ given → IsPermutation copy values
+    → IsNonDecreasingBy (λ (o : Oid × Value). o.0.0) values → AreOrdered given values
+values-ordered given copy values once same moved sorted =
+    let test : Oid × Value → Oid × Value → Bool = λ a b. nat_eq a.0.0 b.0.0 in
+    let from_given = subst (λ (l : List (Oid × Value)). IsPermutation l values) same moved in
+    let distinct = IsDistinct-from_apart test given (λ i j d lt len. apart_numbers (get_or given i d).0 (get_or given j d).0 (once i j d lt len)) in
+    let still = IsDistinct-IsPermutation test (λ a b. nat_eq_flips a.0.0 b.0.0) given values from_given distinct in
+    record {
+      ascend = λ i j d lt len. rises (get_or values i d).0.0 (get_or values j d).0.0 (sorted i j d (omega arith) len) (apart_from_distinct test values i j d still lt len);
+      members = λ object. (
+        Contains-permutation values given object (IsPermutation-sym given values from_given),
+        Contains-permutation given values object from_given,
+      );
+    }

@@ -1,0 +1,4 @@
+pub mod MemberLaws
+pub mod ReachedLaws
+pub mod CutLaws
+pub mod DeadLaws

@@ -1,0 +1,165 @@
+-- Where the objects are that locals mark, as a map of their places grows.
+use Rattle.std.proofs.Common.{◌≡◌, ◌≢◌, ◌⊎◌, ℕ, zero, suc, ◌+◌, ◌==◌, Bool, true, false, true≢false, if◌then◌else◌, Option, List, [], ◌∷◌, ◌++◌, length, Some, None, slice_get, refl, sym, ap, subst, ◌∙◌, inl, inr, arith}
+use Rattle.std.proofs.lemmas.Bool.{cases_eq}
+use Rattle.std.proofs.lemmas.Option.{none-some, same_Some, slice_get_within}
+use Rattle.std.proofs.lemmas.Bool.Decides.{nat_tests}
+use Rattle.std.specs.Ordering.{nat_cmp}
+use Rattle.std.specs.Map.{lookup}
+use Rattle.std.specs.BTreeMap.{BTreeMap, get, Updates, is_at}
+use Rattle.oem_labels.proofs.LabelLaws.{either}
+use Rattle.oem_text.specs.Literals.{Body, IsMarkedAt, is_mark, marked_place}
+use Rattle.oem_text.specs.Layouts.{PlacedArc, placed_arc}
+use Rattle.oem_text.specs.inside.Views.{target_of}
+use Rattle.oem_text.specs.inside.Places.{AreDouble, ArePlaces}
+
+-- ---- one object more
+slice_get-push_cases : {X : Type 0} (xs : List X) (y : X) (i : ℕ) (z : X) → slice_get (xs ++ y ∷ []) i ≡ Some z → (slice_get xs i ≡ Some z) ⊎ ((i ≡ length xs) × (y ≡ z))
+slice_get-push_cases [] y zero z h = inr (refl, same_Some y z h)
+slice_get-push_cases [] y (suc i) z h = absurd (none-some z h)
+slice_get-push_cases (x ∷ xs) y zero z h = inl h
+slice_get-push_cases (x ∷ xs) y (suc i) z h = elim (slice_get-push_cases xs y i z h) [ inl left ↦ inl left | inr last ↦ inr (ap (λ n. suc n) last.0, last.1) ]
+
+slice_get-left : {X : Type 0} (xs ys : List X) (i : ℕ) (x : X) → slice_get xs i ≡ Some x → slice_get (xs ++ ys) i ≡ Some x
+slice_get-left [] ys i x h = absurd (none-some x h)
+slice_get-left (y ∷ xs) ys zero x h = h
+slice_get-left (y ∷ xs) ys (suc i) x h = slice_get-left xs ys i x h
+
+slice_get-last : {X : Type 0} (xs : List X) (y : X) → slice_get (xs ++ y ∷ []) (length xs) ≡ Some y
+slice_get-last [] y = refl
+slice_get-last (x ∷ xs) y = slice_get-last xs y
+
+pub marked_left : (xs ys : List Body) (number place : ℕ) → IsMarkedAt xs number place → IsMarkedAt (xs ++ ys) number place
+marked_left xs ys number place h = record { body = h.body; at = slice_get-left xs ys place h.body h.at; marked = h.marked }
+
+pub marked_last : (xs : List Body) (b : Body) (number : ℕ) → b.mark ≡ Some number → IsMarkedAt (xs ++ b ∷ []) number (length xs)
+marked_last xs b number h = record { body = b; at = slice_get-last xs b; marked = h }
+
+pub marked_cases : (xs : List Body) (b : Body) (number place : ℕ) → IsMarkedAt (xs ++ b ∷ []) number place → IsMarkedAt xs number place ⊎ ((place ≡ length xs) × (b.mark ≡ Some number))
+marked_cases xs b number place h =
+    elim (slice_get-push_cases xs b place h.body h.at) [
+      | inl left ↦ inl (record { body = h.body; at = left; marked = h.marked })
+      | inr last ↦ inr (last.0, ap (λ (x : Body). x.mark) last.1 ∙ h.marked)
+    ]
+
+-- ---- the map of places
+pub places_none : (places : BTreeMap ℕ ℕ) → places.entries ≡ [] → ArePlaces [] places
+places_none places none = record {
+  marked = λ number place h. absurd (none-some place (sym (nowhere number) ∙ h));
+  known = λ number place h. absurd (none-some h.body h.at);
+}
+  where
+    nowhere : (number : ℕ) → get nat_cmp places number ≡ None
+    nowhere number = ap (λ (es : List (ℕ × ℕ)). lookup (is_at (nat_cmp number)) es) none
+
+-- an object that no local marks
+pub places_same : (xs : List Body) (b : Body) (places : BTreeMap ℕ ℕ) → b.mark ≡ None → ArePlaces xs places → ArePlaces (xs ++ b ∷ []) places
+places_same xs b places none are = record {
+  marked = λ number place h. marked_left xs (b ∷ []) number place (are.marked number place h);
+  known = λ number place h. elim (marked_cases xs b number place h) [
+    | inl left ↦ are.known number place left
+    | inr last ↦ absurd (none-some number (sym none ∙ last.1))
+  ];
+}
+
+-- an object that a local marks, which marks none before
+pub places_more : (xs : List Body) (b : Body) (number place : ℕ) (old new : BTreeMap ℕ ℕ) → b.mark ≡ Some number → place ≡ length xs → get nat_cmp old number ≡ None
+    → Updates nat_cmp old new number (Some place) → ArePlaces xs old → ArePlaces (xs ++ b ∷ []) new
+places_more xs b number place old new marked is_last unknown updates are = record {
+  marked = λ other at h. elim (cases_eq number other) [
+    | inl same ↦ (
+        let here : Some place ≡ Some at = sym updates.1 ∙ ap (λ (q : ℕ). get nat_cmp new q) same ∙ h in
+        let last : IsMarkedAt (xs ++ b ∷ []) number (length xs) = marked_last xs b number marked in
+        let there : length xs ≡ at = sym is_last ∙ same_Some place at here in
+        subst (λ (q : ℕ). IsMarkedAt (xs ++ b ∷ []) q at) same (subst (λ (p : ℕ). IsMarkedAt (xs ++ b ∷ []) number p) there last))
+    | inr apart ↦ marked_left xs (b ∷ []) other at (are.marked other at (sym (updates.2 other (unlike number other apart)) ∙ h))
+  ];
+  known = λ other at h. elim (marked_cases xs b other at h) [
+    | inl left ↦ (
+        let was = are.known other at left in
+        elim (cases_eq number other) [
+          | inl same ↦ absurd (none-some at (sym unknown ∙ ap (λ (q : ℕ). get nat_cmp old q) same ∙ was))
+          | inr apart ↦ updates.2 other (unlike number other apart) ∙ was
+        ])
+    | inr last ↦ (
+        let same : number ≡ other = same_Some number other (sym marked ∙ last.1) in
+        ap (λ (q : ℕ). get nat_cmp new q) (sym same) ∙ updates.1 ∙ ap (λ (p : ℕ). Some p) (is_last ∙ sym last.0))
+  ];
+}
+  where
+    unlike : (a c : ℕ) → a ≢ c → is_at (nat_cmp a) c ≡ false
+    unlike a c apart = grind arith
+
+-- a local that marks an object before
+pub places_double : (xs : List Body) (b : Body) (number first : ℕ) (places : BTreeMap ℕ ℕ) → b.mark ≡ Some number → get nat_cmp places number ≡ Some first → ArePlaces xs places
+    → AreDouble (xs ++ b ∷ [])
+places_double xs b number first places marked known are =
+    let before = are.marked number first known in
+    record {
+      number = number;
+      first = first;
+      second = length xs;
+      apart = slice_get_within xs first before.body before.at;
+      one = marked_left xs (b ∷ []) number first before;
+      other = marked_last xs b number marked;
+    }
+
+-- it does among more objects too
+pub double_more : (xs ys : List Body) → AreDouble xs → AreDouble (xs ++ ys)
+double_more xs ys h = record {
+  number = h.number;
+  first = h.first;
+  second = h.second;
+  apart = h.apart;
+  one = marked_left xs ys h.number h.first h.one;
+  other = marked_left xs ys h.number h.second h.other;
+}
+
+-- where there is such a map no local marks two objects
+pub places_single : (xs : List Body) (places : BTreeMap ℕ ℕ) → ArePlaces xs places → AreDouble xs → ⊥
+places_single xs places are double =
+    let one = are.known double.number double.first double.one in
+    let other = are.known double.number double.second double.other in
+    let same : double.first ≡ double.second = same_Some double.first double.second (sym one ∙ other) in
+    let apart = double.apart in
+    absurd (omega (arith, same, apart))
+
+-- ---- the first object that a local marks
+is_mark-true : (mark : Option ℕ) (number : ℕ) → is_mark number mark ≡ true → mark ≡ Some number
+is_mark-true None number h = absurd (true≢false (sym h))
+is_mark-true (Some own) number h = let same : own ≡ number = grind (arith, nat_tests) in ap (λ (n : ℕ). Some n) same
+
+is_mark-same : (mark : Option ℕ) (number : ℕ) → mark ≡ Some number → is_mark number mark ≡ true
+is_mark-same mark number h = let here : (number == number) ≡ true = grind (arith, nat_tests) in ap (is_mark number) h ∙ here
+
+first_here : (b : Body) (xs : List Body) (number : ℕ) → b.mark ≡ Some number → IsMarkedAt (b ∷ xs) number (marked_place (b ∷ xs) number)
+first_here b xs number h =
+    let first = ap (λ (t : Bool). if t then 0 else (1 + marked_place xs number)) (is_mark-same b.mark number h) in
+    subst (λ (p : ℕ). IsMarkedAt (b ∷ xs) number p) (sym first) (record { body = b; at = refl; marked = h })
+
+pub first_marked : (xs : List Body) (number place : ℕ) → IsMarkedAt xs number place → IsMarkedAt xs number (marked_place xs number)
+first_marked [] number place h = absurd (none-some h.body h.at)
+first_marked (b ∷ xs) number zero h =
+    let is = same_Some b h.body h.at in
+    first_here b xs number (ap (λ (x : Body). x.mark) is ∙ h.marked)
+first_marked (b ∷ xs) number (suc place) h =
+    elim (either (is_mark number b.mark)) [
+      | inl e ↦ first_here b xs number (is_mark-true b.mark number e)
+      | inr e ↦ (
+          let rest = first_marked xs number place (record { body = h.body; at = h.at; marked = h.marked }) in
+          let behind : suc (marked_place xs number) ≡ 1 + marked_place xs number = omega arith in
+          subst (λ (p : ℕ). IsMarkedAt (b ∷ xs) number p) (behind ∙ sym (ap (λ (t : Bool). if t then 0 else (1 + marked_place xs number)) e))
+          (record { body = rest.body; at = rest.at; marked = rest.marked }))
+    ]
+
+-- the map has its place
+pub place_found : (xs : List Body) (places : BTreeMap ℕ ℕ) (number place : ℕ) → ArePlaces xs places → get nat_cmp places number ≡ Some place → marked_place xs number ≡ place
+place_found xs places number place are h =
+    let first = first_marked xs number place (are.marked number place h) in
+    same_Some (marked_place xs number) place (sym (are.known number (marked_place xs number) first) ∙ h)
+
+-- an edge to a local that has its place
+pub placed_local : (xs : List Body) (places : BTreeMap ℕ ℕ) (parent child place : ℕ) (label : List ℕ) (is_local : Bool) → is_local ≡ true → get nat_cmp places child ≡ Some place → ArePlaces xs places
+    → ◌≡◌ {A = PlacedArc} (record { parent = parent; label = label; child = place }) (placed_arc xs (record { parent = parent; label = label; target = target_of is_local child }))
+placed_local xs places parent child place label true is h are =
+    ap (λ (n : ℕ). let made : PlacedArc = record { parent = parent; label = label; child = n } in made) (sym (place_found xs places child place are h))
+placed_local xs places parent child place label false is h are = absurd (true≢false (sym is))

@@ -1,0 +1,6 @@
+pub mod Types
+pub mod Faults
+pub mod Literals
+pub mod Layouts
+pub mod Parts
+pub mod inside

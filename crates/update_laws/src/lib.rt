@@ -1,0 +1,4 @@
+//! Laws of updates of an OEM database.
+#![tactic(auto)]
+
+pub mod laws;

@@ -1,0 +1,10 @@
+pub mod RowLaws
+pub mod FormLaws
+pub mod HangLaws
+pub mod StampLaws
+pub mod CopyLaws
+pub mod CopyCauseLaws
+pub mod StatementLaws
+pub mod TextLaws
+pub mod LoopLaws
+pub mod RefusalLaws
