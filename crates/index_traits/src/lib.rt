@@ -2,10 +2,12 @@
 //! traits that stored and plain forms implement.
 #![tactic(auto)]
 
+pub use entries::{EntryList, ValueEntry};
 pub use naive_edges::NaiveEdges;
-pub use reads::{Adjacent, Links, Paths, ValueOf};
+pub use reads::{Adjacent, Links, Paths, ValueOf, Values};
 pub use rows::{Row, RowTest};
 
+mod entries;
 mod naive_edges;
 mod reads;
 mod rows;

@@ -1,14 +1,16 @@
-ghost use Rattle.std.specs.Prelude.{◌≡◌, ◌+◌, ◌-◌, ◌≤◌, List, ◌++◌, length, Some, Contains};
+ghost use Rattle.std.specs.Prelude.{◌≡◌, ◌≢◌, ◌+◌, ◌-◌, ◌≤◌, List, ◌++◌, length, Some, Contains};
 ghost use Rattle.std.specs.Prelude.{IfSome, IfNone, OnOk, OnErr};
 ghost use Rattle.std.specs.Option.{option_copied};
 ghost use Rattle.index_traits.specs.Types.{Oid as TheOid, Edge as TheEdge, Value as TheValue, LEAVES};
+ghost use Rattle.index_traits.specs.Types.{ValueEntry, Complex};
+ghost use Rattle.index_traits.specs.Entries.{IsProbed, IsFound};
 ghost use Rattle.lore_base.specs.Lists.{Extends, ExtendsBy};
 ghost use Rattle.lore_base.specs.Walks.{out_of, ListsEntering};
 ghost use Rattle.lore_base.specs.Paths.{PathTree, path_tree, leaves};
 ghost use Rattle.lore_base.specs.TargetSets.{ListsInOrder};
 ghost use Rattle.lore_base.specs.Databases.{IsLive, AreAscendingEdges};
 
-use lore_base::{EdgeBuf, Label, NoMemory, Oid, OidBuf, Path, Steps, Value};
+use lore_base::{EdgeBuf, Label, NoMemory, Oid, OidBuf, Op, Path, Steps, Value};
 use std::alloc::Global;
 use std::sync::ledger::Ledger;
 
@@ -91,4 +93,27 @@ pub trait ValueOf {
         ensures none { IfNone result (¬ IsLive (objects self.now) oid) }
         ensures only { (value : TheValue) → Contains (objects self.now) (oid, value)
             → option_copied result ≡ Some value };
+}
+
+/// The atomic values of objects, by the labels of the edges that enter them.
+pub trait Values {
+    /// The entries: a label, the value of an object and that object.
+    ghost entries: { Self → List ValueEntry };
+
+    /// Appends the objects to `buf` that have an entry of the label whose value compares so,
+    /// ascending, each once. The operator is `=`, `<`, `<=`, `>` or `>=`, and the value is atomic.
+    /// Where memory is refused, `buf` holds what was there and perhaps more behind it.
+    fn probe(&self, label: Label, op: Op, value: &Value, buf: &mut OidBuf) -> Result<(), NoMemory>
+        requires op { IsProbed op }
+        requires value { value.now ≢ Complex }
+        ensures objects { OnOk result (ExtendsBy (ListsInOrder
+            (IsFound (entries self.now) label op value.now)) buf.old buf.new) }
+        ensures err { OnErr result (Extends buf.old buf.new) };
+
+    /// How many objects `probe` appends. Takes no memory and lists none.
+    fn probe_count(&self, label: Label, op: Op, value: &Value) -> u32
+        requires op { IsProbed op }
+        requires value { value.now ≢ Complex }
+        ensures { (oids : List TheOid) → ListsInOrder
+            (IsFound (entries self.now) label op value.now) oids → result ≡ length oids };
 }

@@ -1,25 +1,42 @@
 -- Stores, and what a prepared change leads to.
-use Rattle.std.specs.Prelude.{ℕ, List, [], ◌∷◌, ◌++◌}
-use Rattle.lore_store.specs.Types.{Auto, NODES, Refusal}
+use Rattle.std.specs.Prelude.{ℕ, ◌↔◌, List, [], ◌∷◌, ◌++◌, Contains}
+use Rattle.lore_store.specs.Types.{Edge, Auto, NODES, Refusal}
 use Rattle.lore_store.specs.Types.refusals
-use Rattle.lore_base.specs.Databases.{OemGraph, Database}
+use Rattle.lore_base.specs.Databases.{OemGraph, Database, IsValid}
+use Rattle.lore_base.specs.ChangeSets.{IsOnlyIn}
+use Rattle.index_traits.specs.Entries.{AreLinks, AreValueEntries}
+use Rattle.link_index.specs.Links as links
+use Rattle.link_index.specs.Links.{RoomyLinks, PlannedLinks}
+use Rattle.value_index.specs.Values as values
+use Rattle.value_index.specs.Values.{RoomyEntries, PlannedEntries}
+use Rattle.value_changes.specs.EntryChanges.{State, AreEntryChanges}
 use Rattle.oem_graph.specs.Graphs.{RoomyGraph}
 use Rattle.oem_graph.specs.Plans.{PlannedGraph, graph_then, HasRoom}
-use Rattle.oem_labels.specs.Labels.{PlannedLabels}
+use Rattle.oem_labels.specs.Labels.{PlannedLabels, LeadsFrom}
 
 -- the database of these label texts and this graph
 abbrev pub database_of : List (List ℕ) → OemGraph → Database
 database_of labels graph = record { labels = labels; graph = graph; nodes = NODES; mode = Auto }
 
--- a database, and the graph with its room that it is kept in
+-- a database; the graph with its room that it is kept in; and its indexes with theirs
 pub record RoomyDatabase : Type 0 where
   pub db : Database
   pub kept : RoomyGraph
+  pub links : RoomyLinks
+  pub values : RoomyEntries
 
--- what becomes of the graph, and which label texts come
+-- the database is valid, and its indexes hold its link entries and its value entries
+pub record IsStored (db : Database) (link : RoomyLinks) (value : RoomyEntries) : Type 0 where
+  pub valid : IsValid db
+  pub links : AreLinks db.graph.edges link.links
+  pub values : AreValueEntries db.graph.objects db.graph.edges value.entries
+
+-- what becomes of the graph, which label texts come, and which entries go and come
 pub record PlannedDatabase : Type 0 where
   pub graph : PlannedGraph
   pub labels : PlannedLabels
+  pub links : PlannedLinks
+  pub values : PlannedEntries
 
 -- the database that a prepared change leads to
 abbrev pub database_then : Database → PlannedDatabase → Database
@@ -30,9 +47,27 @@ database_then before plan = record {
   mode = before.mode;
 }
 
+-- the objects and edges of a graph
+abbrev pub state_of : OemGraph → State
+state_of graph = record { objects = graph.objects; edges = graph.edges }
+
+-- what goes and comes leads from the entries of the one graph to those of the other
+pub record AreIndexed (before after : OemGraph) (link : PlannedLinks) (value : PlannedEntries) : Type 0 where
+  pub gone : (edge : Edge) → Contains link.gone edge ↔ IsOnlyIn before.edges after.edges edge
+  pub come : (edge : Edge) → Contains link.come edge ↔ IsOnlyIn after.edges before.edges edge
+  pub values : AreEntryChanges (state_of before) (state_of after) value.gone value.come
+
+-- the plan leads from the database to a valid one, in all that is kept of it
+pub record LeadsOn (before : Database) (plan : PlannedDatabase) : Type 0 where
+  pub valid : IsValid (database_then before plan)
+  pub labels : LeadsFrom before.labels plan.labels
+  pub indexes : AreIndexed before.graph (database_then before plan).graph plan.links plan.values
+
 -- the store keeps the room free that the prepared change needs
-abbrev pub HasRoomFor : RoomyDatabase → PlannedDatabase → Type 0
-HasRoomFor store plan = HasRoom store.kept plan.graph
+pub record HasRoomFor (store : RoomyDatabase) (plan : PlannedDatabase) : Type 0 where
+  pub graph : HasRoom store.kept plan.graph
+  pub links : links.HasRoom store.links plan.links
+  pub values : values.HasRoom store.values plan.values
 
 -- the order in which causes of refusals are tried
 abbrev pub order : List Refusal

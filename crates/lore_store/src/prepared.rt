@@ -1,12 +1,16 @@
+use link_index::LinkPlan;
 use oem_graph::GraphPlan;
 use oem_labels::LabelPlan;
 use std::marker::Model;
+use value_index::ValuePlan;
 
 /// What a change leads to, worked out by `Store::prepare` and put in place by `Store::commit`.
 #[derive(Drop)]
 pub struct Prepared {
     pub(crate) graph: GraphPlan,
     pub(crate) labels: LabelPlan,
+    pub(crate) links: LinkPlan,
+    pub(crate) values: ValuePlan,
 }
 
 impl Model for Prepared {
@@ -14,5 +18,10 @@ impl Model for Prepared {
 
     ghost Value = { PlannedDatabase };
 
-    ghost view = { λ p. record { graph = p.graph; labels = p.labels } };
+    ghost view = { λ p. record {
+      graph = p.graph;
+      labels = p.labels;
+      links = p.links;
+      values = p.values;
+    } };
 }

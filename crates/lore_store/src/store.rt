@@ -1,43 +1,53 @@
 ghost use Rattle.std.specs.Prelude.{◌≡◌, IsTrue, IfOk, IfErr, OnOk};
 ghost use Rattle.lore_base.specs.Databases.{IsValid, new_database};
-ghost use Rattle.lore_base.specs.ChangeSets.{FitsGraph, Fits, IsAfter, AreDead};
+ghost use Rattle.lore_base.specs.ChangeSets.{FitsGraph, Fits, IsAfter, IsGraphAfter, AreDead};
 ghost use Rattle.lore_base.specs.ChangeCauses.{ChangeCause};
 ghost use Rattle.lore_base.specs.Verdicts.{IsClear, IsToldBy};
 ghost use Rattle.oem_graph.specs.Plans.{graph_then};
-ghost use Rattle.oem_labels.specs.Labels.{LeadsFrom};
+ghost use Rattle.index_traits.specs.Entries.{AreLinks, AreValueEntries};
 ghost use Rattle.lore_store.specs.Faults.{refusal_of};
-ghost use Rattle.lore_store.specs.Stores.{database_then, HasRoomFor, order};
+ghost use Rattle.lore_store.specs.Stores.{database_then, LeadsOn, HasRoomFor, AreIndexed, order};
 ghost use Rattle.lore_store.specs.inside.Sizes.{SizeCause};
 ghost use Rattle.lore_store.specs.inside.Unlinked.{LinkNothing};
 
 use crate::faults::StoreFault;
 use crate::prepared::Prepared;
+use link_index::{LinkIndex, LinkPlan};
 use lore_base::limits::{EDGES, NAMES, OBJECTS};
 use lore_base::{Changes, NoMemory, OidBuf, Steps};
-use oem_graph::{Graph, GraphPlan};
+use oem_graph::{EdgeChanges, Graph, GraphPlan};
 use oem_labels::LabelTable;
 use oem_reach::dead_objects;
 use std::alloc::Global;
 use std::marker::Model;
 use std::sync::ledger::Ledger;
+use value_changes::{EntryChanges, GraphChanges, entry_changes};
+use value_index::{ValueIndex, ValuePlan};
 
-/// One valid database, seen by contracts as that database and the graph with the room that it is
-/// kept in.
+/// One valid database: its graph, its table of labels, and the indexes of its links and values,
+/// which are those that would be built from its edges and objects. Contracts see it as that database
+/// and what it is kept in, with the room of each part.
 #[derive(Drop)]
 pub struct Store {
     graph: Graph,
     labels: LabelTable,
+    links: LinkIndex,
+    values: ValueIndex,
 }
 
 impl Model for Store {
-    ghost use Rattle.lore_base.specs.Databases.{IsValid};
-    ghost use Rattle.lore_store.specs.Stores.{RoomyDatabase, database_of};
+    ghost use Rattle.lore_store.specs.Stores.{RoomyDatabase, IsStored, database_of};
 
     ghost Value = { RoomyDatabase };
 
-    ghost view = { λ s. record { db = database_of s.labels s.graph.graph; kept = s.graph } };
+    ghost view = { λ s. record {
+      db = database_of s.labels s.graph.graph;
+      kept = s.graph;
+      links = s.links;
+      values = s.values;
+    } };
 
-    ghost invariant = { λ s. IsValid (database_of s.labels s.graph.graph) };
+    ghost invariant = { λ s. IsStored (database_of s.labels s.graph.graph) s.links s.values };
 }
 
 impl Store {
@@ -48,6 +58,8 @@ impl Store {
         Store {
             graph: Graph::new(alloc),
             labels: LabelTable::new(alloc),
+            links: LinkIndex::new(alloc),
+            values: ValueIndex::new(alloc),
         }
     }
 
@@ -66,6 +78,21 @@ impl Store {
         &self.labels
     }
 
+    /// The index of its edges by their children.
+    pub fn links(&self) -> &LinkIndex
+        ensures { AreLinks self.now.db.graph.edges result.now.links }
+    {
+        &self.links
+    }
+
+    /// The index of its atomic values by the labels of the edges that enter their objects.
+    pub fn values(&self) -> &ValueIndex
+        ensures { AreValueEntries self.now.db.graph.objects self.now.db.graph.edges
+            result.now.entries }
+    {
+        &self.values
+    }
+
     /// Works out what these changes, which fit the database, lead to: what no name walks to then
     /// vanishes. The database stays as it is. Refused are, in this order, more names, objects and
     /// edges than a database holds (`TooManyNames`, `TooManyObjects`, `TooManyEdges`).
@@ -77,8 +104,7 @@ impl Store {
     ) -> Result<Prepared, StoreFault>
         requires fits { Fits self.now.db changes.now }
         ensures after { IfOk result (λ plan. IsAfter self.now.db changes.now (database_then self.now.db plan)) }
-        ensures valid { IfOk result (λ plan. IsValid (database_then self.now.db plan)) }
-        ensures labels { IfOk result (λ plan. LeadsFrom self.now.db.labels plan.labels) }
+        ensures leads { IfOk result (λ plan. LeadsOn self.now.db plan) }
         ensures ok { let cause = ChangeCause self.now.db.labels self.now.db.graph changes.now in
             OnOk result (IsClear cause order) }
         ensures err { let cause = ChangeCause self.now.db.labels self.now.db.graph changes.now in
@@ -88,7 +114,13 @@ impl Store {
         let graph = self.graph.prepare(changes, &dead)?;
         self.check_sizes(&graph)?;
         let labels = self.labels.plan_new(&changes.labels)?;
-        Ok(Prepared { graph, labels })
+        let (links, values) = self.indexes_then(alloc, changes, &graph, steps)?;
+        Ok(Prepared {
+            graph,
+            labels,
+            links,
+            values,
+        })
     }
 
     /// Takes the memory that `commit` needs for this plan. The database stays equal, whatever the
@@ -97,19 +129,27 @@ impl Store {
         ensures room { OnOk result (HasRoomFor self.new prepared.now) }
         ensures same { self.new.db ≡ self.old.db }
     {
-        self.graph.reserve(&prepared.graph)
+        self.graph.reserve(&prepared.graph)?;
+        self.links.reserve(&prepared.links)?;
+        self.values.reserve(&prepared.values)
     }
 
     /// Puts in place what was prepared. Takes no memory.
     pub fn commit(&mut self, prepared: Prepared)
-        requires valid { IsValid (database_then self.old.db prepared) }
-        requires labels { LeadsFrom self.old.db.labels prepared.labels }
+        requires leads { LeadsOn self.old.db prepared }
         requires room { HasRoomFor self.old prepared }
         ensures { self.new.db ≡ database_then self.old.db prepared }
     {
-        let Prepared { graph, labels } = prepared;
+        let Prepared {
+            graph,
+            labels,
+            links,
+            values,
+        } = prepared;
         self.graph.commit(graph);
         self.labels.commit_new(labels);
+        self.links.commit(links);
+        self.values.commit(values);
     }
 
     // The objects that no name walks to once the changes are made. Where they link nothing anew
@@ -130,6 +170,35 @@ impl Store {
         let overlay = self.graph.overlay(changes)?;
         let (lost, fresh) = (overlay.lost(), overlay.fresh());
         dead_objects(alloc, names, &overlay, lost, fresh, changes, steps)
+    }
+
+    // Which entries of the indexes go and come where the graph becomes that of the plan.
+    fn indexes_then<L: Ledger>(
+        &self,
+        alloc: Global,
+        changes: &Changes,
+        plan: &GraphPlan,
+        steps: &mut Steps<L>,
+    ) -> Result<(LinkPlan, ValuePlan), NoMemory>
+        requires fits { FitsGraph self.now.db.graph changes.now }
+        requires after { IsGraphAfter self.now.db.graph changes.now
+            (graph_then self.now.db.graph plan.now) }
+        requires sized { IsClear (SizeCause (graph_then self.now.db.graph plan.now)) order }
+        ensures { IfOk result (λ plans. AreIndexed self.now.db.graph
+            (graph_then self.now.db.graph plan.now) plans.0 plans.1) }
+    {
+        let EdgeChanges { lost, fresh } = self.graph.edge_changes(plan)?;
+        let links = self.links.prepare(&lost, &fresh)?;
+        let then = self.graph.values_then(plan);
+        let changes = GraphChanges {
+            lost: lost.as_slice(),
+            fresh: fresh.as_slice(),
+            given: changes.values.as_slice(),
+        };
+        let entries = entry_changes(alloc, &self.links, &self.graph, &then, changes, steps)?;
+        let EntryChanges { gone, come } = entries;
+        let values = self.values.prepare(&gone, &come)?;
+        Ok((links, values))
     }
 
     // Refuses a plan after which the database would hold too much.

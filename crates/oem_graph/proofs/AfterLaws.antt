@@ -1,23 +1,21 @@
 -- What a graph becomes with changes, from the lists of what is left.
-use Rattle.std.proofs.Common.{◌≡◌, ℕ, ◌+◌, ◌-◌, ◌<◌, ◌≤◌, ◌↔◌, ◌⊎◌, inl, inr, List, [], ◌∷◌, ◌++◌, length, get_or}
-use Rattle.std.proofs.Common.{All, AllPairs, Contains, refl, sym, ap, ◌∙◌, subst, Less, arith}
+use Rattle.std.proofs.Common.{◌≡◌, ℕ, ◌+◌, ◌<◌, ◌≤◌, ◌↔◌, inl, inr, List, [], ◌++◌, length, get_or}
+use Rattle.std.proofs.Common.{All, Contains, sym, ap, ◌∙◌, subst, Less, arith}
 use Rattle.std.proofs.lemmas.List.Elements.{Contains-get_or, Contains-append_cases, Contains-append_left}
 use Rattle.std.proofs.lemmas.List.Elements.{Contains-append_right}
 use Rattle.std.proofs.lemmas.List.Kept.{AllPairs-filter}
-use Rattle.std.specs.List.{filter}
 use Rattle.lore_base.proofs.ListLaws.{AllPairs-append}
-use Rattle.lore_base.proofs.MemberLaws.{Contains-none}
 use Rattle.lore_base.specs.Names.{IsNameTable}
 use Rattle.lore_base.specs.Walks.{edge_cmp}
-use Rattle.lore_base.specs.Databases.{OemGraph, IsWellFormed, IsLinked, IsLive, AreAscendingObjects, AreAscendingEdges}
+use Rattle.lore_base.specs.Databases.{OemGraph, IsWellFormed, IsLinked, IsLive, AreAscendingObjects}
 use Rattle.lore_base.specs.ChangeSets.{NamesThen, ObjectsThen, EdgesThen, IsLiveThen, IsComplexThen, IsAtHand}
-use Rattle.lore_base.specs.ChangeSets.{IsReachedThen, AreEdgesThen, AreNumberedFrom, FitsGraph, IsGraphAfter}
+use Rattle.lore_base.specs.ChangeSets.{IsReachedThen, AreEdgesThen, FitsGraph, IsGraphAfter}
 use Rattle.lore_base.specs.ChangeSets.{AreDead}
 use Rattle.oem_graph.specs.Types.{Oid, Edge, Value, Complex, Changes}
 use Rattle.oem_graph.specs.Plans.{PlannedGraph, list_then, graph_then}
 use Rattle.oem_graph.specs.inside.EdgeTests.{AreFresh, AreLost}
 use Rattle.oem_graph.specs.inside.Layers.{layered}
-use Rattle.oem_graph.specs.inside.Left.{is_among, AreOrdered, ListsObjectsLeft, value_then, with_value}
+use Rattle.oem_graph.specs.inside.Left.{AreOrdered, ListsObjectsLeft, with_value}
 use Rattle.oem_graph.specs.inside.Left.{objects_left, edges_left}
 use Rattle.oem_graph.proofs.OverlayLaws.{edges-layered}
 use Rattle.oem_graph.proofs.LayerLaws.{same-edges}

@@ -1,14 +1,14 @@
 -- Ascending edges: their order, and lists of which one comes behind the other.
-use Rattle.std.proofs.Common.{◌≡◌, ℕ, ◌+◌, ◌-◌, ◌<◌, ◌↔◌, true, Less, Equal, List, ◌++◌, length, get_or, Contains, Some, zero, suc, refl, ap, ◌∙◌, ◌⊎◌, inl, inr, arith, length-append}
+use Rattle.std.proofs.Common.{◌≡◌, ℕ, ◌+◌, ◌-◌, ◌<◌, true, Less, Equal, List, ◌++◌, length, get_or, Some, zero, suc, refl, ap, ◌∙◌, inl, inr, arith, length-append}
 use Rattle.std.specs.Cmp.{IsTotalOrder}
 use Rattle.std.specs.List.{slice_get}
 use Rattle.std.proofs.lemmas.Bool.{cases_lt}
 use Rattle.std.proofs.lemmas.Bool.Decides.{nat_tests}
 use Rattle.std.proofs.lemmas.Cmp.{nat_cmp_total, on_total, then_total}
 use Rattle.std.proofs.lemmas.List.{get_or_append_left, get_or-append_right}
-use Rattle.std.proofs.lemmas.List.Elements.{Contains-append_cases, Contains-append_left, Contains-append_right}
 use Rattle.std.proofs.lemmas.Option.{get_or_from_slice_get}
 use Rattle.lore_base.proofs.ListLaws.{AllPairs-append}
+use Rattle.oem_graph.proofs.PartLaws.{AllPairs-front, AllPairs-back}
 use Rattle.oem_graph.specs.Types.{Edge}
 use Rattle.oem_graph.specs.inside.EdgeTests.{edge_eq}
 use Rattle.lore_base.specs.Walks.{edge_cmp}
@@ -29,17 +29,10 @@ equal_edges a b h = edge_same a b (grind (arith, nat_tests))
 
 -- the parts of ascending edges ascend, and each edge of the first is below each of the second
 pub ascend-front : (xs ys : List Edge) → AreAscendingEdges (xs ++ ys) → AreAscendingEdges xs
-ascend-front xs ys ascend i j d lt len =
-    rw (← get_or_append_left xs ys d i (omega arith), ← get_or_append_left xs ys d j len) (ascend i j d lt (omega (arith, length-append xs ys)))
+ascend-front xs ys ascend = AllPairs-front (λ a b. edge_cmp a b ≡ Less) xs ys ascend
 
 pub ascend-back : (xs ys : List Edge) → AreAscendingEdges (xs ++ ys) → AreAscendingEdges ys
-ascend-back xs ys ascend i j d lt len =
-    let i_at = get_or-append_right xs ys (length xs) (length xs + i) d refl (omega arith) in
-    let j_at = get_or-append_right xs ys (length xs) (length xs + j) d refl (omega arith) in
-    let both = ascend (length xs + i) (length xs + j) d (omega arith) (omega (arith, length-append xs ys)) in
-    let i_is : length xs + i - length xs ≡ i = omega arith in
-    let j_is : length xs + j - length xs ≡ j = omega arith in
-    rw (i_at, j_at, i_is, j_is) at both
+ascend-back xs ys ascend = AllPairs-back (λ a b. edge_cmp a b ≡ Less) xs ys ascend
 
 pub ascend-across : (xs ys : List Edge) → AreAscendingEdges (xs ++ ys) → (i j : ℕ) (d : Edge) → i < length xs → j < length ys → edge_cmp (get_or xs i d) (get_or ys j d) ≡ Less
 ascend-across xs ys ascend i j d lt_i lt_j =

@@ -1,11 +1,9 @@
 -- Edges in layers ascend, and which edges they are; the run of an object among them.
-use Rattle.std.proofs.Common.{◌≡◌, ℕ, ◌+◌, ◌<◌, ◌≤◌, ◌↔◌, ◌⊎◌, Bool, true, false, not, ◌==◌, inl, inr, Less, Equal}
-use Rattle.std.proofs.Common.{Greater, List, [], ◌∷◌, ◌++◌, length, get_or, AllPairs, Contains, refl, sym, ap, ◌∙◌}
+use Rattle.std.proofs.Common.{◌≡◌, ℕ, ◌≤◌, ◌↔◌, ◌⊎◌, Bool, true, false, not, ◌==◌, inl, inr, Less, Equal}
+use Rattle.std.proofs.Common.{Greater, List, [], ◌∷◌, length, get_or, Contains, refl, sym, ap, ◌∙◌}
 use Rattle.std.proofs.Common.{subst, arith}
-use Rattle.std.specs.declared.cmp.Ordering.{Ordering}
 use Rattle.std.specs.Ordering.{match_ordering, ordering_reverse}
 use Rattle.std.specs.BTreeSet.{insert_key}
-use Rattle.std.specs.List.{filter}
 use Rattle.std.proofs.lemmas.Bool.{true≢false}
 use Rattle.std.proofs.lemmas.Bool.Decides.{nat_tests}
 use Rattle.std.proofs.lemmas.List.{nil_from_length}
@@ -23,7 +21,7 @@ use Rattle.oem_graph.specs.inside.Strands.{AreJoined}
 use Rattle.oem_graph.specs.inside.Layers.{staying, with_edges, layered}
 use Rattle.oem_graph.proofs.EdgeLaws.{edge_cmp_total, equal_edges}
 use Rattle.oem_graph.proofs.StrandLaws.{ascend-one}
-use Rattle.oem_graph.proofs.SearchLaws.{listed, unlisted, not_listed}
+use Rattle.oem_graph.proofs.SearchLaws.{listed, not_listed}
 
 -- an edge before ascending ones that are all above it
 ascend-cons : (edge : Edge) (edges : List Edge)

@@ -1,8 +1,10 @@
+pub mod PartLaws
 pub mod ObjectLaws
 pub mod EdgeLaws
 pub mod StrandLaws
 pub mod SearchLaws
 pub mod LayerLaws
+pub mod ChangeLaws
 pub mod LinkLaws
 pub mod DeadLaws
 pub mod LeftLaws

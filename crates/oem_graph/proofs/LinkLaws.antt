@@ -1,5 +1,5 @@
 -- The edges that enter an object, among edges in layers.
-use Rattle.std.proofs.Common.{◌≡◌, ℕ, ◌↔◌, ◌⊎◌, ◌==◌, inl, inr, List, Contains, ap, subst, Less}
+use Rattle.std.proofs.Common.{◌≡◌, ℕ, ◌↔◌, ◌==◌, inl, inr, List, Contains, ap, subst, Less}
 use Rattle.std.specs.Prelude.{Option}
 use Rattle.lore_base.proofs.MemberLaws.{Contains-filter, unfiltered}
 use Rattle.std.proofs.lemmas.List.Kept.{AllPairs-filter}

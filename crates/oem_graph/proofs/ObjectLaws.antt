@@ -1,14 +1,14 @@
 -- Ascending objects: how many there are, which value an object has, and what made objects behind them keep.
 use Rattle.std.proofs.Common.{◌≡◌, ℕ, ◌+◌, ◌<◌, ◌≤◌, List, [], ◌∷◌, ◌++◌, length, get_or, All, Contains, zero, suc, sym, ap, ◌∙◌, inl, inr, arith}
-use Rattle.std.proofs.Common.{Err, true, eqb, nat_cmp, Less, Equal, Greater}
+use Rattle.std.proofs.Common.{Option, Some, None, Err, true, eqb, nat_cmp, Less, Equal, Greater}
 use Rattle.std.specs.List.Sorted.{IsBinarySearchResult, IsNonDecreasingBy}
+use Rattle.std.specs.Option.{IfNone}
 use Rattle.std.specs.Ordering.{ordering_index}
 use Rattle.std.proofs.lemmas.Bool.{cases_lt}
 use Rattle.std.proofs.lemmas.Bool.Decides.{nat_tests}
 use Rattle.std.proofs.lemmas.Cmp.{ranked}
 use Rattle.std.proofs.lemmas.List.{get_or_default}
-use Rattle.std.proofs.lemmas.List.Elements.{All-append}
-use Rattle.lore_base.proofs.ListLaws.{AllPairs-append}
+use Rattle.std.proofs.lemmas.List.Elements.{Contains-append_cases}
 use Rattle.oem_graph.specs.Types.{Oid, Value}
 use Rattle.lore_base.specs.Databases.{AreAscendingObjects, IsLive}
 use Rattle.lore_base.specs.ChangeSets.{AreNumberedFrom}
@@ -85,3 +85,12 @@ pub number_at : (next : ℕ) (made : List (Oid × Value)) → AreNumberedFrom ne
 number_at next [] h d k lt = absurd (omega arith)
 number_at next (o ∷ made) h d zero lt = omega (arith, h.0)
 number_at next (o ∷ made) h d (suc k) lt = omega (arith, number_at (next + 1) made h.1 d k (omega arith))
+
+-- an object that isn't live in the second part, nor in the first where it isn't found there, isn't live in the whole
+pub none-parts : {X : Type 0} (found : Option X) (kept more : List (Oid × Value)) (oid : Oid)
+    → IfNone found (IsLive kept oid → ⊥) → (IsLive more oid → ⊥) → IfNone found (IsLive (kept ++ more) oid → ⊥)
+none-parts None kept more oid early late = λ live. elim (Contains-append_cases kept more (oid, live.0) live.1) [
+  | inl at ↦ early (live.0, at)
+  | inr at ↦ late (live.0, at)
+]
+none-parts (Some x) kept more oid early late = tt

@@ -43,7 +43,7 @@ comparisons_rise edges ascend x i j d le lt = elim (cases_lt i j) [
   | inr ge ↦ let same : i ≡ j = omega arith in omega (arith, ap (λ k. ordering_index (edge_cmp (get_or edges k d) x)) same)
 ]
 
-cmp_self : (a : Edge) → edge_cmp a a ≡ Equal
+pub cmp_self : (a : Edge) → edge_cmp a a ≡ Equal
 cmp_self a = grind (arith, nat_tests)
 
 -- what stands at a place and compares equal is the edge
@@ -103,7 +103,7 @@ fresh-sorted kept added sorted fresh all is = record {
 }
 
 -- what comes behind the edges that are kept is not among them
-apart : (kept more : List Edge) → AreAscendingEdges (kept ++ more) → (edge : Edge) → Contains more edge → Contains kept edge → ⊥
+pub apart : (kept more : List Edge) → AreAscendingEdges (kept ++ more) → (edge : Edge) → Contains more edge → Contains kept edge → ⊥
 apart kept more ascend edge at there =
     let less = rw (there.2, at.2) at (ascend-across kept more ascend there.0 at.0 edge there.1 at.1) in
     let none : Less ≡ Equal = sym less ∙ cmp_self edge in

@@ -1,7 +1,8 @@
 -- Plans of changes: what becomes of a graph's lists, and which graph a plan leads to.
-use Rattle.std.specs.Prelude.{◌≡◌, ℕ, ◌≤◌, List, ◌++◌, length}
+use Rattle.std.specs.Prelude.{ℕ, ◌≤◌, ◌↔◌, List, ◌++◌, length, Contains}
 use Rattle.oem_graph.specs.Types.{Oid, Edge, Value}
-use Rattle.lore_base.specs.Databases.{OemGraph}
+use Rattle.lore_base.specs.Databases.{OemGraph, AreAscendingEdges}
+use Rattle.lore_base.specs.ChangeSets.{IsOnlyIn}
 use Rattle.oem_graph.specs.Graphs.{RoomyGraph}
 
 -- what becomes of a list: more items come behind it, or a whole list stands in its place
@@ -39,3 +40,10 @@ graph_then before plan = record {
 pub record HasRoom (kept : RoomyGraph) (plan : PlannedGraph) : Type 0 where
   pub objects : count_behind plan.objects ≤ kept.object_room
   pub edges : count_behind plan.edges ≤ kept.edge_room
+
+-- the edges that are lost in the second list, and those that are fresh in it, each in ascending order
+pub record AreEdgeChanges (edges then lost fresh : List Edge) : Type 0 where
+  pub lost_ascend : AreAscendingEdges lost
+  pub lost_exact : (edge : Edge) → Contains lost edge ↔ IsOnlyIn edges then edge
+  pub fresh_ascend : AreAscendingEdges fresh
+  pub fresh_exact : (edge : Edge) → Contains fresh edge ↔ IsOnlyIn then edges edge

@@ -6,11 +6,14 @@
 //! comes, `reserve` takes the memory for it, and `commit` puts it in place and cannot fail.
 #![tactic(auto)]
 
+pub use edge_changes::EdgeChanges;
 pub use edge_overlay::Overlay;
 pub use graph_plan::GraphPlan;
 pub use sorted_graph::Graph;
+pub use values_then::ValuesThen;
 
 mod dead_oids;
+mod edge_changes;
 mod edge_overlay;
 mod edge_runs;
 mod edge_sets;
@@ -21,3 +24,4 @@ mod object_lists;
 mod objects_then;
 mod planned_items;
 mod sorted_graph;
+mod values_then;

@@ -1,4 +1,4 @@
-ghost use Rattle.std.specs.Prelude.{◌≡◌, Contains, IfSome, IfNone, IfOk};
+ghost use Rattle.std.specs.Prelude.{◌≡◌, ◌++◌, Contains, IfSome, IfNone, IfOk};
 ghost use Rattle.std.specs.Option.{option_copied};
 ghost use Rattle.oem_graph.specs.Types.{Value as TheValue};
 ghost use Rattle.lore_base.specs.Databases.{AreAscendingObjects, IsLive};
@@ -35,6 +35,25 @@ pub(crate) fn value_in(objects: &[(Oid, Value)], oid: Oid) -> Option<&Value>
     match objects.binary_search_by_key(&oid, |object| object.0) {
         Ok(place) => Some(&objects[place].1),
         Err(_) => None,
+    }
+}
+
+// The value of the object among ascending objects, of which `more` come behind `kept`; None
+// exactly where it isn't there. It is looked for among the later ones first.
+pub(crate) fn value_in_parts<'a>(
+    kept: &'a [(Oid, Value)],
+    more: &'a [(Oid, Value)],
+    oid: Oid,
+) -> Option<&'a Value>
+    requires { AreAscendingObjects (kept.now ++ more.now) }
+    ensures found { IfSome result (λ value. Contains (kept.now ++ more.now) (oid, value.now)) }
+    ensures none { IfNone result (¬ IsLive (kept.now ++ more.now) oid) }
+    ensures only { (value : TheValue) → Contains (kept.now ++ more.now) (oid, value)
+        → option_copied result ≡ Some value }
+{
+    match value_in(more, oid) {
+        Some(value) => Some(value),
+        None => value_in(kept, oid),
     }
 }
 

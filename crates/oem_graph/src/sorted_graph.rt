@@ -1,10 +1,13 @@
 ghost use Rattle.std.specs.Prelude.{◌≡◌, ◌↔◌, length, IsTrue, IfOk, OnOk};
 ghost use Rattle.lore_base.specs.Names.{object_of};
-ghost use Rattle.lore_base.specs.Databases.{IsWellFormed, new_graph};
-ghost use Rattle.lore_base.specs.ChangeSets.{HasChildren, FitsGraph, IsOverlay, IsGraphAfter, AreDead};
+ghost use Rattle.lore_base.specs.Databases.{IsWellFormed, AreAscendingObjects, AreAscendingEdges};
+ghost use Rattle.lore_base.specs.Databases.{new_graph};
+ghost use Rattle.lore_base.specs.ChangeSets.{HasChildren, FitsGraph, IsOverlay, IsGraphAfter};
+ghost use Rattle.lore_base.specs.ChangeSets.{AreDead};
 ghost use Rattle.oem_graph.specs.Graphs.{IsIndexable};
-ghost use Rattle.oem_graph.specs.Plans.{graph_then, HasRoom};
+ghost use Rattle.oem_graph.specs.Plans.{graph_then, HasRoom, AreEdgeChanges};
 
+use crate::edge_changes::{EdgeChanges, planned_changes};
 use crate::edge_overlay::Overlay;
 use crate::edge_runs::run_of;
 use crate::edge_sets::{fresh_edges, lost_edges};
@@ -13,6 +16,7 @@ use crate::graph_plan::GraphPlan;
 use crate::object_lists::value_in;
 use crate::objects_then::planned_objects;
 use crate::planned_items::{count_then, make_room, put_in_place};
+use crate::values_then::ValuesThen;
 use index_traits::{Adjacent, ValueOf};
 use lore_base::{
     Changes, Edge, EdgeBuf, Names, NoMemory, OemText, Oid, OidBuf, RoomyList, Steps, Value,
@@ -165,6 +169,27 @@ impl Graph {
         ensures { result ≡ length (graph_then self.now.graph plan.now).edges }
     {
         count_then(&self.edges, &plan.edges)
+    }
+
+    /// The edges that the plan takes away and those that it brings, each in ascending order. No
+    /// step is counted.
+    pub fn edge_changes(&self, plan: &GraphPlan) -> Result<EdgeChanges, NoMemory>
+        requires { AreAscendingEdges (graph_then self.now.graph plan.now).edges }
+        ensures { IfOk result (λ changes. AreEdgeChanges self.now.graph.edges
+            (graph_then self.now.graph plan.now).edges changes.lost changes.fresh) }
+    {
+        planned_changes(self.edges.allocator(), self.edges.as_slice(), &plan.edges)
+    }
+
+    /// The values of the objects that the plan leads to.
+    pub fn values_then<'a>(&'a self, plan: &'a GraphPlan) -> ValuesThen<'a>
+        requires { AreAscendingObjects (graph_then self.now.graph plan.now).objects }
+        ensures { result ≡ (graph_then self.now.graph plan.now).objects }
+    {
+        ValuesThen {
+            kept: self.objects.as_slice(),
+            plan: &plan.objects,
+        }
     }
 
     /// Takes the memory that `commit` needs for this plan. The graph stays equal, whatever the

@@ -1,5 +1,5 @@
 use Rattle.oem_graph.proofs.LayerLaws.{none_there}
-use Rattle.oem_graph.proofs.PlanLaws.{objects-behind, objects-whole}
+use Rattle.oem_graph.proofs.PlanLaws.{objects-behind}
 use Rattle.oem_graph.proofs.objects_then.planned_objects.Goals as goal
 
 pub returns-then-is_empty-2 : goal.returns-then-is_empty-2

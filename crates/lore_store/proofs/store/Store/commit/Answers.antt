@@ -1,7 +1,9 @@
 use Rattle.std.proofs.Common.{◌≡◌, ℕ, List, ◌++◌, length, sym, ap, subst, ◌∙◌, arith}
-use Rattle.lore_base.specs.Databases.{OemGraph, Database, IsOrdered, IsValid}
+use Rattle.lore_base.specs.Databases.{OemGraph, Database, IsOrdered}
+use Rattle.oem_changes.proofs.ValidLaws.{rooted_graph}
 use Rattle.oem_graph.specs.Plans.{graph_then}
-use Rattle.lore_store.specs.Stores.{RoomyDatabase, PlannedDatabase, database_of, database_then}
+use Rattle.lore_store.specs.Stores.{RoomyDatabase, PlannedDatabase, LeadsOn, IsStored, database_of, database_then}
+use Rattle.lore_store.proofs.IndexLaws.{gone_kept, come_new, fits_entries, stored_then}
 use Rattle.lore_store.proofs.store.Store.commit.Goals as goal
 
 pub commit-requires-clause-leads : goal.commit-requires-clause-leads
@@ -11,16 +13,58 @@ commit-requires-clause-leads c =
     let same = first ∙ second in
     let edges = ap (λ (g : OemGraph). length g.edges) same in
     record {
-      ordered = subst (λ (g : OemGraph). IsOrdered g) (sym same) c.requires.valid.well_formed.ordered;
-      few_edges = omega (arith, edges, c.requires.valid.few_edges);
+      ordered = subst (λ (g : OemGraph). IsOrdered g) (sym same) c.requires.leads.valid.well_formed.ordered;
+      few_edges = omega (arith, edges, c.requires.leads.valid.few_edges);
     }
+
+pub commit-requires-2-clause-kept : goal.commit-requires-2-clause-kept
+commit-requires-2-clause-kept c =
+    let graph = c.self.inside.graph.graph in
+    let plan : PlannedDatabase = record {
+      graph = c.prepared.inside.graph;
+      labels = c.prepared.inside.labels;
+      links = c.prepared.inside.links;
+      values = c.prepared.inside.values;
+    } in
+    let leads = subst (λ (s : RoomyDatabase). LeadsOn s.db plan) (sym c.self.view_is) (subst (λ (p : PlannedDatabase). LeadsOn c.args.self.now.db p) (sym c.prepared.view_is) c.requires.leads) in
+    gone_kept graph.edges (graph_then graph c.prepared.inside.graph).edges c.self.inside.links.links c.prepared.inside.links.gone c.self.invariant.links leads.indexes.gone
+
+pub commit-requires-2-clause-new : goal.commit-requires-2-clause-new
+commit-requires-2-clause-new c =
+    let graph = c.self.inside.graph.graph in
+    let plan : PlannedDatabase = record {
+      graph = c.prepared.inside.graph;
+      labels = c.prepared.inside.labels;
+      links = c.prepared.inside.links;
+      values = c.prepared.inside.values;
+    } in
+    let leads = subst (λ (s : RoomyDatabase). LeadsOn s.db plan) (sym c.self.view_is) (subst (λ (p : PlannedDatabase). LeadsOn c.args.self.now.db p) (sym c.prepared.view_is) c.requires.leads) in
+    come_new graph.edges (graph_then graph c.prepared.inside.graph).edges c.self.inside.links.links c.prepared.inside.links.come c.self.invariant.links leads.indexes.come
+
+pub commit-requires-3-clause-fits : goal.commit-requires-3-clause-fits
+commit-requires-3-clause-fits c =
+    let db = database_of c.self.inside.labels c.self.inside.graph.graph in
+    let plan : PlannedDatabase = record {
+      graph = c.prepared.inside.graph;
+      labels = c.prepared.inside.labels;
+      links = c.prepared.inside.links;
+      values = c.prepared.inside.values;
+    } in
+    let leads : LeadsOn db plan = subst (λ (s : RoomyDatabase). LeadsOn s.db plan) (sym c.self.view_is) (subst (λ (p : PlannedDatabase). LeadsOn c.args.self.now.db p) (sym c.prepared.view_is) c.requires.leads) in
+    fits_entries db.graph (database_then db plan).graph (rooted_graph (database_then db plan) leads.valid) leads.valid.few_edges
+    c.self.inside.values.entries plan.values.gone plan.values.come c.self.invariant.values leads.indexes.values
 
 pub invariant_of-self : goal.invariant_of-self
 invariant_of-self c =
-    let before : database_then (database_of c.self.inside.labels c.self.inside.graph.graph) (record { graph = c.prepared.inside.graph; labels = c.prepared.inside.labels })
-    ≡ database_then c.args.self.now.db c.args.prepared =
-    ap (λ (s : RoomyDatabase). database_then s.db (record { graph = c.prepared.inside.graph; labels = c.prepared.inside.labels })) c.self.view_is
-    ∙ ap (λ (p : PlannedDatabase). database_then c.args.self.now.db p) c.prepared.view_is in
-    let valid = subst (λ (d : Database). IsValid d) (sym before) c.requires.valid in
-    subst (λ (l : List (List ℕ)). IsValid (database_of l c.commit.new.self.graph)) (sym c.commit_new.ensures)
-    (subst (λ (g : OemGraph). IsValid (database_of (c.self.inside.labels ++ c.prepared.inside.labels.come) g)) (sym c.commit.ensures) valid)
+    let db = database_of c.self.inside.labels c.self.inside.graph.graph in
+    let plan : PlannedDatabase = record {
+      graph = c.prepared.inside.graph;
+      labels = c.prepared.inside.labels;
+      links = c.prepared.inside.links;
+      values = c.prepared.inside.values;
+    } in
+    let leads : LeadsOn db plan = subst (λ (s : RoomyDatabase). LeadsOn s.db plan) (sym c.self.view_is) (subst (λ (p : PlannedDatabase). LeadsOn c.args.self.now.db p) (sym c.prepared.view_is) c.requires.leads) in
+    let stored = stored_then db plan c.self.inside.links c.commit-2.new.self c.self.inside.values c.commit-3.new.self c.self.invariant leads
+    c.commit-2.ensures.ascend c.commit-2.ensures.links c.commit-3.ensures.ascend c.commit-3.ensures.entries in
+    subst (λ (l : List (List ℕ)). IsStored (database_of l c.commit.new.self.graph) c.commit-2.new.self c.commit-3.new.self) (sym c.commit_new.ensures)
+    (subst (λ (g : OemGraph). IsStored (database_of (c.self.inside.labels ++ c.prepared.inside.labels.come) g) c.commit-2.new.self c.commit-3.new.self) (sym c.commit.ensures) stored)

@@ -2,7 +2,7 @@ use Rattle.std.proofs.Common.{◌≡◌, List, sym, ap, subst, ◌∙◌}
 use Rattle.std.proofs.lemmas.Result.{err_from_is_err_and}
 use Rattle.lore_base.specs.Databases.{IsValid}
 use Rattle.lore_base.specs.ChangeSets.{Fits, IsGraphAfter}
-use Rattle.oem_labels.specs.Labels.{first_uses}
+use Rattle.oem_labels.specs.Labels.{first_uses, LeadsFrom}
 use Rattle.oem_graph.specs.Plans.{graph_then}
 use Rattle.lore_store.specs.Faults.{refusal_of}
 use Rattle.lore_store.specs.Stores.{RoomyDatabase, PlannedDatabase, database_of}
@@ -14,7 +14,7 @@ pub plan_new-requires : goal.plan_new-requires
 plan_new-requires g c =
     let changes = c.args.changes.now in
     let fits = subst (λ (store : RoomyDatabase). Fits store.db changes) (sym c.self.view_is) c.requires.fits in
-    record { few = labels_fit (database_of c.self.inside.labels c.self.inside.graph.graph) changes c.self.invariant fits }
+    record { few = labels_fit (database_of c.self.inside.labels c.self.inside.graph.graph) changes c.self.invariant.valid fits }
 
 pub returns-in_err-check_sizes-clause-err : goal.returns-in_err-check_sizes-clause-err
 returns-in_err-check_sizes-clause-err g c =
@@ -29,20 +29,24 @@ returns-in_err-check_sizes-clause-err g c =
 pub returns-clause-after : goal.returns-clause-after
 returns-clause-after g c =
     let changes = c.args.changes.now in
-    let plan : PlannedDatabase = record { graph = c.in_ok-graph.graph; labels = c.in_ok-labels.labels } in
-    let valid = subst (λ (store : RoomyDatabase). IsValid store.db) c.self.view_is c.self.invariant in
+    let plan : PlannedDatabase = record { graph = c.in_ok-graph.graph; labels = c.in_ok-labels.labels; links = c.in_ok-links.links; values = c.in_ok-links.values } in
+    let valid = subst (λ (store : RoomyDatabase). IsValid store.db) c.self.view_is c.self.invariant.valid in
     let after = subst (λ (store : RoomyDatabase). IsGraphAfter store.db.graph changes (graph_then store.db.graph plan.graph)) c.self.view_is c.in_ok-graph.ensures.after in
     let labels = c.in_ok-labels.ensures.come ∙ ap (λ (store : RoomyDatabase). first_uses store.db.labels changes.labels) c.self.view_is in
     leads_after c.args.self.now.db changes valid c.requires.fits plan labels after
 
-pub returns-clause-valid : goal.returns-clause-valid
-returns-clause-valid g c =
+pub returns-clause-leads : goal.returns-clause-leads
+returns-clause-leads g c =
     let changes = c.args.changes.now in
-    let plan : PlannedDatabase = record { graph = c.in_ok-graph.graph; labels = c.in_ok-labels.labels } in
-    let valid = subst (λ (store : RoomyDatabase). IsValid store.db) c.self.view_is c.self.invariant in
+    let plan : PlannedDatabase = record { graph = c.in_ok-graph.graph; labels = c.in_ok-labels.labels; links = c.in_ok-links.links; values = c.in_ok-links.values } in
+    let valid = subst (λ (store : RoomyDatabase). IsValid store.db) c.self.view_is c.self.invariant.valid in
     let after = subst (λ (store : RoomyDatabase). IsGraphAfter store.db.graph changes (graph_then store.db.graph plan.graph)) c.self.view_is c.in_ok-graph.ensures.after in
     let labels = c.in_ok-labels.ensures.come ∙ ap (λ (store : RoomyDatabase). first_uses store.db.labels changes.labels) c.self.view_is in
-    leads_valid c.args.self.now.db changes valid c.requires.fits plan labels after c.in_ok-check_sizes.ensures.ok
+    record {
+      valid = leads_valid c.args.self.now.db changes valid c.requires.fits plan labels after c.in_ok-check_sizes.ensures.ok;
+      labels = subst (λ (store : RoomyDatabase). LeadsFrom store.db.labels plan.labels) c.self.view_is c.in_ok-labels.ensures.leads;
+      indexes = c.in_ok-links.ensures;
+    }
 
 pub returns-clause-ok : goal.returns-clause-ok
 returns-clause-ok g c =

@@ -1,0 +1,16 @@
+pub mod PathOrder
+pub mod TargetSteps
+pub mod PlaceLaws
+pub mod EnteredLaws
+pub mod TrailLaws
+pub mod StopLaws
+pub mod SearchedLaws
+pub mod DoneLaws
+pub mod LimitLaws
+pub mod OneGuide
+pub mod ArcLaws
+pub mod GroupLaws
+pub mod TableLaws
+pub mod ChildLaws
+pub mod RowLaws
+pub mod AlikeLaws

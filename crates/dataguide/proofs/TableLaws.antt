@@ -1,0 +1,178 @@
+-- Nodes under their hashes, and the nodes of names.
+use Rattle.std.proofs.Common.{◌≡◌, ℕ, ◌<◌, ◌⊎◌, Bool, true, false, cond, inl, inr, List, [], ◌∷◌, ◌++◌, length, get_or, zero, suc, Option, Some, None, unwrap_or, option_map, IfNone, All, Contains, refl, sym, ap, ◌∙◌, subst, arith, length-append}
+use Rattle.std.specs.List.{slice_get, AllZip}
+use Rattle.std.specs.Prelude.{slice_set}
+use Rattle.std.proofs.lemmas.List.{length-set}
+use Rattle.std.specs.Ordering.{nat_cmp}
+use Rattle.std.specs.Map.{lookup}
+use Rattle.std.specs.BTreeMap.{is_at}
+use Rattle.std.proofs.lemmas.Bool.{cases_lt}
+use Rattle.std.proofs.lemmas.Bool.Decides.{nat_tests}
+use Rattle.std.proofs.lemmas.Option.{slice_get_within, slice_get-get_or}
+use Rattle.std.proofs.lemmas.List.Elements.{All-head, All-tail, All-push, All-set, All-weaker, All-contains, Contains-append_left, Contains-push}
+use Rattle.lore_base.specs.Bytes.{bytes_cmp}
+use Rattle.oem_set.specs.Sets.{hash_of}
+use Rattle.dataguide.specs.Types.{Oid, Label, Node, GuideNode}
+use Rattle.dataguide.specs.Guides.{sets_of, HasSet, AscendByLabel, IsEntry, node_of}
+use Rattle.dataguide.specs.inside.NodeTables.{listed, node_number, IsNodeTable, start_at, entries_of}
+use Rattle.dataguide.proofs.PlaceLaws.{at-Contains, at-front, at-push, at-map, at-unmap, AllZip-weaker}
+
+same_key : (a b : ℕ) → is_at (nat_cmp a) b ≡ true → a ≡ b
+same_key a b h = grind (arith, nat_tests)
+
+-- ---- a node is put under a hash
+module _ (old new : List (ℕ × List Node)) (hash : ℕ) (list : List Node) (node : Node) (is : list ≡ listed old hash ++ node ∷ [])
+    (put : (q : ℕ) → lookup (is_at (nat_cmp q)) new ≡ cond (is_at (nat_cmp hash) q) (Some list) (lookup (is_at (nat_cmp q)) old)) where
+  pub listed-kept : (other : ℕ) (there : Node) → Contains (listed old other) there → Contains (listed new other) there
+  listed-kept other there at =
+      elim (is_at (nat_cmp hash) other) as (λ b. is_at (nat_cmp hash) other ≡ b → lookup (is_at (nat_cmp other)) new ≡ cond b (Some list) (lookup (is_at (nat_cmp other)) old)
+      → Contains (listed new other) there) [
+        | true ↦ λ same found. (
+            let key : hash ≡ other = same_key hash other same in
+            let here : listed new other ≡ listed old other ++ node ∷ [] = ap (λ (o : Option (List Node)). unwrap_or o []) found ∙ is ∙ ap (λ h. listed old h ++ node ∷ []) key in
+            subst (λ (l : List Node). Contains l there) (sym here) (Contains-append_left (listed old other) (node ∷ []) there at))
+        | false ↦ λ apart found. (
+            let here : listed new other ≡ listed old other = ap (λ (o : Option (List Node)). unwrap_or o []) found in
+            subst (λ (l : List Node). Contains l there) (sym here) at)
+      ] refl (put other)
+
+  pub listed-added : lookup (is_at (nat_cmp hash)) new ≡ Some list → Contains (listed new hash) node
+  listed-added found =
+      let here : listed new hash ≡ listed old hash ++ node ∷ [] = ap (λ (o : Option (List Node)). unwrap_or o []) found ∙ is in
+      subst (λ (l : List Node). Contains l node) (sym here) (Contains-push (listed old hash) node)
+
+-- ---- tables of nodes
+-- more may stand under a hash
+pub table-wider : (lists wider : List (ℕ × List Node)) (nodes : List GuideNode)
+    → ((hash : ℕ) (node : Node) → Contains (listed lists hash) node → Contains (listed wider hash) node) → IsNodeTable lists nodes → IsNodeTable wider nodes
+table-wider lists wider nodes more table = record {
+  hashed = λ place node at. more (hash_of node.set) (node_number place) (table.hashed place node at);
+  ascend = table.ascend;
+  few = table.few;
+}
+
+-- a node without edges is put behind
+pub table-push : (lists : List (ℕ × List Node)) (nodes : List GuideNode) (node : GuideNode) → node.edges ≡ [] → length nodes < 4_294_967_295
+    → Contains (listed lists (hash_of node.set)) (node_number (length nodes)) → IsNodeTable lists nodes → IsNodeTable lists (nodes ++ node ∷ [])
+table-push lists nodes node none few there table = record {
+  hashed = λ place other at. elim (cases_lt place (length nodes)) [
+    | inl early ↦ table.hashed place other (at-front nodes (node ∷ []) place other early at)
+    | inr late ↦ (
+        let within = slice_get_within (nodes ++ node ∷ []) place other at in
+        let here : place ≡ length nodes = omega (arith, late, within, length-append nodes (node ∷ [])) in
+        let both : Some node ≡ Some other = sym (at-push nodes node) ∙ sym (ap (slice_get (nodes ++ node ∷ [])) here) ∙ at in
+        let same : node ≡ other = cc in
+        subst (λ (k : ℕ). Contains (listed lists (hash_of other.set)) (node_number k)) (sym here)
+        (subst (λ (n : GuideNode). Contains (listed lists (hash_of n.set)) (node_number (length nodes))) same there))
+  ];
+  ascend = All-push (λ (n : GuideNode). AscendByLabel n.edges) nodes node table.ascend
+      (subst (λ (l : List (Label × Node)). AscendByLabel l) (sym none) (λ i j d less within. absurd (omega (arith, within))));
+  few = omega (arith, few, length-append nodes (node ∷ []));
+}
+
+-- the node with a set stands under its hash
+pub not-found : (lists : List (ℕ × List Node)) (nodes : List GuideNode) (set : List Oid) → IsNodeTable lists nodes
+    → All (λ node. ¬ HasSet nodes node set) (listed lists (hash_of set)) → Contains (sets_of nodes) set → ⊥
+not-found lists nodes set table none there =
+    let at = at-Contains (sets_of nodes) set there in
+    let from = at-unmap (λ (n : GuideNode). n.set) nodes at.0 set at.1 in
+    let under = subst (λ (s : List Oid). Contains (listed lists (hash_of s)) (node_number at.0)) from.2 (table.hashed at.0 from.0 from.1) in
+    All-contains (λ (node : Node). ¬ HasSet nodes node set) (listed lists (hash_of set)) (node_number at.0) none under at.1
+
+-- ---- entries
+lookup-map : (starts : List (Oid × Node)) (test : List ℕ → Bool) (names : List (List ℕ × Oid))
+    → lookup test (entries_of names starts) ≡ option_map (start_at starts) (lookup test names)
+lookup-map starts test [] = refl
+lookup-map starts test (named ∷ names) =
+    let later = lookup-map starts test names in
+    elim (test named.0) as (λ b. cond b (Some (start_at starts named.1)) (lookup test (entries_of names starts))
+    ≡ option_map (start_at starts) (cond b (Some named.1) (lookup test names))) [ true ↦ refl | false ↦ later ]
+
+pub entry-none : (names : List (List ℕ × Oid)) (starts : List (Oid × Node)) (name : List ℕ) → lookup (is_at (bytes_cmp name)) names ≡ None → None ≡ node_of (entries_of names starts) name
+entry-none names starts name none = sym (lookup-map starts (is_at (bytes_cmp name)) names ∙ ap (option_map (start_at starts)) none)
+
+pub entry-some : (names : List (List ℕ × Oid)) (starts : List (Oid × Node)) (name : List ℕ) (oid : Oid) → lookup (is_at (bytes_cmp name)) names ≡ Some oid
+    → Some (start_at starts oid) ≡ node_of (entries_of names starts) name
+entry-some names starts name oid some = sym (lookup-map starts (is_at (bytes_cmp name)) names ∙ ap (option_map (start_at starts)) some)
+
+pub entries-start : (nodes : List GuideNode) (starts : List (Oid × Node)) (names : List (List ℕ × Oid)) → All (λ named. HasSet nodes (start_at starts named.1) (named.1 ∷ [])) names
+    → AllZip (IsEntry nodes) names (entries_of names starts)
+entries-start nodes starts [] all = tt
+entries-start nodes starts (named ∷ names) all = (
+  record { name = refl; node = All-head (λ (n : List ℕ × Oid). HasSet nodes (start_at starts n.1) (n.1 ∷ [])) named names all },
+  entries-start nodes starts names (All-tail (λ (n : List ℕ × Oid). HasSet nodes (start_at starts n.1) (n.1 ∷ [])) named names all),
+)
+
+pub entries-stay : (nodes new : List GuideNode) (names : List (List ℕ × Oid)) (entries : List (List ℕ × Node))
+    → ((node : Node) (set : List Oid) → HasSet nodes node set → HasSet new node set) → AllZip (IsEntry nodes) names entries → AllZip (IsEntry new) names entries
+entries-stay nodes new names entries stay zip =
+    AllZip-weaker (IsEntry nodes) (IsEntry new) (λ named entry is. record { name = is.name; node = stay entry.1 (named.1 ∷ []) is.node }) names entries zip
+
+-- an object that is put among the starts
+pub start-put : (old new : List (Oid × Node)) (oid : Oid) (node : Node)
+    → ((q : Oid) → lookup (is_at (λ other. nat_cmp q.0 other.0)) new ≡ cond (is_at (λ other. nat_cmp oid.0 other.0) q) (Some node) (lookup (is_at (λ other. nat_cmp q.0 other.0)) old))
+    → (q : Oid) → ((q ≡ oid) × (start_at new q ≡ node)) ⊎ (start_at new q ≡ start_at old q)
+start-put old new oid node put q =
+    elim (is_at (nat_cmp oid.0) q.0) as (λ b. is_at (nat_cmp oid.0) q.0 ≡ b
+    → lookup (is_at (λ (other : Oid). nat_cmp q.0 other.0)) new ≡ cond b (Some node) (lookup (is_at (λ (other : Oid). nat_cmp q.0 other.0)) old)
+    → ((q ≡ oid) × (start_at new q ≡ node)) ⊎ (start_at new q ≡ start_at old q)) [
+      | true ↦ λ same found. inl (ap (λ (n : ℕ). record { 0 = n }) (sym (same_key oid.0 q.0 same)), ap (λ (o : Option Node). unwrap_or o (node_number 0)) found)
+      | false ↦ λ apart found. inr (ap (λ (o : Option Node). unwrap_or o (node_number 0)) found)
+    ] refl (put q)
+
+-- ---- a node gets edges
+put-sets : (nodes : List GuideNode) (place : ℕ) (new old : GuideNode) → slice_get nodes place ≡ Some old → new.set ≡ old.set → sets_of (slice_set nodes place new) ≡ sets_of nodes
+put-sets [] place new old at same = refl
+put-sets (first ∷ nodes) zero new old at same =
+    let is : first ≡ old = cc in
+    ap (λ (s : List Oid). s ∷ sets_of nodes) (same ∙ ap (λ (n : GuideNode). n.set) (sym is))
+put-sets (first ∷ nodes) (suc place) new old at same = ap (λ (l : List (List Oid)). first.set ∷ l) (put-sets nodes place new old at same)
+
+put-at : (nodes : List GuideNode) (place : ℕ) (new node : GuideNode) → slice_get (slice_set nodes place new) place ≡ Some node → node ≡ new
+put-at [] place new node at = cc
+put-at (first ∷ nodes) zero new node at = cc
+put-at (first ∷ nodes) (suc place) new node at = put-at nodes place new node at
+
+put-other : (nodes : List GuideNode) (place : ℕ) (new : GuideNode) (other : ℕ) → (other ≡ place → ⊥) → slice_get (slice_set nodes place new) other ≡ slice_get nodes other
+put-other [] place new other apart = refl
+put-other (first ∷ nodes) zero new zero apart = absurd (apart refl)
+put-other (first ∷ nodes) zero new (suc other) apart = refl
+put-other (first ∷ nodes) (suc place) new zero apart = refl
+put-other (first ∷ nodes) (suc place) new (suc other) apart = put-other nodes place new other (λ same. apart (ap suc same))
+
+module _ (nodes : List GuideNode) (place : ℕ) (new old : GuideNode) (within : place < length nodes) (read : old ≡ get_or nodes place old) (same : new.set ≡ old.set) where
+  there : slice_get nodes place ≡ Some old
+  there = slice_get-get_or nodes place old within ∙ ap Some (sym read)
+
+  pub put-edges-sets : sets_of (slice_set nodes place new) ≡ sets_of nodes
+  put-edges-sets = put-sets nodes place new old there same
+
+  pub put-edges-table : (lists : List (ℕ × List Node)) → AscendByLabel new.edges → IsNodeTable lists nodes → IsNodeTable lists (slice_set nodes place new)
+  put-edges-table lists ascend table = record {
+    hashed = λ k node at. (
+        let now : slice_get (sets_of (slice_set nodes place new)) k ≡ Some node.set = at-map (λ (n : GuideNode). n.set) (slice_set nodes place new) k node at in
+        let before = at-unmap (λ (n : GuideNode). n.set) nodes k node.set (subst (λ (l : List (List Oid)). slice_get l k ≡ Some node.set) put-edges-sets now) in
+        subst (λ (s : List Oid). Contains (listed lists (hash_of s)) (node_number k)) before.2 (table.hashed k before.0 before.1));
+    ascend = All-set (λ (n : GuideNode). AscendByLabel n.edges) nodes place new ascend table.ascend;
+    few = rw length-set table.few;
+  }
+
+pub put-edges-at : (nodes : List GuideNode) (place : ℕ) (new node : GuideNode) → slice_get (slice_set nodes place new) place ≡ Some node → node.edges ≡ new.edges
+put-edges-at nodes place new node at = ap (λ (n : GuideNode). n.edges) (put-at nodes place new node at)
+
+pub put-edges-other : (nodes : List GuideNode) (place : ℕ) (new : GuideNode) (other : ℕ) → (other ≡ place → ⊥) → slice_get (slice_set nodes place new) other ≡ slice_get nodes other
+put-edges-other = put-other
+
+-- what a test says of nothing found
+pub none-weaker : {X P Q : Type 0} (found : Option X) → (P → Q) → IfNone found P → IfNone found Q
+none-weaker None weaker none = weaker none
+none-weaker (Some x) weaker none = tt
+
+pub start-self : (new : List (Oid × Node)) (oid : Oid) (node : Node) → lookup (is_at (λ other. nat_cmp oid.0 other.0)) new ≡ Some node → start_at new oid ≡ node
+start-self new oid node found = ap (λ (o : Option Node). unwrap_or o (node_number 0)) found
+
+pub starts-stay : (nodes new : List GuideNode) (names : List (List ℕ × Oid)) (starts : List (Oid × Node)) → ((node : Node) (set : List Oid) → HasSet nodes node set → HasSet new node set)
+    → All (λ named. HasSet nodes (start_at starts named.1) (named.1 ∷ [])) names → All (λ named. HasSet new (start_at starts named.1) (named.1 ∷ [])) names
+starts-stay nodes new names starts stay all =
+    All-weaker (λ (n : List ℕ × Oid). HasSet nodes (start_at starts n.1) (n.1 ∷ [])) (λ (n : List ℕ × Oid). HasSet new (start_at starts n.1) (n.1 ∷ []))
+    (λ n has. stay (start_at starts n.1) (n.1 ∷ []) has) names all

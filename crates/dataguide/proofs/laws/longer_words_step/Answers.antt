@@ -1,0 +1,5 @@
+use Rattle.dataguide.proofs.TargetSteps.{longer_words_step}
+use Rattle.dataguide.proofs.laws.longer_words_step.Goals as goal
+
+pub returns : goal.returns
+returns c = longer_words_step

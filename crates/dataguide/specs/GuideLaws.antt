@@ -1,0 +1,47 @@
+-- Laws of target sets and guides.
+use Rattle.std.specs.Prelude.{◌≡◌, ◌↔◌, ℕ, List, [], ◌∷◌, ◌++◌, Contains}
+use Rattle.dataguide.specs.Types.{Oid, Label, Edge, Node}
+use Rattle.dataguide.specs.LabelPaths.{IsTargetSet, IsStep, AreInPathOrder}
+use Rattle.dataguide.specs.Guides.{GuideGraph, StandsFor, sets_of, HasSet, HasEdge}
+
+-- the target set of a longer word is the step of the shorter word's
+abbrev pub LongerWordsStep : Type 0
+LongerWordsStep =
+    (edges : List Edge) (start : Oid) (word : List Label) (label : Label) (set next : List Oid)
+    → IsTargetSet edges start word set
+    → IsTargetSet edges start (word ++ label ∷ []) next ↔ IsStep edges set label next
+
+-- the guide stands for the database, and its nodes stand in the order of their least paths
+pub record IsOrderedGuide (guide : GuideGraph) (names : List (List ℕ × Oid)) (edges : List Edge) : Type 0 where
+  pub stands : StandsFor guide names edges
+  pub order : AreInPathOrder names edges (sets_of guide.nodes)
+
+-- a database has one such guide
+abbrev pub HasOneOrderedGuide : Type 0
+HasOneOrderedGuide =
+    (names : List (List ℕ × Oid)) (edges : List Edge) (guide other : GuideGraph)
+    → IsOrderedGuide guide names edges → IsOrderedGuide other names edges → guide ≡ other
+
+-- the node with the set has an edge with the label to the node with the next set
+abbrev pub GoesOn : GuideGraph → List Oid → Label → List Oid → Type 0
+GoesOn guide set label next =
+    (node : Node) × (there : Node) × HasSet guide.nodes node set × HasSet guide.nodes there next
+    × HasEdge guide.nodes node label there
+
+-- the name is bound to the node with the set
+abbrev pub BeginsAt : GuideGraph → List ℕ → List Oid → Type 0
+BeginsAt guide name set = (node : Node) × Contains guide.entries (name, node) × HasSet guide.nodes node set
+
+-- the guides are the same but for the numbers of their nodes: they have the same sets, and nodes with the same sets
+-- lead by the same labels to nodes with the same sets, and have the same names
+pub record AreAlike (guide other : GuideGraph) : Type 0 where
+  pub sets : (set : List Oid) → Contains (sets_of guide.nodes) set ↔ Contains (sets_of other.nodes) set
+  pub edges : (set : List Oid) (label : Label) (next : List Oid)
+      → GoesOn guide set label next ↔ GoesOn other set label next
+  pub entries : (name : List ℕ) (set : List Oid) → BeginsAt guide name set ↔ BeginsAt other name set
+
+-- all guides of a database are alike
+abbrev pub HasAlikeGuides : Type 0
+HasAlikeGuides =
+    (names : List (List ℕ × Oid)) (edges : List Edge) (guide other : GuideGraph)
+    → StandsFor guide names edges → StandsFor other names edges → AreAlike guide other

@@ -1,0 +1,8 @@
+-- The declared types of a guide and what it is built of, under one module.
+pub use Rattle.lore_base.specs.declared.edges.Oid.{Oid}
+pub use Rattle.lore_base.specs.declared.edges.Label.{Label}
+pub use Rattle.lore_base.specs.declared.edges.Edge.{Edge}
+pub use Rattle.dataguide.specs.declared.nodes.Node.{Node}
+pub use Rattle.dataguide.specs.declared.nodes.GuideNode.{GuideNode}
+pub use Rattle.dataguide.specs.declared.faults.GuideFault.{GuideFault}
+pub use Rattle.dataguide.specs.declared.faults.GuideFault.TheVariants as faults

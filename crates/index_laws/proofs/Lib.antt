@@ -1,0 +1,2 @@
+pub mod ChangedEntries
+pub mod SortedEntries

@@ -1,0 +1,4 @@
+-- The declared types that the definitions of this crate cite.
+pub use Rattle.lore_base.specs.declared.edges.Oid.{Oid}
+pub use Rattle.lore_base.specs.declared.edges.Label.{Label}
+pub use Rattle.lore_base.specs.declared.edges.Edge.{Edge}

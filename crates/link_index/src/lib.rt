@@ -1,0 +1,14 @@
+//! The edges of a graph by their children: which parents an object has, and by which labels.
+//!
+//! A change comes in three calls: `prepare` sorts what goes and what comes, `reserve` takes the
+//! memory for it, and `commit` puts it in place and cannot fail.
+#![tactic(auto)]
+
+pub use link_index::LinkIndex;
+pub use link_plan::LinkPlan;
+
+mod link;
+mod link_index;
+mod link_lists;
+mod link_plan;
+mod link_runs;

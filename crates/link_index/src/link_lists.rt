@@ -1,0 +1,38 @@
+ghost use Rattle.std.specs.Prelude.{◌≡◌, ◌++◌, map, IfOk, OnOk, OnErr};
+ghost use Rattle.lore_base.specs.Lists.{Extends};
+ghost use Rattle.link_index.specs.inside.LinkEdges.{AreSortedLinks, edges_of, link_at};
+
+use crate::link::Link;
+use lore_base::{Edge, EdgeBuf, Listing, NoMemory};
+use std::alloc::Global;
+
+// The links of these edges in ascending order, each once.
+pub(crate) fn sorted_links(edges: &EdgeBuf) -> Result<Vec<Link>, NoMemory>
+    ensures { IfOk result (λ links. AreSortedLinks edges.now links.items) }
+{
+    let mut links = links_of(edges.allocator(), edges.as_slice())?;
+    links.sort_set();
+    Ok(links.into_items())
+}
+
+// The links of these edges.
+fn links_of(alloc: Global, edges: &[Edge]) -> Result<Listing<Link>, NoMemory>
+    ensures { IfOk result (λ links. links ≡ map link_at edges.now) }
+{
+    let mut links = Listing::with_capacity(alloc, edges.len())?;
+    'edges: for edge in edges {
+        links.push(Link::of(edge))?;
+    }
+    Ok(links)
+}
+
+// Puts the edges of these links behind those of `buf`.
+pub(crate) fn push_edges(buf: &mut EdgeBuf, links: &[Link]) -> Result<(), NoMemory>
+    ensures ok { OnOk result (buf.new ≡ buf.old ++ edges_of links.now) }
+    ensures err { OnErr result (Extends buf.old buf.new) }
+{
+    'links: for link in links {
+        buf.push(link.edge())?;
+    }
+    Ok(())
+}

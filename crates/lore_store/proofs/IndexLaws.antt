@@ -1,0 +1,246 @@
+-- What the indexes of a store hold: the entries of its graph, before and after a prepared change.
+use Rattle.std.proofs.Common.{◌≡◌, ◌≢◌, ℕ, ◌<◌, ◌≤◌, ◌^◌, ◌⊎◌, ◌↔◌, List, [], ◌∷◌, length, map, inl, inr, refl, ap, sym, subst, ◌∙◌, arith, Less}
+use Rattle.std.specs.List.{All, AllPairs, Contains}
+use Rattle.std.proofs.lemmas.Bool.Decides.{nat_tests}
+use Rattle.std.proofs.lemmas.List.{length-map}
+use Rattle.std.proofs.lemmas.List.Elements.{All-contains}
+use Rattle.std.proofs.lemmas.List.Kept.{AllPairs-cons}
+use Rattle.lore_store.specs.Types.{Changes, EDGES}
+use Rattle.lore_base.specs.declared.edges.Oid.{Oid}
+use Rattle.lore_base.specs.declared.edges.Edge.{Edge}
+use Rattle.lore_base.specs.declared.values.Value.{Value}
+use Rattle.index_traits.specs.declared.entries.ValueEntry.{ValueEntry}
+use Rattle.lore_base.specs.Databases.{OemGraph, Database, IsLive, IsLinked, IsRooted, AreAscendingObjects}
+use Rattle.lore_base.specs.ChangeSets.{FitsGraph, ObjectsThen, IsGraphAfter, IsOnlyIn}
+use Rattle.index_traits.specs.Entries.{AreLinks, AreAscendingLinks, AreValueEntries, IsValueEntry, AreAscendingEntries, entry_cmp}
+use Rattle.sorted_list.specs.SortedLists.{IsThen, IsChange, IsLessWith}
+use Rattle.value_index.specs.Values.{FitsEntries}
+use Rattle.value_changes.specs.EntryChanges.{State, HasEntry, IsSettled, AreGraphChanges, TakesTo, AreEntryChanges}
+use Rattle.oem_graph.specs.Plans.{AreEdgeChanges}
+use Rattle.lore_base.proofs.ListLaws.{AllPairs-head, AllPairs-tail}
+use Rattle.oem_changes.proofs.AscentLaws.{AllPairs-nil, AllPairs-once}
+use Rattle.oem_changes.proofs.CountLaws.{distinct_no_longer}
+use Rattle.oem_changes.proofs.ToldLaws.{told_member, told_edge}
+use Rattle.oem_changes.proofs.RootedLaws.{All-of_members, told_live}
+use Rattle.oem_graph.proofs.LeftLaws.{mapped, map-contains}
+use Rattle.link_index.specs.Links.{RoomyLinks}
+use Rattle.value_index.specs.Values.{RoomyEntries}
+use Rattle.lore_store.specs.Stores.{PlannedDatabase, state_of, database_then, IsStored, LeadsOn}
+
+-- ---- what a list holds that takes in a change
+module _ {T : Type 0} (Before After : T → Type 0) (kept gone come : List T) (same : (item : T) → Contains kept item ↔ Before item)
+    (takes : TakesTo Before After gone come) where
+  pub is_change : IsChange kept gone come
+  is_change = record {
+    kept_ones = All-of_members (Contains kept) gone (λ item at. (same item).1 (takes.gone_ones item at));
+    new_ones = All-of_members (λ item. (Contains kept item × (Contains gone item → ⊥)) → ⊥) come
+        (λ item at both. both.1 ((takes.come_ones item at).1 ((same item).0 both.0)));
+  }
+
+  pub holds : (item : T) → IsThen kept gone come item → After item
+  holds item (inl came) = (takes.come_ones item came).0
+  holds item (inr (there, left)) = elim (takes.stays item ((same item).0 there)) [
+    | inl goes ↦ absurd (left goes)
+    | inr then ↦ then
+  ]
+
+  pub held : (after : List T) → IsLessWith kept gone come after → (item : T) → Contains after item ↔ After item
+  held after less item = (
+    λ at. holds item ((less item).0 at),
+    λ then. (less item).1 (elim (takes.rest item then) [
+      | inl came ↦ inl came
+      | inr (there, left) ↦ inr ((same item).1 there, left)
+    ]),
+  )
+
+-- what is taken from one state is taken from another that holds the same
+pub takes-same : {T : Type 0} (Before Other After : T → Type 0) (gone come : List T) → ((item : T) → Before item ↔ Other item)
+    → TakesTo Before After gone come → TakesTo Other After gone come
+takes-same Before Other After gone come same takes = record {
+  gone_ones = λ item at. (same item).0 (takes.gone_ones item at);
+  come_ones = λ item at. let comes = takes.come_ones item at in (comes.0, λ other. comes.1 ((same item).1 other));
+  stays = λ item other. takes.stays item ((same item).1 other);
+  rest = λ item then. elim (takes.rest item then) [
+    | inl came ↦ inl came
+    | inr (there, left) ↦ inr ((same item).0 there, left)
+  ];
+}
+
+-- ---- links
+-- the edges by which two lists differ take the one to the other
+pub links_take : (edges then gone come : List Edge) → ((edge : Edge) → Contains gone edge ↔ IsOnlyIn edges then edge)
+    → ((edge : Edge) → Contains come edge ↔ IsOnlyIn then edges edge) → TakesTo (Contains edges) (Contains then) gone come
+links_take edges then gone come goes comes = record {
+  gone_ones = λ edge at. ((goes edge).0 at).0;
+  come_ones = λ edge at. let only = (comes edge).0 at in (only.0, λ there. absurd (only.1 there));
+  stays = λ edge there. elim (told_member told_edge then edge) [
+    | inl at ↦ inr at
+    | inr none ↦ inl ((goes edge).1 (there, none))
+  ];
+  rest = λ edge at. elim (told_member told_edge edges edge) [
+    | inl there ↦ inr (there, λ goes_out. ((goes edge).0 goes_out).1 at)
+    | inr none ↦ inl ((comes edge).1 (at, none))
+  ];
+}
+
+-- what holds of the edges of a list holds of them in another order
+pub links_same : (edges then links given : List Edge) → AreLinks given links
+    → ((edge : Edge) → Contains given edge ↔ IsOnlyIn edges then edge) → (edge : Edge) → Contains links edge ↔ IsOnlyIn edges then edge
+links_same edges then links given stands exact edge = (
+  λ at. (exact edge).0 ((stands.exact edge).0 at),
+  λ only. (stands.exact edge).1 ((exact edge).1 only),
+)
+
+-- edges that go stand in the index, and those that come don't
+pub gone_kept : (edges then links gone : List Edge) → AreLinks edges links
+    → ((edge : Edge) → Contains gone edge ↔ IsOnlyIn edges then edge) → All (Contains links) gone
+gone_kept edges then links gone stands goes =
+    All-of_members (Contains links) gone (λ edge at. (stands.exact edge).1 ((goes edge).0 at).0)
+
+pub come_new : (edges then links come : List Edge) → AreLinks edges links
+    → ((edge : Edge) → Contains come edge ↔ IsOnlyIn then edges edge) → All (λ edge. Contains links edge → ⊥) come
+come_new edges then links come stands comes =
+    All-of_members (λ edge. Contains links edge → ⊥) come (λ edge at there. ((comes edge).0 at).1 ((stands.exact edge).0 there))
+
+-- ---- value entries
+-- an object has one value among ascending ones
+pub one_object : (objects : List (Oid × Value)) → AreAscendingObjects objects → (oid : Oid) (value other : Value)
+    → Contains objects (oid, value) → Contains objects (oid, other) → value ≡ other
+one_object objects ascend oid value other at other_at =
+    ap (λ (object : Oid × Value). object.1)
+    (AllPairs-once (λ (a b : Oid × Value). a.0.0 < b.0.0) objects ascend (oid, value) (oid, other) at other_at
+    (λ less. omega (arith, less)) (λ less. omega (arith, less)))
+
+abbrev key_of : ValueEntry → ℕ × ℕ
+key_of entry = (entry.label.0, entry.object.0)
+
+abbrev edge_key : Edge → ℕ × ℕ
+edge_key edge = (edge.label.0, edge.child.0)
+
+less_apart : (a b : ValueEntry) → entry_cmp a b ≡ Less → (a.label.0 ≡ b.label.0) → (a.object.0 ≡ b.object.0) → ⊥
+less_apart a b less label object = grind (arith, nat_tests)
+
+keys_apart : (list : List ValueEntry) → AreAscendingEntries list → AllPairs (λ a b. a ≢ b) (map key_of list)
+keys_apart [] ascend = AllPairs-nil (λ (a b : ℕ × ℕ). a ≢ b)
+keys_apart (first ∷ others) ascend =
+    AllPairs-cons (λ (a b : ℕ × ℕ). a ≢ b) (key_of first) (map key_of others)
+    (All-of_members (λ key. key_of first ≢ key) (map key_of others) (λ key at same.
+    let from = mapped key_of others key at in
+    let is = same ∙ sym from.2 in
+    less_apart first from.0 (AllPairs-head (λ (a b : ValueEntry). entry_cmp a b ≡ Less) first others ascend from.0 from.1)
+    (ap (λ (k : ℕ × ℕ). k.0) is) (ap (λ (k : ℕ × ℕ). k.1) is)))
+    (keys_apart others (AllPairs-tail (λ (a b : ValueEntry). entry_cmp a b ≡ Less) first others ascend))
+
+-- there are no more entries than edges
+pub few_entries : (objects : List (Oid × Value)) (edges : List Edge) (list : List ValueEntry) → AreAscendingEntries list
+    → ((entry : ValueEntry) → Contains list entry → IsValueEntry objects edges entry) → length list ≤ length edges
+few_entries objects edges list ascend each =
+    let within = distinct_no_longer (map key_of list) (map edge_key edges) (keys_apart list ascend)
+    (λ key at.
+    let from = mapped key_of list key at in
+    let entered = (each from.0 from.1).entered in
+    subst (Contains (map edge_key edges)) from.2 (map-contains edge_key edges _ entered.1)) in
+    omega (arith, within, length-map list key_of, length-map edges edge_key)
+
+module _ (before after : OemGraph) (rooted : IsRooted after) (few : length after.edges ≤ EDGES) (kept gone come : List ValueEntry)
+    (stands : AreValueEntries before.objects before.edges kept) (changes : AreEntryChanges (state_of before) (state_of after) gone come) where
+  then_entry : (entry : ValueEntry) → IsThen kept gone come entry → IsValueEntry after.objects after.edges entry
+  then_entry = holds (HasEntry (state_of before)) (HasEntry (state_of after)) kept gone come stands.exact changes.takes
+
+  -- the change fits the entries that are kept
+  pub fits_entries : FitsEntries kept gone come
+  fits_entries = record {
+    gone_ascend = changes.gone_ascend;
+    come_ascend = changes.come_ascend;
+    change = is_change (HasEntry (state_of before)) (HasEntry (state_of after)) kept gone come stands.exact changes.takes;
+    atomic = All-of_members (λ entry. entry.value ≢ _) come (λ entry at. (changes.takes.come_ones entry at).0.atomic);
+    one_value = λ a b in_a in_b same.
+        one_object after.objects rooted.well_formed.ordered.objects_ascend b.object a.value b.value
+        (subst (λ (oid : Oid). Contains after.objects (oid, a.value)) same (then_entry a in_a).live) (then_entry b in_b).live;
+    few = λ list ascend less.
+        let bound = few_entries after.objects after.edges list ascend (λ entry at. then_entry entry ((less entry).0 at)) in
+        omega (arith, bound, few);
+  }
+
+-- ---- the states before and after
+-- each object of a graph that names reach has one value, and the children of edges are live
+pub settled : (graph : OemGraph) (edges : List Edge) → IsRooted graph → ((edge : Edge) → Contains edges edge → Contains graph.edges edge)
+    → IsSettled (record { objects = graph.objects; edges = edges })
+settled graph edges rooted within = record {
+  one_value = one_object graph.objects rooted.well_formed.ordered.objects_ascend;
+  children = λ edge at. (All-contains (IsLinked graph.objects) graph.edges edge rooted.well_formed.edges_linked (within edge at)).child;
+}
+
+module _ (before : OemGraph) (changes : Changes) (after : OemGraph) (leaves : IsGraphAfter before changes after) where
+  -- a live object keeps its value unless one is given to it
+  keeps_value : (oid : Oid) (value : Value) → Contains before.objects (oid, value) → IsLive after.objects oid
+      → IsLive changes.values oid ⊎ Contains after.objects (oid, value)
+  keeps_value oid value there (other, live) = elim (told_live changes.values oid) [
+    | inl given ↦ inl given
+    | inr none ↦ inr ((leaves.objects (oid, value)).1 (inr (inr (there, none)), ((leaves.objects (oid, other)).0 live).1))
+  ]
+
+  -- the two states differ by the changes
+  pub changed : (links lost fresh : List Edge) → AreLinks before.edges links → AreEdgeChanges before.edges after.edges lost fresh
+      → AreGraphChanges (record { objects = before.objects; edges = links }) (state_of after) lost fresh changes.values
+  changed links lost fresh stands differ = record {
+    lost_exact = λ edge. (
+      λ at. let only = (differ.lost_exact edge).0 at in ((stands.exact edge).1 only.0, only.1),
+      λ only. (differ.lost_exact edge).1 ((stands.exact edge).0 only.0, only.1),
+    );
+    fresh_exact = λ edge. (
+      λ at. let only = (differ.fresh_exact edge).0 at in (only.0, λ there. only.1 ((stands.exact edge).0 there)),
+      λ only. (differ.fresh_exact edge).1 (only.0, λ there. only.1 ((stands.exact edge).1 there)),
+    );
+    keep = keeps_value;
+  }
+
+-- entries of the links are entries of the edges
+pub same_entries : (objects : List (Oid × Value)) (edges links : List Edge) → AreLinks edges links
+    → (entry : ValueEntry) → IsValueEntry objects links entry ↔ IsValueEntry objects edges entry
+same_entries objects edges links stands entry = (
+  λ h. record { live = h.live; atomic = h.atomic; entered = (h.entered.0, (stands.exact _).0 h.entered.1) },
+  λ h. record { live = h.live; atomic = h.atomic; entered = (h.entered.0, (stands.exact _).1 h.entered.1) },
+)
+
+-- ---- what a store works out
+module _ (before : OemGraph) (changes : Changes) (after : OemGraph) (leaves : IsGraphAfter before changes after)
+    (links lost fresh : List Edge) (stands : AreLinks before.edges links) (differ : AreEdgeChanges before.edges after.edges lost fresh) where
+  -- what is found over the links is what goes and comes between the two graphs
+  pub found_changes : (gone come : List ValueEntry) → IsRooted before → IsRooted after
+      → ((old new : State) → old.objects ≡ before.objects → old.edges ≡ links → new.objects ≡ after.objects → IsSettled old
+      → IsSettled new → AreGraphChanges old new lost fresh changes.values → AreEntryChanges old new gone come)
+      → AreEntryChanges (state_of before) (state_of after) gone come
+  found_changes gone come rooted rooted_then found =
+      let old : State = record { objects = before.objects; edges = links } in
+      let changed_are = found old (state_of after) refl refl refl
+      (settled before links rooted (λ edge. (stands.exact edge).0)) (settled after after.edges rooted_then (λ edge at. at))
+      (changed before changes after leaves links lost fresh stands differ) in
+      record {
+        gone_ascend = changed_are.gone_ascend;
+        come_ascend = changed_are.come_ascend;
+        takes = takes-same (HasEntry old) (HasEntry (state_of before)) (HasEntry (state_of after)) gone come
+            (same_entries before.objects before.edges links stands) changed_are.takes;
+      }
+
+-- ---- what a store commits
+-- the indexes hold the entries of the graph that is then
+pub stored_then : (db : Database) (plan : PlannedDatabase) (link link_then : RoomyLinks) (value value_then : RoomyEntries)
+    → IsStored db link value → LeadsOn db plan → AreAscendingLinks link_then.links → IsLessWith link.links plan.links.gone plan.links.come link_then.links
+    → AreAscendingEntries value_then.entries → IsLessWith value.entries plan.values.gone plan.values.come value_then.entries
+    → IsStored (database_then db plan) link_then value_then
+stored_then db plan link link_then value value_then stored leads links_ascend links_less entries_ascend entries_less =
+    let then = (database_then db plan).graph in
+    let taken = links_take db.graph.edges then.edges plan.links.gone plan.links.come leads.indexes.gone leads.indexes.come in
+    record {
+      valid = leads.valid;
+      links = record {
+        ascend = links_ascend;
+        exact = held (Contains db.graph.edges) (Contains then.edges) link.links plan.links.gone plan.links.come stored.links.exact taken link_then.links links_less;
+      };
+      values = record {
+        ascend = entries_ascend;
+        exact = held (HasEntry (state_of db.graph)) (HasEntry (state_of then)) value.entries plan.values.gone plan.values.come stored.values.exact
+            leads.indexes.values.takes value_then.entries entries_less;
+      };
+    }

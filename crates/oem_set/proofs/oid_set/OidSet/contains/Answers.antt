@@ -1,0 +1,10 @@
+use Rattle.std.proofs.Common.{false, true, sym}
+use Rattle.std.proofs.lemmas.Bool.{false≢true}
+use Rattle.oem_set.proofs.MemberSearch.{none_found}
+use Rattle.oem_set.proofs.oid_set.OidSet.contains.Goals as goal
+
+pub returns-in-Err : goal.returns-in-Err
+returns-in-Err c = (
+  λ no. absurd (false≢true no),
+  λ at. absurd (none_found c.args.self.now c.as_slice.ensures.set c.args.oid c.in-Err.field-0 (rw c.as_slice.ensures.oids at c.in-Err.ensures.position) at),
+)

@@ -1,0 +1,4 @@
+-- Definitions that no public contract cites.
+pub mod Joined
+pub mod Listed
+pub mod Spares

@@ -1,0 +1,157 @@
+-- Loops over edges and over pairs, one step on.
+use Rattle.std.proofs.Common.{◌≡◌, ◌⊎◌, ◌↔◌, ℕ, ◌+◌, ◌<◌, inl, inr, Less, None, List, [], ◌∷◌, ◌++◌, length, take, get_or, Contains, sym, subst}
+use Rattle.std.proofs.lemmas.List.{take_more}
+use Rattle.std.proofs.lemmas.List.Elements.{Contains-append_left, Contains-append_right, Contains-append_cases}
+use Rattle.lore_base.specs.Lists.{ExtendsBy}
+use Rattle.lore_base.specs.Walks.{ListsEntering}
+use Rattle.lore_base.proofs.MemberLaws.{Contains-none, Contains-same}
+use Rattle.value_changes.specs.Types.{Oid, Edge}
+use Rattle.value_changes.specs.declared.pairs.Pair.{Pair}
+use Rattle.sorted_list.specs.SortedLists.{Ascends}
+use Rattle.value_changes.specs.inside.Sets.{AreSetOf}
+use Rattle.value_changes.specs.inside.Pairs.{pair_cmp, AreEntering, AreKept, IsMoving}
+use Rattle.value_changes.proofs.SortedLaws.{in-more, below-next, set-none, set-more, set-same}
+
+-- the edges that enter one object more
+pub entering-none : (edges : List Edge) → AreEntering edges [] []
+entering-none edges = record {
+  exact = λ edge. (λ at. absurd (Contains-none edge at), λ h. absurd (Contains-none edge.child h.1));
+}
+
+entering-front : (edges old new : List Edge) (front : List Oid) (next : Oid) → AreEntering edges front old
+    → ExtendsBy (ListsEntering edges next None) old new → AreEntering edges (front ++ next ∷ []) new
+entering-front edges old new front next sofar longer =
+    let lists : ListsEntering edges next None longer.0 = longer.2 in record {
+      exact = λ edge. (
+        λ at. elim (Contains-append_cases old longer.0 edge (subst (λ (l : List Edge). Contains l edge) longer.1 at)) [
+          | inl early ↦
+              let h = (sofar.exact edge).0 early in
+              (h.0, (in-more front next edge.child).1 (inl h.1))
+          | inr late ↦
+              let h = (lists.exact edge).0 late in
+              (h.0, (in-more front next edge.child).1 (inr (sym h.1)))
+        ],
+        λ h. subst (λ (l : List Edge). Contains l edge) (sym longer.1) (elim ((in-more front next edge.child).0 h.1) [
+          | inl early ↦ Contains-append_left old longer.0 edge ((sofar.exact edge).1 (h.0, early))
+          | inr same ↦ Contains-append_right old longer.0 edge ((lists.exact edge).1 (h.0, sym same, tt))
+        ]),
+      );
+    }
+
+pub entering-more : (edges old new : List Edge) (oids : List Oid) (place : ℕ) (d : Oid) → place < length oids
+    → AreEntering edges (take place oids) old → ExtendsBy (ListsEntering edges (get_or oids place d) None) old new
+    → AreEntering edges (take (place + 1) oids) new
+entering-more edges old new oids place d lt sofar longer =
+    rw (take_more oids place d lt) (entering-front edges old new (take place oids) (get_or oids place d) sofar longer)
+
+-- the edges that are not lost
+pub kept-none : (lost : List Edge) → AreKept [] lost []
+kept-none lost = record {
+  exact = λ edge. (λ at. absurd (Contains-none edge at), λ h. absurd (Contains-none edge h.0));
+}
+
+-- where the lost edges were put in order
+pub kept-sorted : (edges lost sorted kept : List Edge) → ((edge : Edge) → Contains sorted edge ↔ Contains lost edge)
+    → AreKept edges sorted kept → AreKept edges lost kept
+kept-sorted edges lost sorted kept members keeps = record {
+  exact = λ edge. (
+    λ at. (let h = (keeps.exact edge).0 at in (h.0, λ gone. h.1 ((members edge).1 gone))),
+    λ h. (keeps.exact edge).1 (h.0, λ gone. h.1 ((members edge).0 gone)),
+  );
+}
+
+module _ (front lost kept : List Edge) (next : Edge) (sofar : AreKept front lost kept) where
+  kept-pushed : (Contains lost next → ⊥) → AreKept (front ++ next ∷ []) lost (kept ++ next ∷ [])
+  kept-pushed stays = record {
+    exact = λ edge. (
+      λ at. elim ((in-more kept next edge).0 at) [
+        | inl early ↦
+            let h = (sofar.exact edge).0 early in
+            ((in-more front next edge).1 (inl h.0), h.1)
+        | inr same ↦ (
+          (in-more front next edge).1 (inr same),
+          subst (λ (e : Edge). Contains lost e → ⊥) same stays,
+        )
+      ],
+      λ h. (in-more kept next edge).1 (elim ((in-more front next edge).0 h.0) [
+        | inl early ↦ inl ((sofar.exact edge).1 (early, h.1))
+        | inr same ↦ inr same
+      ]),
+    );
+  }
+
+  kept-skipped : Contains lost next → AreKept (front ++ next ∷ []) lost kept
+  kept-skipped gone = record {
+    exact = λ edge. (
+      λ at. (let h = (sofar.exact edge).0 at in ((in-more front next edge).1 (inl h.0), h.1)),
+      λ h. elim ((in-more front next edge).0 h.0) [
+        | inl early ↦ (sofar.exact edge).1 (early, h.1)
+        | inr same ↦ absurd (h.1 (Contains-same lost next edge same gone))
+      ],
+    );
+  }
+
+module _ (edges lost kept : List Edge) (place : ℕ) (d : Edge) (lt : place < length edges)
+    (sofar : AreKept (take place edges) lost kept) where
+  pub kept-more : (longer : List Edge) → longer ≡ kept ++ get_or edges place d ∷ []
+      → (Contains lost (get_or edges place d) → ⊥) → AreKept (take (place + 1) edges) lost longer
+  kept-more longer is stays =
+      rw (take_more edges place d lt, is) (kept-pushed (take place edges) lost kept (get_or edges place d) sofar stays)
+
+  pub kept-less : Contains lost (get_or edges place d) → AreKept (take (place + 1) edges) lost kept
+  kept-less gone =
+      rw (take_more edges place d lt) (kept-skipped (take place edges) lost kept (get_or edges place d) sofar gone)
+
+-- the pairs that move
+pub moving-none : (others : List Pair) (given : List Oid) → AreSetOf pair_cmp (IsMoving [] others given) []
+moving-none others given =
+    set-none pair_cmp (IsMoving [] others given) (λ pair moves. Contains-none pair moves.0)
+
+module _ (front others : List Pair) (given : List Oid) (moving : List Pair) (next : Pair)
+    (sofar : AreSetOf pair_cmp (IsMoving front others given) moving) where
+  moving-pushed : ((pair : Pair) → Contains front pair → pair_cmp pair next ≡ Less)
+      → Contains given next.object ⊎ (Contains others next → ⊥)
+      → AreSetOf pair_cmp (IsMoving (front ++ next ∷ []) others given) (moving ++ next ∷ [])
+  moving-pushed below moves =
+      set-more pair_cmp (IsMoving front others given) (IsMoving (front ++ next ∷ []) others given) moving next sofar
+      (λ pair h. below pair h.0) (λ pair. (
+        λ h. elim ((in-more front next pair).0 h.0) [ inl early ↦ inl (early, h.1) | inr same ↦ inr same ],
+        λ either. elim either [
+          | inl h ↦ ((in-more front next pair).1 (inl h.0), h.1)
+          | inr same ↦ (
+            (in-more front next pair).1 (inr same),
+            subst (λ (p : Pair). Contains given p.object ⊎ (Contains others p → ⊥)) same moves,
+          )
+        ],
+      ))
+
+  moving-skipped : (Contains given next.object → ⊥) → Contains others next
+      → AreSetOf pair_cmp (IsMoving (front ++ next ∷ []) others given) moving
+  moving-skipped not_given there =
+      set-same pair_cmp (IsMoving front others given) (IsMoving (front ++ next ∷ []) others given) moving sofar
+      (λ pair. (
+        λ h. elim ((in-more front next pair).0 h.0) [
+          | inl early ↦ (early, h.1)
+          | inr same ↦ absurd (elim h.1 [
+            | inl is_given ↦ not_given (subst (λ (p : Pair). Contains given p.object) (sym same) is_given)
+            | inr away ↦ away (Contains-same others next pair same there)
+          ])
+        ],
+        λ h. ((in-more front next pair).1 (inl h.0), h.1),
+      ))
+
+module _ (pairs others : List Pair) (given : List Oid) (moving : List Pair) (place : ℕ) (d : Pair) (lt : place < length pairs)
+    (sofar : AreSetOf pair_cmp (IsMoving (take place pairs) others given) moving) where
+  pub moving-more : Ascends pair_cmp pairs → (longer : List Pair) → longer ≡ moving ++ get_or pairs place d ∷ []
+      → Contains given (get_or pairs place d).object ⊎ (Contains others (get_or pairs place d) → ⊥)
+      → AreSetOf pair_cmp (IsMoving (take (place + 1) pairs) others given) longer
+  moving-more ascend longer is moves =
+      rw (take_more pairs place d lt, is)
+      (moving-pushed (take place pairs) others given moving (get_or pairs place d) sofar
+      (below-next pair_cmp pairs ascend place d lt) moves)
+
+  pub moving-less : (Contains given (get_or pairs place d).object → ⊥) → Contains others (get_or pairs place d)
+      → AreSetOf pair_cmp (IsMoving (take (place + 1) pairs) others given) moving
+  moving-less not_given there =
+      rw (take_more pairs place d lt)
+      (moving-skipped (take place pairs) others given moving (get_or pairs place d) sofar not_given there)

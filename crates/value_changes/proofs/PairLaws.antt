@@ -1,0 +1,68 @@
+-- Objects, edges and pairs that compare as equal are one, and the pairs of edges.
+use Rattle.std.proofs.Common.{◌≡◌, ◌↔◌, ◌&&◌, ◌==◌, true, List, ◌++◌, map, Contains, refl, ap, subst, inl, inr, arith}
+use Rattle.std.proofs.lemmas.Bool.Decides.{nat_tests, Decides-eqb}
+use Rattle.std.proofs.lemmas.List.Elements.{Contains-append_left, Contains-append_right, Contains-append_cases}
+use Rattle.lore_base.specs.Walks.{edge_of}
+use Rattle.lore_base.proofs.MemberLaws.{Contains-same}
+use Rattle.oem_changes.proofs.ClosureLaws.{Contains-mapped, mapped_from}
+use Rattle.oem_changes.proofs.ToldLaws.{IsTold, told_by, told_same, told_both, told_oid}
+use Rattle.value_changes.specs.Types.{Oid, Edge}
+use Rattle.value_changes.specs.declared.pairs.Pair.{Pair}
+use Rattle.value_changes.specs.inside.Pairs.{pair_of, AreKept, IsPairOf, IsThere}
+
+pub same_oid : (a b : Oid) → (a.0 == b.0) ≡ true → a ≡ b
+same_oid a b h =
+    let number : a.0 ≡ b.0 = grind (arith, nat_tests) in
+    λ i. record { 0 = number i }
+
+pub same_pair : (a b : Pair) → ((a.label.0 == b.label.0) && (a.object.0 == b.object.0)) ≡ true → a ≡ b
+same_pair a b h =
+    let label : a.label.0 ≡ b.label.0 = grind (arith, nat_tests) in
+    let object : a.object.0 ≡ b.object.0 = grind (arith, nat_tests) in
+    λ i. record { label = record { 0 = label i }; object = record { 0 = object i } }
+
+pub same_edge : (a b : Edge)
+    → ((a.parent.0 == b.parent.0) && ((a.label.0 == b.label.0) && (a.child.0 == b.child.0))) ≡ true → a ≡ b
+same_edge a b h =
+    let parent : a.parent.0 ≡ b.parent.0 = grind (arith, nat_tests) in
+    let label : a.label.0 ≡ b.label.0 = grind (arith, nat_tests) in
+    let child : a.child.0 ≡ b.child.0 = grind (arith, nat_tests) in
+    λ i. record { parent = record { 0 = parent i }; label = record { 0 = label i }; child = record { 0 = child i } }
+
+pub told_pair : (a b : Pair) → IsTold (a ≡ b)
+told_pair a b =
+    told_same
+    (λ same. λ i. record { label = record { 0 = same.0 i }; object = same.1 i })
+    (λ same. (ap (λ (pair : Pair). pair.label.0) same, ap (λ (pair : Pair). pair.object) same))
+    (told_both (told_by (a.label.0 == b.label.0) (Decides-eqb a.label.0 b.label.0)) (told_oid a.object b.object))
+
+-- the pair of an edge is that of an edge from the same parent, by its label to its object
+pub entered : (Passes : Edge → Type 0) (pair : Pair)
+    → IsPairOf Passes pair ↔ ((parent : Oid) × Passes (edge_of parent pair.label pair.object))
+entered Passes pair = (
+  λ h. (h.0.parent, subst (λ (p : Pair). Passes (edge_of h.0.parent p.label p.object)) h.2 h.1),
+  λ h. (edge_of h.0 pair.label pair.object, h.1, refl),
+)
+
+pub paired : (edges : List Edge) (pair : Pair) → Contains (map pair_of edges) pair ↔ IsPairOf (Contains edges) pair
+paired edges pair = (
+  λ at. mapped_from pair_of edges pair at,
+  λ h. Contains-same (map pair_of edges) (pair_of h.0) pair h.2 (Contains-mapped pair_of edges h.0 h.1),
+)
+
+-- the pairs of edges that are kept, and of those that are fresh
+pub paired_then : (entering lost fresh kept : List Edge) → AreKept entering lost kept → (pair : Pair)
+    → Contains (map pair_of kept ++ map pair_of fresh) pair ↔ IsPairOf (IsThere entering lost fresh) pair
+paired_then entering lost fresh kept keeps pair = (
+  λ at. elim (Contains-append_cases (map pair_of kept) (map pair_of fresh) pair at) [
+    | inl first ↦ (let h = (paired kept pair).0 first in (h.0, inr ((keeps.exact h.0).0 h.1), h.2))
+    | inr second ↦ (let h = (paired fresh pair).0 second in (h.0, inl h.1, h.2))
+  ],
+  λ h. elim h.1 [
+    | inl new ↦
+        Contains-append_right (map pair_of kept) (map pair_of fresh) pair ((paired fresh pair).1 (h.0, new, h.2))
+    | inr stays ↦
+        Contains-append_left (map pair_of kept) (map pair_of fresh) pair
+        ((paired kept pair).1 (h.0, (keeps.exact h.0).1 stays, h.2))
+  ],
+)

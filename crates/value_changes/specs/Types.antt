@@ -1,0 +1,7 @@
+-- The declared types that the definitions of this crate cite.
+pub use Rattle.lore_base.specs.declared.edges.Oid.{Oid}
+pub use Rattle.lore_base.specs.declared.edges.Label.{Label}
+pub use Rattle.lore_base.specs.declared.edges.Edge.{Edge}
+pub use Rattle.lore_base.specs.declared.values.Value.{Value}
+pub use Rattle.lore_base.specs.declared.values.Value.TheVariants.{Whole, Chars, Complex}
+pub use Rattle.index_traits.specs.declared.entries.ValueEntry.{ValueEntry}

@@ -1,0 +1,50 @@
+ghost use Rattle.std.specs.Prelude.{◌≡◌, ◌≢◌, Some, Contains, IfSome, IfOk};
+ghost use Rattle.std.specs.Option.{option_copied};
+ghost use Rattle.index_traits.specs.Entries.{entry_cmp};
+ghost use Rattle.value_changes.specs.Types.{Value as TheValue, Complex};
+ghost use Rattle.sorted_list.specs.SortedLists.{Ascends};
+ghost use Rattle.value_changes.specs.inside.Sets.{AreSetOf};
+ghost use Rattle.value_changes.specs.inside.Pairs.{pair_cmp};
+ghost use Rattle.value_changes.specs.inside.PairEntries.{IsPairEntry};
+
+use crate::pairs::Pair;
+use index_traits::{EntryList, ValueEntry, ValueOf};
+use lore_base::{NoMemory, Oid, TryCopy, Value};
+use std::alloc::Global;
+
+// The entries of the pairs whose objects have atomic values, in the same order.
+pub(crate) fn entries_of<V: ValueOf>(
+    alloc: Global,
+    pairs: &[Pair],
+    values: &V,
+) -> Result<EntryList, NoMemory>
+    requires { Ascends pair_cmp pairs.now }
+    ensures { IfOk result
+        (λ entries. AreSetOf entry_cmp (IsPairEntry (V.objects values.now) pairs.now) entries) }
+{
+    let mut entries = EntryList::new(alloc);
+    'pairs: for pair in pairs {
+        if let Some(value) = atomic_value(values, pair.object) {
+            entries.push(ValueEntry {
+                label: pair.label,
+                value: value.try_copy(alloc)?,
+                object: pair.object,
+            })?;
+        }
+    }
+    Ok(entries)
+}
+
+// The object's value, where it has one that is atomic.
+fn atomic_value<V: ValueOf>(values: &V, oid: Oid) -> Option<&Value>
+    ensures found { IfSome result (λ value. Contains (V.objects values.now) (oid, value.now)) }
+    ensures atomic { IfSome result (λ value. value.now ≢ Complex) }
+    ensures only { (value : TheValue) → Contains (V.objects values.now) (oid, value)
+        → value ≢ Complex → option_copied result ≡ Some value }
+{
+    let value = values.value_of(oid)?;
+    match value {
+        Value::Complex => None,
+        _ => Some(value),
+    }
+}

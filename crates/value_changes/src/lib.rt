@@ -1,0 +1,12 @@
+//! Which value entries go and which come where edges are lost or fresh and values are given.
+//!
+//! Looked at are the objects alone that such an edge enters or such a value is given to.
+#![tactic(auto)]
+
+pub use differences::{EntryChanges, GraphChanges, entry_changes};
+
+mod bisection;
+mod differences;
+mod entries;
+mod pairs;
+mod touched;

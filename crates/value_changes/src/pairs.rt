@@ -1,0 +1,120 @@
+ghost use Rattle.std.specs.Prelude.{◌≡◌, ◌++◌, map, Contains, IfOk, OnOk};
+ghost use Rattle.lore_base.specs.Walks.{edge_cmp};
+ghost use Rattle.sorted_list.specs.SortedLists.{Ascends};
+ghost use Rattle.value_changes.specs.inside.Sets.{AreSetOf};
+ghost use Rattle.value_changes.specs.inside.Touched.{oid_cmp};
+ghost use Rattle.value_changes.specs.inside.Pairs.{pair_cmp, pair_of, AreEntering, AreKept};
+ghost use Rattle.value_changes.specs.inside.Pairs.{IsPairOf, IsThere, IsMoving};
+
+use crate::bisection::is_among;
+use index_traits::Links;
+use lore_base::{Edge, EdgeBuf, Label, Listing, NoMemory, Oid, Steps};
+use std::alloc::Global;
+use std::sync::ledger::Ledger;
+
+// A label and an object that an edge with the label enters.
+#[derive(Clone, Copy, PartialEq, Eq, PartialOrd, Ord)]
+pub(crate) struct Pair {
+    pub(crate) label: Label,
+    pub(crate) object: Oid,
+}
+
+pub(crate) type PairList = Listing<Pair>;
+
+// The edges that enter these objects.
+pub(crate) fn entering_edges<K: Links, L: Ledger>(
+    alloc: Global,
+    links: &K,
+    oids: &[Oid],
+    steps: &mut Steps<L>,
+) -> Result<EdgeBuf, NoMemory>
+    ensures { IfOk result (λ edges. AreEntering (K.edges links.now) oids.now edges) }
+{
+    let mut edges = EdgeBuf::new(alloc);
+    'oids: for oid in oids {
+        links.parents(*oid, None, &mut edges, steps)?;
+    }
+    Ok(edges)
+}
+
+// The pairs of these edges, ascending, each once.
+pub(crate) fn pairs_before(alloc: Global, entering: &[Edge]) -> Result<PairList, NoMemory>
+    ensures { IfOk result
+        (λ pairs. AreSetOf pair_cmp (IsPairOf (Contains entering.now)) pairs) }
+{
+    let mut pairs = PairList::with_capacity(alloc, entering.len())?;
+    add_pairs(&mut pairs, entering)?;
+    pairs.sort_set();
+    Ok(pairs)
+}
+
+// The pairs of these edges less those that are lost, and of the fresh ones, ascending, each once.
+pub(crate) fn pairs_then(
+    alloc: Global,
+    entering: &[Edge],
+    lost: &[Edge],
+    fresh: &[Edge],
+) -> Result<PairList, NoMemory>
+    ensures { IfOk result (λ pairs. AreSetOf pair_cmp
+        (IsPairOf (IsThere entering.now lost.now fresh.now)) pairs) }
+{
+    let mut sorted = EdgeBuf::new(alloc);
+    sorted.append(lost)?;
+    sorted.sort_set();
+    let kept = kept_edges(alloc, entering, sorted.as_slice())?;
+    let mut pairs = PairList::new(alloc);
+    add_pairs(&mut pairs, kept.as_slice())?;
+    add_pairs(&mut pairs, fresh)?;
+    pairs.sort_set();
+    Ok(pairs)
+}
+
+// Puts the pairs of the edges behind those that are there.
+fn add_pairs(pairs: &mut PairList, edges: &[Edge]) -> Result<(), NoMemory>
+    ensures { OnOk result (pairs.new ≡ pairs.old ++ map pair_of edges.now) }
+{
+    'edges: for edge in edges {
+        pairs.push(Pair {
+            label: edge.label,
+            object: edge.child,
+        })?;
+    }
+    Ok(())
+}
+
+// The edges that aren't lost.
+fn kept_edges(alloc: Global, edges: &[Edge], lost: &[Edge]) -> Result<EdgeBuf, NoMemory>
+    requires { Ascends edge_cmp lost.now }
+    ensures { IfOk result (λ kept. AreKept edges.now lost.now kept) }
+{
+    let mut kept = EdgeBuf::new(alloc);
+    'edges: for edge in edges {
+        if !is_among(lost, edge) {
+            kept.push(*edge)?;
+        }
+    }
+    Ok(kept)
+}
+
+// The pairs that don't stand among the others, and those whose objects were given values, in the
+// same order.
+pub(crate) fn moving_pairs(
+    alloc: Global,
+    pairs: &[Pair],
+    others: &[Pair],
+    given: &[Oid],
+) -> Result<PairList, NoMemory>
+    requires pairs { Ascends pair_cmp pairs.now }
+    requires others { Ascends pair_cmp others.now }
+    requires given { Ascends oid_cmp given.now }
+    ensures { IfOk result
+        (λ moving. AreSetOf pair_cmp (IsMoving pairs.now others.now given.now) moving) }
+{
+    let mut moving = PairList::new(alloc);
+    'pairs: for pair in pairs {
+        if is_among(given, &pair.object) || !is_among(others, pair) {
+            moving.push(*pair)?;
+        }
+    }
+    Ok(moving)
+}

@@ -1,0 +1,12 @@
+pub mod ListLaws
+pub mod InsertLaws
+pub mod KeyLaws
+pub mod CompareLaws
+pub mod RunLaws
+pub mod FoundLaws
+pub mod OrderLaws
+pub mod SplitLaws
+pub mod ChangeLaws
+pub mod CountLaws
+pub mod ProbeLaws
+pub mod IndexLaws

@@ -1,0 +1,246 @@
+-- The run of a label, an operator and a key among ascending entries: one piece of them.
+use Rattle.std.proofs.Common.{◌≡◌, ◌≢◌, ◌↔◌, AllPairs, Contains, ℕ, ◌+◌, ◌<◌, ◌≤◌, Bool, true, false, nat_eq, nat_cmp}
+use Rattle.std.proofs.Common.{Less, Equal, Greater, List, [], ◌∷◌, ◌++◌, length, get_or, take, drop, All, refl, sym}
+use Rattle.std.proofs.Common.{ap, subst, ◌∙◌, inl, inr, arith, length-take, length-drop}
+use Rattle.std.specs.declared.cmp.Ordering.{Ordering}
+use Rattle.std.specs.Ordering.{ordering_then, ordering_index, is_eq}
+use Rattle.std.specs.Cmp.{IsTotalOrder}
+use Rattle.std.specs.List.{filter, AllWithin}
+use Rattle.std.specs.List.Sorted.{IsNonDecreasingBy, IsPartitionedBy, IsPartitionPoint}
+use Rattle.std.proofs.lemmas.Bool.{cases_lt}
+use Rattle.std.proofs.lemmas.Bool.Decides.{nat_tests}
+use Rattle.std.proofs.lemmas.Cmp.{alike_right}
+use Rattle.std.proofs.lemmas.List.{append-nil, get_or-take, get_or-drop, take-append-drop}
+use Rattle.std.proofs.lemmas.List.Elements.{All-tail, filter-append}
+use Rattle.value_index.specs.Types.{Oid, Label, Value, Op, Eq, Ne, Lt, Le, Gt, Ge, Like, Entry}
+use Rattle.value_index.specs.inside.Runs.{key_cmp, AscendByKey, side_of, side_in, run_in, IsRun, objects_in}
+use Rattle.value_index.specs.inside.Orders.{keyed}
+use Rattle.lore_base.specs.Comparisons.{Admits, Compares}
+use Rattle.lore_base.proofs.MemberLaws.{Contains-same, Contains-filter, unfiltered}
+use Rattle.index_traits.specs.Entries.{IsProbed}
+use Rattle.std.proofs.lemmas.Cmp.{tied_itself}
+use Rattle.std.proofs.lemmas.List.{get_or-map, length-map}
+use Rattle.std.proofs.lemmas.List.Elements.{Contains-get_or}
+use Rattle.std.proofs.lemmas.List.Kept.{AllPairs-filter}
+use Rattle.value_index.proofs.KeyLaws.{key_total, equal_is, first_same, rest_equal}
+use Rattle.value_index.proofs.ListLaws.{mapped, unmapped}
+
+-- a filter keeps a list whose items all pass, and nothing where none does
+filter-passed : {X : Type 0} (p : X → Bool) (xs : List X) → All (λ x. p x ≡ true) xs → filter p xs ≡ xs
+filter-passed p [] h = refl
+filter-passed p (x ∷ xs) h =
+    rw (h 0 x (omega arith)) (ap (λ l. x ∷ l) (filter-passed p xs (All-tail (λ y. p y ≡ true) x xs h)))
+
+filter-failed : {X : Type 0} (p : X → Bool) (xs : List X) → All (λ x. p x ≡ false) xs → filter p xs ≡ []
+filter-failed p [] h = refl
+filter-failed p (x ∷ xs) h =
+    rw (h 0 x (omega arith)) (filter-failed p xs (All-tail (λ y. p y ≡ false) x xs h))
+
+All-front : {X : Type 0} (P : X → Type 0) (xs : List X) (n : ℕ) → AllWithin P xs 0 n → All P (take n xs)
+All-front P xs n h k d lt =
+    let below : k < n = omega (arith, length-take n xs) in
+    subst P (sym (get_or-take n xs k d below)) (h k d (omega arith) below)
+
+All-back : {X : Type 0} (P : X → Type 0) (xs : List X) (n : ℕ) → AllWithin P xs n (length xs) → All P (drop n xs)
+All-back P xs n h k d lt =
+    subst P (sym (get_or-drop n xs k d)) (h (n + k) d (omega arith) (omega (arith, length-drop n xs)))
+
+-- which side it is, by its number
+in_test : (o : Ordering) → nat_eq (ordering_index o) 1 ≡ true → is_eq o ≡ true
+in_test Less h = h
+in_test Equal h = refl
+in_test Greater h = h
+
+before_test : (o : Ordering) → nat_eq (ordering_index o) 0 ≡ true → is_eq o ≡ false
+before_test Less h = refl
+before_test Equal h = sym h
+before_test Greater h = refl
+
+out_test : (o : Ordering) → nat_eq (ordering_index o) 1 ≡ false → is_eq o ≡ false
+out_test Less h = refl
+out_test Equal h = h
+out_test Greater h = refl
+
+module _ {X : Type 0} (side : X → Ordering) (xs : List X) where
+  pub parted_before : IsNonDecreasingBy (λ x. ordering_index (side x)) xs
+      → IsPartitionedBy (λ x. nat_eq (ordering_index (side x)) 0) xs
+  parted_before rise i j d le lt at = let up = rise i j d le lt in grind (arith, nat_tests)
+
+  -- what stands from the first item on that isn't before the run
+  pub parted_in : IsNonDecreasingBy (λ x. ordering_index (side x)) xs
+      → (start : ℕ) → AllWithin (λ x. nat_eq (ordering_index (side x)) 0 ≡ false) xs start (length xs)
+      → IsPartitionedBy (λ x. nat_eq (ordering_index (side x)) 1) (drop start xs)
+  parted_in rise start none_before i j d le lt at =
+      let inside : start + j < length xs = omega (arith, length-drop start xs) in
+      let up = rise (start + i) (start + j) d (omega arith) inside in
+      let low = none_before (start + i) d (omega arith) (omega arith) in
+      let high = rw (get_or-drop start xs j d) at at in
+      rw (get_or-drop start xs i d) (grind (arith, nat_tests))
+
+  -- the items from there up to the first of these that is not in the run
+  pub run_is : (start len : ℕ)
+      → IsPartitionPoint (λ x. nat_eq (ordering_index (side x)) 0 ≡ true) (λ x. nat_eq (ordering_index (side x)) 0 ≡ false) xs start
+      → IsPartitionPoint (λ x. nat_eq (ordering_index (side x)) 1 ≡ true) (λ x. nat_eq (ordering_index (side x)) 1 ≡ false) (drop start xs) len
+      → take len (drop start xs) ≡ filter (λ x. is_eq (side x)) xs
+  run_is start len low high =
+      let rest = drop start xs in
+      let p : X → Bool = λ x. is_eq (side x) in
+      let before : filter p (take start xs) ≡ [] =
+      filter-failed p (take start xs) (λ k d lt. before_test _ (All-front (λ x. nat_eq (ordering_index (side x)) 0 ≡ true) xs start low.0 k d lt)) in
+      let behind : filter p (drop len rest) ≡ [] =
+      filter-failed p (drop len rest) (λ k d lt. out_test _ (All-back (λ x. nat_eq (ordering_index (side x)) 1 ≡ false) rest len high.1 k d lt)) in
+      let run : filter p (take len rest) ≡ take len rest =
+      filter-passed p (take len rest) (λ k d lt. in_test _ (All-front (λ x. nat_eq (ordering_index (side x)) 1 ≡ true) rest len high.0 k d lt)) in
+      let parts : filter p xs ≡ filter p (take start xs) ++ filter p rest = ap (filter p) (sym (take-append-drop start xs)) ∙ filter-append p (take start xs) rest in
+      let parts_rest : filter p rest ≡ filter p (take len rest) ++ filter p (drop len rest) = ap (filter p) (sym (take-append-drop len rest)) ∙ filter-append p (take len rest) (drop len rest) in
+      sym (parts ∙ ap (λ l. l ++ filter p rest) before ∙ parts_rest ∙ ap (λ l. filter p (take len rest) ++ l) behind ∙ append-nil _ ∙ run)
+
+-- sides rise with the order that the operator asks for
+side_of-rises : (op : Op) (o p : Ordering) → ordering_index o ≤ ordering_index p → ordering_index (side_of op o) ≤ ordering_index (side_of op p)
+side_of-rises op o p h = grind arith
+
+side_of-kept : (op : Op) (o p : Ordering) → o ≡ p → ordering_index (side_of op o) ≤ ordering_index (side_of op p)
+side_of-kept op o p same = rw same (omega arith)
+
+-- labels that do not fall come first
+labels_rise : (p q n : ℕ) (o first second : Ordering) → ordering_then (nat_cmp p q) o ≡ Less
+    → (o ≡ Less → ordering_index first ≤ ordering_index second)
+    → ordering_index (ordering_then (nat_cmp p n) first) ≤ ordering_index (ordering_then (nat_cmp q n) second)
+labels_rise p q n o first second less later = grind (arith, nat_tests)
+
+module _ {K : Type 0} (cmp : K → K → Ordering) (total : IsTotalOrder cmp) where
+  -- keys that do not fall compare with another so that these orders do not fall
+  key_rises : (a b key : K) → cmp a b ≡ Less → ordering_index (cmp a key) ≤ ordering_index (cmp b key)
+  key_rises a b key less =
+      elim (cmp b key) as (λ o. cmp b key ≡ o → ordering_index (cmp a key) ≤ ordering_index o) [
+        | Less ↦ λ is. omega (arith, ap ordering_index (total.trans a b key less is))
+        | Equal ↦ λ is. omega (arith, ap ordering_index (sym (alike_right total b key a is) ∙ less))
+        | Greater ↦ λ is. elim (cmp a key) as (λ o. ordering_index o ≤ 2) [ Less ↦ omega arith | Equal ↦ omega arith | Greater ↦ omega arith ]
+      ] refl
+
+  module _ (label : Label) (op : Op) (key : K) where
+    keys_rise : (a b : K) (o : Ordering) → ordering_then (cmp a b) o ≡ Less
+        → ordering_index (side_of op (cmp a key)) ≤ ordering_index (side_of op (cmp b key))
+    keys_rise a b o h =
+        elim (cmp a b) as (λ p. cmp a b ≡ p → ordering_then p o ≡ Less → ordering_index (side_of op (cmp a key)) ≤ ordering_index (side_of op (cmp b key))) [
+          | Less ↦ λ is _. side_of-rises op (cmp a key) (cmp b key) (key_rises a b key is)
+          | Equal ↦ λ is _. side_of-kept op (cmp a key) (cmp b key) (total.congr a b key is)
+          | Greater ↦ λ _ not_less. absurd (omega (arith, ap ordering_index not_less))
+        ] refl h
+
+    side_rises : (a b : Entry K) → key_cmp cmp a b ≡ Less
+        → ordering_index (side_in cmp label op key a) ≤ ordering_index (side_in cmp label op key b)
+    side_rises a b less =
+        labels_rise a.label.0 b.label.0 label.0 (ordering_then (cmp a.key b.key) (nat_cmp a.object.0 b.object.0))
+        (side_of op (cmp a.key key)) (side_of op (cmp b.key key)) less (keys_rise a.key b.key (nat_cmp a.object.0 b.object.0))
+
+    pub sides_rise : (entries : List (Entry K)) → AscendByKey cmp entries
+        → IsNonDecreasingBy (λ entry. ordering_index (side_in cmp label op key entry)) entries
+    sides_rise entries ascend i j d le lt = elim (cases_lt i j) [
+      | inl before ↦ side_rises (get_or entries i d) (get_or entries j d) (ascend i j d before lt)
+      | inr ge ↦ let same : i ≡ j = omega arith in omega (arith, ap (λ k. ordering_index (side_in cmp label op key (get_or entries k d))) same)
+    ]
+
+-- Which entries stand in a run.
+
+admits_in : (op : Op) → IsProbed op → (order : Ordering) → side_of op order ≡ Equal → Admits op order
+admits_in Eq probed order h = h
+admits_in Ne probed order h = absurd (probed.no_other refl)
+admits_in Lt probed Less h = refl
+admits_in Lt probed Equal h = absurd (cc)
+admits_in Lt probed Greater h = absurd (cc)
+admits_in Le probed Less h = λ other. absurd (cc)
+admits_in Le probed Equal h = λ other. absurd (cc)
+admits_in Le probed Greater h = absurd (cc)
+admits_in Gt probed Less h = absurd (cc)
+admits_in Gt probed Equal h = absurd (cc)
+admits_in Gt probed Greater h = refl
+admits_in Ge probed Less h = absurd (cc)
+admits_in Ge probed Equal h = λ other. absurd (cc)
+admits_in Ge probed Greater h = λ other. absurd (cc)
+admits_in Like probed order h = absurd (probed.no_pattern refl)
+
+in_admits : (op : Op) → (order : Ordering) → IsProbed op → Admits op order → side_of op order ≡ Equal
+in_admits Eq order probed h = h
+in_admits Ne order probed h = absurd (probed.no_other refl)
+in_admits Lt Less probed h = refl
+in_admits Lt Equal probed h = absurd (cc)
+in_admits Lt Greater probed h = absurd (cc)
+in_admits Le Less probed h = refl
+in_admits Le Equal probed h = refl
+in_admits Le Greater probed h = absurd (h refl)
+in_admits Gt Less probed h = absurd (cc)
+in_admits Gt Equal probed h = absurd (cc)
+in_admits Gt Greater probed h = refl
+in_admits Ge Less probed h = absurd (h refl)
+in_admits Ge Equal probed h = refl
+in_admits Ge Greater probed h = refl
+in_admits Like order probed h = absurd h
+
+both_are : (p q : ℕ) (o : Ordering) → p ≡ q → o ≡ Equal → is_eq (ordering_then (nat_cmp p q) o) ≡ true
+both_are p q o same equal = grind (arith, nat_tests)
+
+module _ {K : Type 0} (cmp : K → K → Ordering) (value_of : K → Value) (label : Label) (op : Op) (value : Value) (entries : List (Entry K)) where
+  -- a run that was bisected holds what compares so
+  pub run-found : (probed : IsProbed op) (ascend : AscendByKey cmp entries) (key : K)
+      → ((own : K) → Compares (value_of own) op value ↔ Admits op (cmp own key))
+      → (run : List (Entry K)) → run ≡ run_in cmp label op key entries → IsRun cmp value_of label op value entries run
+  run-found probed ascend key compares run is = rw is (record {
+    ascend = AllPairs-filter (λ a b. key_cmp cmp a b ≡ Less) (λ entry. is_eq (side_in cmp label op key entry)) entries ascend;
+    members = λ entry. (
+      λ at. (
+          let kept = unfiltered (λ e. is_eq (side_in cmp label op key e)) entries entry at in
+          let side = equal_is (side_in cmp label op key entry) kept.1 in
+          let number : entry.label.0 ≡ label.0 = first_same _ _ (side_of op (cmp entry.key key)) side in
+          let order : side_of op (cmp entry.key key) ≡ Equal = rest_equal (nat_cmp entry.label.0 label.0) _ side in
+          (kept.0, ap (λ n. record { 0 = n }) number, (compares entry.key).1 (admits_in op probed (cmp entry.key key) order))),
+      λ is. Contains-filter (λ e. is_eq (side_in cmp label op key e)) entries entry is.0
+          (both_are entry.label.0 label.0 (side_of op (cmp entry.key key)) (ap (λ (l : Label). l.0) is.1)
+          (in_admits op (cmp entry.key key) probed ((compares entry.key).0 is.2))),
+    );
+  })
+
+  module _ (run : List (Entry K)) (is : IsRun cmp value_of label op value entries run) where
+    -- the objects of a run
+    pub run-objects : (oid : Oid) → Contains (objects_in run) oid ↔ ((key : K) × Contains entries (keyed label key oid) × Compares (value_of key) op value)
+    run-objects oid = (
+      λ at. (
+          let entry = unmapped (λ (e : Entry K). e.object) run oid at in
+          let held = (is.members entry.0).0 entry.1 in
+          let same : entry.0 ≡ keyed label entry.0.key oid = λ i. record { label = held.1 i; key = entry.0.key; object = entry.2 i } in
+          (entry.0.key, Contains-same entries entry.0 _ same held.0, held.2)),
+      λ found. mapped (λ (e : Entry K). e.object) run (keyed label found.0 oid) ((is.members (keyed label found.0 oid)).1 (found.1, refl, found.2)),
+    )
+
+    apart : IsTotalOrder cmp
+        → ((oid : Oid) (a b : K) → Contains entries (keyed label a oid) → Contains entries (keyed label b oid) → a ≡ b)
+        → (i j : ℕ) (e : Entry K) → i < j → j < length run → (get_or run i e).object ≡ (get_or run j e).object → ⊥
+    apart total one i j e lt len same =
+        let a = get_or run i e in
+        let b = get_or run j e in
+        let first = (is.members a).0 (Contains-get_or run i e (omega (arith, lt, len))) in
+        let second = (is.members b).0 (Contains-get_or run j e len) in
+        let a_is : a ≡ keyed label a.key b.object = λ k. record { label = first.1 k; key = a.key; object = same k } in
+        let b_is : b ≡ keyed label b.key b.object = λ k. record { label = second.1 k; key = b.key; object = b.object } in
+        let keys : a.key ≡ b.key = one b.object a.key b.key (Contains-same entries a _ a_is first.0) (Contains-same entries b _ b_is second.0) in
+        let entry : a ≡ b = a_is ∙ ap (λ k. keyed label k b.object) keys ∙ sym b_is in
+        let less : key_cmp cmp a b ≡ Less = is.ascend i j e lt len in
+        let equal : key_cmp cmp a b ≡ Equal = subst (λ x. key_cmp cmp a x ≡ Equal) entry (tied_itself (key_total cmp total) a) in
+        let none : Less ≡ Equal = sym less ∙ equal in
+        absurd (cc)
+
+    once_at : IsTotalOrder cmp
+        → ((oid : Oid) (a b : K) → Contains entries (keyed label a oid) → Contains entries (keyed label b oid) → a ≡ b)
+        → (i j : ℕ) (d : Oid) → i < j → j < length (objects_in run) → (e : Entry K) → get_or (objects_in run) i d ≢ get_or (objects_in run) j d
+    once_at total one i j d lt len e =
+        let inside : j < length run = omega (arith, len, length-map run (λ (e : Entry K). e.object)) in
+        rw (get_or-map (λ (e : Entry K). e.object) run i e d (omega (arith, lt, inside)), get_or-map (λ (e : Entry K). e.object) run j e d inside)
+        (apart total one i j e lt inside)
+
+    -- each of them once, where an object has one key
+    pub run-once : IsTotalOrder cmp
+        → ((oid : Oid) (a b : K) → Contains entries (keyed label a oid) → Contains entries (keyed label b oid) → a ≡ b)
+        → AllPairs (λ a b. a ≢ b) (objects_in run)
+    run-once total one i j d lt len =
+        let there = unmapped (λ (e : Entry K). e.object) run _ (Contains-get_or (objects_in run) j d len) in
+        once_at total one i j d lt len there.0

@@ -1,0 +1,9 @@
+use Rattle.std.proofs.Common.{◌≢◌, All, List, sym, subst, ap}
+use Rattle.value_index.specs.Types.{ValueEntry, Complex}
+use Rattle.value_index.proofs.ChangeLaws.{atomic_gone}
+use Rattle.value_index.proofs.value_index.ValueIndex.prepare.Goals as goal
+
+pub of-requires-clause-atomic : goal.of-requires-clause-atomic
+of-requires-clause-atomic c =
+    subst (λ (l : List ValueEntry). All (λ entry. entry.value ≢ Complex) l) (sym c.as_slice.ensures)
+    (atomic_gone c.self.inside.wholes.items c.self.inside.chars.items _ _ (ap (λ v. v.entries) c.self.view_is) c.requires.fits.change.kept_ones)

@@ -1,0 +1,5 @@
+-- Definitions that no public contract cites.
+pub mod Counted
+pub mod Matches
+pub mod Runs
+pub mod Orders
