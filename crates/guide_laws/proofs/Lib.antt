@@ -1,0 +1,5 @@
+pub mod ListLaws
+pub mod ClosedLists
+pub mod StepLaws
+pub mod TargetSetLaws
+pub mod SomeGuide
