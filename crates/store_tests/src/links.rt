@@ -50,8 +50,27 @@ fn parents(
     entering::<Brand>(alloc, store, oid, label, Blank::new(1))
 }
 
-// Runs the script, and compares what enters the text `&2` then, by any label, by `tag` and by
-// `lid`, and what enters `&3`.
+// Compares what enters the text `&2`, by any label, by `tag` and by `lid`, and what enters `&3`.
+fn compare(
+    rt: &impl Abort,
+    alloc: Global,
+    store: &Store,
+    wanted: [&[Numbers]; 4],
+) -> Result<(), Fail> {
+    let asked = [
+        (2, None),
+        (2, Some(Label(0))),
+        (2, Some(Label(2))),
+        (3, None),
+    ];
+    for ((oid, label), wanted) in asked.into_iter().zip(wanted) {
+        let found = parents(alloc, store, oid, label)?;
+        assert_eq!(rt; found.as_slice(), wanted, "{label:?} into {oid}");
+    }
+    Ok(())
+}
+
+// Runs the script, and compares what enters objects then.
 fn check(
     rt: &impl Abort,
     alloc: Global,
@@ -60,17 +79,7 @@ fn check(
 ) -> Result<(), Fail> {
     let ended = run(alloc, script)?;
     assert_eq!(rt; ended.outcome.refused, 0);
-    let asked = [
-        (2, None),
-        (2, Some(Label(0))),
-        (2, Some(Label(2))),
-        (3, None),
-    ];
-    for ((oid, label), wanted) in asked.into_iter().zip(wanted) {
-        let found = parents(alloc, ended.session.db().store(), oid, label)?;
-        assert_eq!(rt; found.as_slice(), wanted, "{label:?} into {oid}");
-    }
-    Ok(())
+    compare(rt, alloc, ended.session.db().store(), wanted)
 }
 
 // The labels `tag`, `box` and `lid` are 0, 1 and 2.

@@ -57,6 +57,22 @@ fn found(
     Ok((numbers_of(alloc, &oids)?, count as usize))
 }
 
+// Compares what each probe finds.
+fn compare(
+    rt: &impl Abort,
+    alloc: Global,
+    store: &Store,
+    probes: &[Probe],
+    wanted: &[&[u32]],
+) -> Result<(), Fail> {
+    for (probe, wanted) in probes.iter().zip(wanted) {
+        let (oids, count) = found(alloc, store, *probe)?;
+        assert_eq!(rt; oids.as_slice(), *wanted, "at {probe:?}");
+        assert_eq!(rt; count, wanted.len(), "at {probe:?}");
+    }
+    Ok(())
+}
+
 // Runs the script, of which so many statements are refused, and compares what each probe finds then.
 fn check(
     rt: &impl Abort,
@@ -68,15 +84,7 @@ fn check(
 ) -> Result<(), Fail> {
     let ended = run(alloc, script)?;
     assert_eq!(rt; ended.outcome.refused, refused);
-    for (probe, wanted) in probes.iter().zip(wanted) {
-        let (oids, count) = found(alloc, ended.session.db().store(), *probe)?;
-        assert_eq!(rt;
-            (oids.as_slice(), count),
-            (*wanted, wanted.len()),
-            "at {probe:?}"
-        );
-    }
-    Ok(())
+    compare(rt, alloc, ended.session.db().store(), probes, wanted)
 }
 
 // A text has two parents by one label, and loses one after the other; a third edge has another
