@@ -5,7 +5,7 @@ ghost use Rattle.index_traits.specs.Entries.{AreAscendingEntries, entry_cmp};
 
 use Atom::{Number, Text};
 use index_traits::{EntryList, ValueEntry, Values};
-use lore_base::{Label, NoMemory, OemText, Oid, OidBuf, Op, Value};
+use lore_base::{Label, NoMemory, OemText, Oid, OidBuf, Op, TryCopy, Value};
 use std::alloc::Global;
 use std::test::Fail;
 use value_index::NaiveValues;
@@ -143,5 +143,37 @@ fn probes_find_what_compares_so(rt: HostRuntime) -> Result<(), Fail> {
             "at {label} {op:?} {atom:?}"
         );
     }
+    Ok(())
+}
+
+fn is_text(value: &Value, bytes: &[u8]) -> bool {
+    match value {
+        Value::Chars(text) => text.as_bytes() == bytes,
+        _ => false,
+    }
+}
+
+fn is_number(value: &Value, number: i64) -> bool {
+    match value {
+        Value::Whole(own) => *own == number,
+        _ => false,
+    }
+}
+
+#[test]
+fn a_copy_has_the_same_entries(rt: HostRuntime) -> Result<(), Fail> {
+    let table = [(4, 7, Text("longer than eight bytes")), (5, 7, Number(-3))];
+    let list = entries_of(rt.alloc(), &table)?;
+    let copy = list.try_copy(rt.alloc())?;
+    let (Some(first), Some(second)) = (copy.get(0), copy.get(1)) else {
+        return Err(Fail::new("the copy lacks an entry"));
+    };
+    assert_eq!(rt;
+        (copy.len(), first.label, first.object),
+        (2, Label(4), Oid(7))
+    );
+    assert!(rt; is_text(&first.value, b"longer than eight bytes"));
+    assert_eq!(rt; (second.label, second.object), (Label(5), Oid(7)));
+    assert!(rt; is_number(&second.value, -3));
     Ok(())
 }
