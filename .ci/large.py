@@ -37,6 +37,22 @@ def braces(name, members):
     return f"load {name} := {{ {', '.join(members)} }};".encode()
 
 
+def labelled(name, count):
+    """A load of one object with so many labels, each of which leads to one and the same object."""
+    return braces(name, ["l0 &1 0", *(f"l{i} &1" for i in range(1, count))])
+
+
+def in_turn(count):
+    """A load of a chain of objects, all of them members too. The sets are the root, and for each object all from it on."""
+    return braces("C", (f"m &{i} {{ n &{i + 1} }}" if i < count else f"m &{i} 0" for i in range(1, count + 1)))
+
+
+def doubling(count):
+    """A load of a graph with two to the power of the count target sets, for a count of at least 2, and more."""
+    body = (f"x &{i} {{ a &{i + 1}, b &{i + 1} }}" if i < count else f"x &{i} 0" for i in range(2, count + 1))
+    return f"load Q := &0 {{ a &0, b &0, a &1, x &1 {{ a &2, b &2 }}, {', '.join(body)} }};".encode()
+
+
 def repeated(byte, count):
     """So many equal bytes, in pieces."""
     block = byte * 1_048_576
@@ -63,78 +79,95 @@ def cases():
     many = 65_535
     rows = "".join(f"&{i + 2} {i}\n" for i in range(many))
     yield ("as many rows as objects", [braces("A", (f"a {i}" for i in range(many))), b"select A.a;"], 0,
-           f"ok objects {many + 1} edges {many}\n{rows}rows {many}\n".encode())
+           f"ok objects {many + 1} edges {many} nodes 2\n{rows}rows {many}\n".encode())
     yield ("any word over as many objects", [braces("A", (f"a {i}" for i in range(many))), b"select A.#; select A.%+;"], 0,
-           f"ok objects {many + 1} edges {many}\n&1 {{}}\n{rows}rows {many + 1}\n{rows}rows {many}\n".encode())
+           f"ok objects {many + 1} edges {many} nodes 2\n&1 {{}}\n{rows}rows {many + 1}\n{rows}rows {many}\n".encode())
     yield ("64 leaves over as many objects", [braces("A", (f"a {i}" for i in range(many))), b"select A" + b".#" * 63 + b".a;"], 0,
-           f"ok objects {many + 1} edges {many}\n{rows}rows {many}\n".encode())
+           f"ok objects {many + 1} edges {many} nodes 2\n{rows}rows {many}\n".encode())
     script, replies = [], []
     for i in range(1_000):
         script.append(f"load n{i} := {i}; select n{i};\n".encode())
-        replies.append(f"ok objects {i + 1} edges 0\n&{i + 1} {i}\nrows 1\n".encode())
+        replies.append(f"ok objects {i + 1} edges 0 nodes {i + 1}\n&{i + 1} {i}\nrows 1\n".encode())
     yield "two thousand statements and a thousand names", script, 0, b"".join(replies)
-    yield ("four thousand labels", [braces("L", (f"l{i} {i}" for i in range(4_096))), b"select L.l4095;"], 0,
-           b"ok objects 4097 edges 4096\n&4097 4095\nrows 1\n")
-    yield ("a label too many", [braces("L", (f"l{i} 0" for i in range(4_097))), b"load L := { l0 0 }; select L.l0;"], 1,
-           b"refused 18 TooManyLabels\nok objects 2 edges 1\n&2 0\nrows 1\n")
-    yield ("labels that vanished objects had", [braces("L", (f"l{i} 0" for i in range(4_096))), b"load L := {}; update L.x += 1;"], 1,
-           b"ok objects 4097 edges 4096\nok objects 1 edges 0\nrefused 18 TooManyLabels\n")
-    counts = "".join(f"ok objects {i} edges 0\n" for i in range(1, 1_025)).encode()
+    yield ("four thousand labels", [labelled("L", 4_096), b"select L.l4095;"], 0,
+           b"ok objects 2 edges 4096 nodes 2\n&2 0\nrows 1\n")
+    yield ("a label too many", [labelled("L", 4_097), b"load L := { l0 0 }; select L.l0;"], 1,
+           b"refused 18 TooManyLabels\nok objects 2 edges 1 nodes 2\n&2 0\nrows 1\n")
+    yield ("labels that vanished objects had", [labelled("L", 4_096), b"load L := {}; update L.x += 1;"], 1,
+           b"ok objects 2 edges 4096 nodes 2\nok objects 1 edges 0 nodes 1\nrefused 18 TooManyLabels\n")
+    counts = "".join(f"ok objects {i} edges 0 nodes {i}\n" for i in range(1, 1_025)).encode()
     yield ("a name too many", [f"load n{i} := 0;\n".encode() for i in range(1_025)] + [b"unname n0; load n1024 := 0;"], 1,
-           counts + b"refused 19 TooManyNames\nok objects 1023 edges 0\nok objects 1024 edges 0\n")
-    yield ("labels that refused statements would bring", [braces("L", (f"l{i} 0" for i in range(4_095))),
+           counts + b"refused 19 TooManyNames\nok objects 1023 edges 0 nodes 1023\nok objects 1024 edges 0 nodes 1024\n")
+    yield ("labels that refused statements would bring", [labelled("L", 4_095),
            b"update L.l0.x += 1; load L := { x &1 }; load L := { x 1, y 2 }; update L.none.x += 1;",
            b"update L.last += 1; update L.x += 1; load M := { x 1 }; update L.l0 += L;"], 1,
-           b"ok objects 4096 edges 4095\nrefused 15 AtomicParent\nrefused 12 UndefinedLocal\nrefused 18 TooManyLabels\n"
-           b"ok objects 4096 edges 4095\nok objects 4097 edges 4096\nrefused 18 TooManyLabels\nrefused 18 TooManyLabels\n"
-           b"ok objects 4097 edges 4097\n")
+           b"ok objects 2 edges 4095 nodes 2\nrefused 15 AtomicParent\nrefused 12 UndefinedLocal\nrefused 18 TooManyLabels\n"
+           b"ok objects 2 edges 4095 nodes 2\nok objects 3 edges 4096 nodes 3\nrefused 18 TooManyLabels\nrefused 18 TooManyLabels\n"
+           b"ok objects 3 edges 4097 nodes 4\n")
     yield ("causes before and behind a name too many", [f"load n{i} := 0;\n".encode() for i in range(1_024)]
            + [b"name m := n0.a; name m := n0; load m := { x &1 };", braces("m", ["a 0"] * 65_536), braces("n0", ["a 0"] * 64_512),
               b"name n0 := n1; load n0 := { a 0 };"], 1,
            counts + b"refused 14 NotOne\nrefused 19 TooManyNames\nrefused 12 UndefinedLocal\nrefused 19 TooManyNames\n"
-           b"ok objects 65536 edges 64512\nok objects 1023 edges 0\nok objects 1025 edges 1\n")
+           b"ok objects 65536 edges 64512 nodes 1025\nok objects 1023 edges 0 nodes 1023\nok objects 1025 edges 1 nodes 1025\n")
     links = (f"update X.{label} += Y from N.a X, N.a Y;".encode() for label in "bcd")
     yield ("edges from all members to all members", [braces("N", ["a {}"] * 300), *links], 1,
-           b"ok objects 301 edges 300\nok objects 301 edges 90300\nok objects 301 edges 180300\nrefused 21 TooManyEdges\n")
+           b"ok objects 301 edges 300 nodes 2\nok objects 301 edges 90300 nodes 2\nok objects 301 edges 180300 nodes 2\n"
+           b"refused 21 TooManyEdges\n")
     ring = 60_000
     yield ("a ring by locals", [braces("R", (f"m &{i} {{ next &{(i + 1) % ring} }}" for i in range(ring))),
            b"update R.m -= R.m; select R.m; unname R; load R := 1; select R;"], 0,
-           f"ok objects {ring + 1} edges {2 * ring}\nok objects 1 edges 0\nrows 0\nok objects 0 edges 0\n".encode()
-           + f"ok objects 1 edges 0\n&{ring + 2} 1\nrows 1\n".encode())
+           f"ok objects {ring + 1} edges {2 * ring} nodes 2\nok objects 1 edges 0 nodes 1\nrows 0\nok objects 0 edges 0 nodes 0\n".encode()
+           + f"ok objects 1 edges 0 nodes 1\n&{ring + 2} 1\nrows 1\n".encode())
     yield ("copies that are counted before they are made",
            [braces("P", ["x {}"] * 60_000), f"update P.x.y += {{ {', '.join(['a 0'] * 60_000)} }};".encode(),
             f"update P.x.y += {{ a &1 0, {', '.join(['a &1'] * 60_000)} }};".encode(), b"update P.y += 1;"], 1,
-           b"ok objects 60001 edges 60000\nrefused 20 TooManyObjects\nrefused 20 TooManyObjects\nok objects 60002 edges 60001\n")
+           b"ok objects 60001 edges 60000 nodes 2\nrefused 20 TooManyObjects\nrefused 20 TooManyObjects\n"
+           b"ok objects 60002 edges 60001 nodes 3\n")
     yield ("as many objects as there may be, again and again",
-           [braces("A", (f"a {i}" for i in range(many)))] * 3, 0, f"ok objects {many + 1} edges {many}\n".encode() * 3)
+           [braces("A", (f"a {i}" for i in range(many)))] * 3, 0, f"ok objects {many + 1} edges {many} nodes 2\n".encode() * 3)
     yield ("a select of a hundred thousand items", [b"load A := 1; select ", b"A, " * 99_999, b"A;"], 1,
-           b"ok objects 1 edges 0\nrefused 10 TooManyRanges\n")
+           b"ok objects 1 edges 0 nodes 1\nrefused 10 TooManyRanges\n")
     pairs = "".join(f"&{i} 0 | &{j} 0\n" for i in range(2, 318) for j in range(2, 318))
     yield ("as many rows as an answer may have, nearly", [braces("N", ["a 0"] * 316), b"select X, Y from N.a X, N.a Y;"], 0,
-           f"ok objects 317 edges 316\n{pairs}rows 99856\n".encode())
+           f"ok objects 317 edges 316 nodes 2\n{pairs}rows 99856\n".encode())
     yield ("a row too many, and far too many", [braces("N", (f"a {i}" for i in range(4_000))), b"select Y, X from N.a X, N.a Y;",
            b"select X, Y from N.a X, N.a Y where X <= 24 and Y < 4000;", b"select X, Y from N.a X, N.a Y where X <= 25;"], 1,
-           b"ok objects 4001 edges 4000\nrefused 13 TooManyRows\n"
+           b"ok objects 4001 edges 4000 nodes 2\nrefused 13 TooManyRows\n"
            + "".join(f"&{i} {i - 2} | &{j} {j - 2}\n" for i in range(2, 27) for j in range(2, 4_002)).encode()
            + b"rows 100000\nrefused 13 TooManyRows\n")
     yield ("millions of choices and few rows", [braces("N", (f"a {i % 5}" for i in range(1_500))), b"select X from N.a X, N.a Y;"], 0,
-           ("ok objects 1501 edges 1500\n" + "".join(f"&{i + 2} {i % 5}\n" for i in range(1_500)) + "rows 1500\n").encode())
+           ("ok objects 1501 edges 1500 nodes 2\n" + "".join(f"&{i + 2} {i % 5}\n" for i in range(1_500)) + "rows 1500\n").encode())
     steps = 200_000
     chain = ", ".join(["G.a V0", *(f"V{i} V{i + 1}" for i in range(steps))])
     yield (f"{steps} ranges that fuse to one", [b"load G := { a 1, a 2 };", f"select V{steps} from {chain};".encode()], 0,
-           b"ok objects 3 edges 2\n&2 1\n&3 2\nrows 2\n")
+           b"ok objects 3 edges 2 nodes 2\n&2 1\n&3 2\nrows 2\n")
     yield ("a literal of a million members", [braces("A", (f"a {i}" for i in range(1_000_000)))], 1,
            b"refused 20 TooManyObjects\n")
+    yield ("as many sets as there may be, and one more", [braces("A", (f"l{i} 0" for i in range(4_095))),
+           b"update A.l0 += 1; update A.l0 += A.l1; update A.l5 += A.l5; name B := A.l0; load B := 1; update A.l0 -= A.l1; load B := 1;"], 1,
+           b"ok objects 4096 edges 4095 nodes 4096\nok objects 4097 edges 4096 nodes 4096\nok objects 4097 edges 4097 nodes 4096\n"
+           b"ok objects 4097 edges 4097 nodes 4096\nrefused 14 NotOne\nrefused 22 GuideNodes\n"
+           b"ok objects 4097 edges 4096 nodes 4096\nrefused 22 GuideNodes\n")
+    yield ("more labels than there may be sets", [braces("A", (f"l{i} 0" for i in range(4_096))), b"guide;"], 1,
+           b"refused 22 GuideNodes\nnodes 0\n")
+    yield ("sets of four thousand objects and fewer", [in_turn(4_095), in_turn(4_096), b"set nodes 4095; load C := 1; set nodes 1;"], 1,
+           b"ok objects 4096 edges 8189 nodes 4096\nrefused 22 GuideNodes\nrefused 23 LimitRange\n"
+           b"ok objects 1 edges 0 nodes 1\nok objects 1 edges 0 nodes 1\n")
+    lines = "".join(f"C.m{'.n' * i} {1_000 - i}\n" for i in range(1_000))
+    yield ("a guide with long paths", [in_turn(1_000), b"guide;"], 0,
+           f"ok objects 1001 edges 1999 nodes 1001\nC 1\n{lines}nodes 1001\n".encode())
+    yield ("sets that double with each object", [doubling(13), doubling(1_000), b"guide;"], 1,
+           b"refused 22 GuideNodes\n" * 2 + b"nodes 0\n")
     entries = CHUNK // len(b"label lost\n") - 100
     yield ("a dump text of almost the longest statement",
            [b"restore oem 1 next 1 nodes 4096 plan auto\n", b"label lost\n" * entries, b"end;"], 1, b"refused 5 Syntax\n")
     text = "street " * 500
     yield ("a statement of many megabytes", [braces("T", (f't "{text}{i}"' for i in range(2_000)))], 0,
-           b"ok objects 2001 edges 2000\n")
+           b"ok objects 2001 edges 2000 nodes 2\n")
     yield "a statement as long as one may be", [*repeated(b" ", CHUNK), b";"], 1, b"refused 5 Syntax\n"
     yield "a statement of one byte more", [*repeated(b" ", CHUNK + 1), b";"], 5, b""
     yield "a rest as long as one may be", repeated(b" ", CHUNK), 0, b""
-    yield "a rest of one byte more", [b"load A := 1;", *repeated(b" ", CHUNK + 1)], 5, b"ok objects 1 edges 0\n"
+    yield "a rest of one byte more", [b"load A := 1;", *repeated(b" ", CHUNK + 1)], 5, b"ok objects 1 edges 0 nodes 1\n"
     script, replies = long_script(SCRIPT)
     yield "a script as long as one may be", script, 1, replies
     script, replies = long_script(SCRIPT + 1)

@@ -14,7 +14,7 @@ import time
 PROGRAM = os.path.join(os.path.dirname(os.path.abspath(__file__)), "..", "crates", "lore", "out", "lore")
 SECONDS = 20
 TALK = (
-    (b'load Guide := { restaurant { name "Chef Chu", price 12 } };', b"ok objects 4 edges 3\n"),
+    (b'load Guide := { restaurant { name "Chef Chu", price 12 } };', b"ok objects 4 edges 3 nodes 4\n"),
     (b"\nselect Guide.restaurant", b""),
     (b".name;", b'&3 "Chef Chu"\nrows 1\n'),
     (b"menu;", b"refused 5 Syntax\n"),

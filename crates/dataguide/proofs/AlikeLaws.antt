@@ -2,7 +2,7 @@
 use Rattle.std.proofs.Common.{◌≡◌, ℕ, List, [], ◌∷◌, Some, Contains, sym, ◌∙◌, subst}
 use Rattle.std.proofs.lemmas.List.Elements.{All-contains}
 use Rattle.dataguide.specs.Types.{Oid, Label, Edge, Node, GuideNode}
-use Rattle.dataguide.specs.LabelPaths.{IsStep}
+use Rattle.lore_base.specs.TargetSets.{IsStep}
 use Rattle.dataguide.specs.Guides.{GuideGraph, StandsFor, sets_of, HasSet, HasEdge, HasItsSteps, IsEntry}
 use Rattle.dataguide.specs.GuideLaws.{GoesOn, BeginsAt, HasAlikeGuides}
 use Rattle.dataguide.proofs.PlaceLaws.{Contains-at, at-Contains, at-map, at-unmap, zip-left, zip-right}

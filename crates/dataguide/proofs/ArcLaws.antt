@@ -10,7 +10,7 @@ use Rattle.std.proofs.lemmas.List.Elements.{Contains-append_left, Contains-appen
 use Rattle.lore_base.specs.Walks.{edge_of, out_of}
 use Rattle.lore_base.proofs.MemberLaws.{Contains-none, Contains-head, Contains-tail, Contains-cases, Contains-same, Contains-filter, unfiltered}
 use Rattle.dataguide.specs.Types.{Oid, Label, Edge}
-use Rattle.dataguide.specs.LabelPaths.{LeavesTo}
+use Rattle.lore_base.specs.TargetSets.{LeavesTo}
 use Rattle.dataguide.specs.inside.Arcs.{arc_cmp, AscendAsArcs, leaving, arcs_of, AreArcs}
 use Rattle.dataguide.proofs.PlaceLaws.{mapped, unmapped}
 

@@ -9,7 +9,8 @@ use Rattle.lore_base.proofs.WalkLaws.{Walk-split}
 use Rattle.lore_base.proofs.TargetLaws.{ListsInOrder-unique}
 use Rattle.lore_base.proofs.MemberLaws.{Contains-none, Contains-head}
 use Rattle.dataguide.specs.Types.{Oid, Label, Edge, Node, GuideNode}
-use Rattle.dataguide.specs.LabelPaths.{LabelPath, IsTargetSet, LeavesTo, LeadsTo, AreTargetSets, IsLeastPath, AreInPathOrder, ComesBefore}
+use Rattle.lore_base.specs.TargetSets.{LabelPath, IsTargetSet, LeavesTo, LeadsTo, AreTargetSets}
+use Rattle.dataguide.specs.LabelPaths.{IsLeastPath, AreInPathOrder, ComesBefore}
 use Rattle.dataguide.specs.Guides.{sets_of, HasItsSteps, StandsFor}
 use Rattle.dataguide.specs.inside.Trails.{Stop, start_path, longer, IsMet, ComesUpTo, IsSearched}
 use Rattle.dataguide.proofs.PathOrder.{upto-longer, upto-trans}

@@ -9,7 +9,7 @@ use Rattle.lore_base.proofs.ListLaws.{AllPairs-tail}
 use Rattle.lore_base.proofs.MemberLaws.{Contains-none}
 use Rattle.lore_base.proofs.TargetLaws.{ListsInOrder-same}
 use Rattle.dataguide.specs.Types.{Oid, Label, Edge}
-use Rattle.dataguide.specs.LabelPaths.{LeavesTo, IsStep}
+use Rattle.lore_base.specs.TargetSets.{LeavesTo, IsStep}
 use Rattle.dataguide.specs.inside.Arcs.{arc_cmp, AscendAsArcs, AreArcs, AreGroups, AreSteps}
 use Rattle.dataguide.proofs.PlaceLaws.{mapped, unmapped}
 use Rattle.dataguide.proofs.TrailLaws.{AllPairs-push}

@@ -14,3 +14,7 @@ pub mod TableLaws
 pub mod ChildLaws
 pub mod RowLaws
 pub mod AlikeLaws
+pub mod CountLaws
+pub mod SameTargets
+pub mod EntryLaws
+pub mod VanishLaws

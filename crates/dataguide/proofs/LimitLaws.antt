@@ -8,7 +8,8 @@ use Rattle.std.proofs.lemmas.Option.{slice_get_within, get_or_from_slice_get}
 use Rattle.lore_base.specs.Lists.{Extends}
 use Rattle.lore_base.proofs.MemberLaws.{Contains-head}
 use Rattle.dataguide.specs.Types.{Oid, Label, Edge, GuideNode}
-use Rattle.dataguide.specs.LabelPaths.{IsStep, IsLedTo, LeadsTo, AreMoreThan, ReadsAtMost, reads_of}
+use Rattle.lore_base.specs.TargetSets.{IsStep, IsLedTo, LeadsTo, AreMoreThan}
+use Rattle.dataguide.specs.LabelPaths.{ReadsAtMost, reads_of}
 use Rattle.dataguide.specs.Guides.{sets_of}
 use Rattle.dataguide.specs.inside.Entering.{AreEntered, AreTooMany}
 use Rattle.dataguide.specs.inside.Trails.{Stop, longer, start_path, IsTrail, IsSearched, IsOverfull}

@@ -5,7 +5,8 @@ use Rattle.std.proofs.lemmas.List.{get_or-map, length-map}
 use Rattle.std.proofs.lemmas.List.Elements.{All-contains, All-cons}
 use Rattle.lore_base.proofs.ListLaws.{AllPairs-unique}
 use Rattle.dataguide.specs.Types.{Oid, Label, Edge, Node, GuideNode}
-use Rattle.dataguide.specs.LabelPaths.{LabelPath, IsStep, IsLeastPath, AreInPathOrder, AreTargetSets, ComesBefore}
+use Rattle.lore_base.specs.TargetSets.{LabelPath, IsStep, AreTargetSets}
+use Rattle.dataguide.specs.LabelPaths.{IsLeastPath, AreInPathOrder, ComesBefore}
 use Rattle.dataguide.specs.Guides.{sets_of, HasItsSteps, IsEntry}
 use Rattle.dataguide.specs.GuideLaws.{HasOneOrderedGuide}
 use Rattle.dataguide.specs.inside.Trails.{Stop}

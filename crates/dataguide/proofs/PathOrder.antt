@@ -6,7 +6,8 @@ use Rattle.std.proofs.lemmas.Bool.Decides.{nat_tests}
 use Rattle.std.proofs.lemmas.Cmp.{nat_cmp_total, on_total, lists_total, nat_list_cmp_total, tied_itself}
 use Rattle.lore_base.specs.Bytes.{bytes_cmp}
 use Rattle.dataguide.specs.Types.{Label}
-use Rattle.dataguide.specs.LabelPaths.{LabelPath, word_cmp, ComesBefore}
+use Rattle.lore_base.specs.TargetSets.{LabelPath}
+use Rattle.dataguide.specs.LabelPaths.{word_cmp, ComesBefore}
 use Rattle.dataguide.specs.inside.Trails.{longer, ComesUpTo}
 
 word_total : IsTotalOrder word_cmp

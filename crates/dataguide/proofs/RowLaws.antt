@@ -8,7 +8,7 @@ use Rattle.lore_base.specs.Lists.{Extends}
 use Rattle.lore_base.specs.TargetSets.{ListsInOrder}
 use Rattle.lore_base.proofs.TargetLaws.{ListsInOrder-same}
 use Rattle.dataguide.specs.Types.{Oid, Label, Edge, Node, GuideNode}
-use Rattle.dataguide.specs.LabelPaths.{LeavesTo, IsStep}
+use Rattle.lore_base.specs.TargetSets.{LeavesTo, IsStep}
 use Rattle.dataguide.specs.Guides.{sets_of, HasSet, AscendByLabel}
 use Rattle.dataguide.specs.inside.Arcs.{AscendAsArcs, AreArcs}
 use Rattle.dataguide.specs.inside.Entering.{IsEntered, AreEntered}

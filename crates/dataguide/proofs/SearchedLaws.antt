@@ -9,7 +9,8 @@ use Rattle.lore_base.specs.Lists.{Extends}
 use Rattle.lore_base.specs.Names.{IsNameTable}
 use Rattle.lore_base.proofs.MemberLaws.{Contains-none}
 use Rattle.dataguide.specs.Types.{Oid, Label, Edge, Node, GuideNode}
-use Rattle.dataguide.specs.LabelPaths.{IsStep, LeavesTo, LeadsTo, ComesBefore}
+use Rattle.lore_base.specs.TargetSets.{IsStep, LeavesTo, LeadsTo}
+use Rattle.dataguide.specs.LabelPaths.{ComesBefore}
 use Rattle.dataguide.specs.Guides.{sets_of, HasSet, AscendByLabel}
 use Rattle.dataguide.specs.inside.Arcs.{AreSteps}
 use Rattle.dataguide.specs.inside.Entering.{AreEntered}

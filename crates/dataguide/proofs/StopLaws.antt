@@ -11,7 +11,8 @@ use Rattle.lore_base.proofs.ListLaws.{AllPairs-tail, AllPairs-head}
 use Rattle.lore_base.proofs.MemberLaws.{Contains-none, Contains-head, Contains-cases, Contains-same}
 use Rattle.dataguide.specs.Types.{Oid, Label, Edge, Node}
 use Rattle.dataguide.specs.Guides.{AscendByLabel}
-use Rattle.dataguide.specs.LabelPaths.{LabelPath, IsTargetSet, IsStep, LeadsTo, ComesBefore}
+use Rattle.lore_base.specs.TargetSets.{LabelPath, IsTargetSet, IsStep, LeadsTo}
+use Rattle.dataguide.specs.LabelPaths.{ComesBefore}
 use Rattle.dataguide.specs.inside.Arcs.{AreSteps}
 use Rattle.dataguide.specs.inside.Trails.{Stop, start_path, longer}
 use Rattle.dataguide.proofs.PathOrder.{before-label}
@@ -84,17 +85,18 @@ names-lead names edges =
     All-map (λ (stop : Stop). LeadsTo names edges stop.path stop.set) named_stop names
     (All-by (λ (named : List ℕ × Oid). LeadsTo names edges (start_path named.0) (named.1 ∷ [])) names (λ named there. leads-start names edges named there))
 
-keys-ascend : (names : List (List ℕ × Oid)) → IsNameTable names → AllPairs (λ a b. bytes_cmp a.0 b.0 ≡ Less) names
+pub keys-ascend : {X : Type 0} (names : List (List ℕ × X)) → IsStrictlySortedBy bytes_cmp (keys_of names)
+    → AllPairs (λ a b. bytes_cmp a.0 b.0 ≡ Less) names
 unfolding IsStrictlySortedBy
-keys-ascend [] table = λ i j d less within. absurd (omega (arith, within))
-keys-ascend (first ∷ names) table =
-    AllPairs-cons (λ (a b : List ℕ × Oid). bytes_cmp a.0 b.0 ≡ Less) first names
+keys-ascend {X} [] table = λ i j d less within. absurd (omega (arith, within))
+keys-ascend {X} (first ∷ names) table =
+    AllPairs-cons (λ (a b : List ℕ × X). bytes_cmp a.0 b.0 ≡ Less) first names
     (below first names table.0) (keys-ascend names table.1)
   where
-    below : (first : List ℕ × Oid) (names : List (List ℕ × Oid)) → AllByRecursion (λ name. bytes_cmp first.0 name ≡ Less) (keys_of names)
+    below : (first : List ℕ × X) (names : List (List ℕ × X)) → AllByRecursion (λ name. bytes_cmp first.0 name ≡ Less) (keys_of names)
         → All (λ named. bytes_cmp first.0 named.0 ≡ Less) names
     below first [] all = λ k d within. absurd (omega (arith, within))
-    below first (named ∷ names) all = All-cons (λ (n : List ℕ × Oid). bytes_cmp first.0 n.0 ≡ Less) named names all.0 (below first names all.1)
+    below first (named ∷ names) all = All-cons (λ (n : List ℕ × X). bytes_cmp first.0 n.0 ≡ Less) named names all.0 (below first names all.1)
 
 pub names-ascend : (names : List (List ℕ × Oid)) → IsNameTable names → AllPairs (λ a b. ComesBefore a.path b.path) (map named_stop names)
 names-ascend names table =

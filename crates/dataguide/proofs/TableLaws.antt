@@ -1,6 +1,6 @@
 -- Nodes under their hashes, and the nodes of names.
-use Rattle.std.proofs.Common.{◌≡◌, ℕ, ◌<◌, ◌⊎◌, Bool, true, false, cond, inl, inr, List, [], ◌∷◌, ◌++◌, length, get_or, zero, suc, Option, Some, None, unwrap_or, option_map, IfNone, All, Contains, refl, sym, ap, ◌∙◌, subst, arith, length-append}
-use Rattle.std.specs.List.{slice_get, AllZip}
+use Rattle.std.proofs.Common.{◌≡◌, ℕ, ◌<◌, true, false, cond, inl, inr, List, [], ◌∷◌, ◌++◌, length, get_or, zero, suc, Option, Some, None, unwrap_or, IfNone, All, Contains, refl, sym, ap, ◌∙◌, subst, arith, length-append}
+use Rattle.std.specs.List.{slice_get}
 use Rattle.std.specs.Prelude.{slice_set}
 use Rattle.std.proofs.lemmas.List.{length-set}
 use Rattle.std.specs.Ordering.{nat_cmp}
@@ -9,13 +9,12 @@ use Rattle.std.specs.BTreeMap.{is_at}
 use Rattle.std.proofs.lemmas.Bool.{cases_lt}
 use Rattle.std.proofs.lemmas.Bool.Decides.{nat_tests}
 use Rattle.std.proofs.lemmas.Option.{slice_get_within, slice_get-get_or}
-use Rattle.std.proofs.lemmas.List.Elements.{All-head, All-tail, All-push, All-set, All-weaker, All-contains, Contains-append_left, Contains-push}
-use Rattle.lore_base.specs.Bytes.{bytes_cmp}
+use Rattle.std.proofs.lemmas.List.Elements.{All-push, All-set, All-contains, Contains-append_left, Contains-push}
 use Rattle.oem_set.specs.Sets.{hash_of}
 use Rattle.dataguide.specs.Types.{Oid, Label, Node, GuideNode}
-use Rattle.dataguide.specs.Guides.{sets_of, HasSet, AscendByLabel, IsEntry, node_of}
-use Rattle.dataguide.specs.inside.NodeTables.{listed, node_number, IsNodeTable, start_at, entries_of}
-use Rattle.dataguide.proofs.PlaceLaws.{at-Contains, at-front, at-push, at-map, at-unmap, AllZip-weaker}
+use Rattle.dataguide.specs.Guides.{sets_of, HasSet, AscendByLabel}
+use Rattle.dataguide.specs.inside.NodeTables.{listed, node_number, IsNodeTable}
+use Rattle.dataguide.proofs.PlaceLaws.{at-Contains, at-front, at-push, at-map, at-unmap}
 
 same_key : (a b : ℕ) → is_at (nat_cmp a) b ≡ true → a ≡ b
 same_key a b h = grind (arith, nat_tests)
@@ -79,47 +78,6 @@ not-found lists nodes set table none there =
     let under = subst (λ (s : List Oid). Contains (listed lists (hash_of s)) (node_number at.0)) from.2 (table.hashed at.0 from.0 from.1) in
     All-contains (λ (node : Node). ¬ HasSet nodes node set) (listed lists (hash_of set)) (node_number at.0) none under at.1
 
--- ---- entries
-lookup-map : (starts : List (Oid × Node)) (test : List ℕ → Bool) (names : List (List ℕ × Oid))
-    → lookup test (entries_of names starts) ≡ option_map (start_at starts) (lookup test names)
-lookup-map starts test [] = refl
-lookup-map starts test (named ∷ names) =
-    let later = lookup-map starts test names in
-    elim (test named.0) as (λ b. cond b (Some (start_at starts named.1)) (lookup test (entries_of names starts))
-    ≡ option_map (start_at starts) (cond b (Some named.1) (lookup test names))) [ true ↦ refl | false ↦ later ]
-
-pub entry-none : (names : List (List ℕ × Oid)) (starts : List (Oid × Node)) (name : List ℕ) → lookup (is_at (bytes_cmp name)) names ≡ None → None ≡ node_of (entries_of names starts) name
-entry-none names starts name none = sym (lookup-map starts (is_at (bytes_cmp name)) names ∙ ap (option_map (start_at starts)) none)
-
-pub entry-some : (names : List (List ℕ × Oid)) (starts : List (Oid × Node)) (name : List ℕ) (oid : Oid) → lookup (is_at (bytes_cmp name)) names ≡ Some oid
-    → Some (start_at starts oid) ≡ node_of (entries_of names starts) name
-entry-some names starts name oid some = sym (lookup-map starts (is_at (bytes_cmp name)) names ∙ ap (option_map (start_at starts)) some)
-
-pub entries-start : (nodes : List GuideNode) (starts : List (Oid × Node)) (names : List (List ℕ × Oid)) → All (λ named. HasSet nodes (start_at starts named.1) (named.1 ∷ [])) names
-    → AllZip (IsEntry nodes) names (entries_of names starts)
-entries-start nodes starts [] all = tt
-entries-start nodes starts (named ∷ names) all = (
-  record { name = refl; node = All-head (λ (n : List ℕ × Oid). HasSet nodes (start_at starts n.1) (n.1 ∷ [])) named names all },
-  entries-start nodes starts names (All-tail (λ (n : List ℕ × Oid). HasSet nodes (start_at starts n.1) (n.1 ∷ [])) named names all),
-)
-
-pub entries-stay : (nodes new : List GuideNode) (names : List (List ℕ × Oid)) (entries : List (List ℕ × Node))
-    → ((node : Node) (set : List Oid) → HasSet nodes node set → HasSet new node set) → AllZip (IsEntry nodes) names entries → AllZip (IsEntry new) names entries
-entries-stay nodes new names entries stay zip =
-    AllZip-weaker (IsEntry nodes) (IsEntry new) (λ named entry is. record { name = is.name; node = stay entry.1 (named.1 ∷ []) is.node }) names entries zip
-
--- an object that is put among the starts
-pub start-put : (old new : List (Oid × Node)) (oid : Oid) (node : Node)
-    → ((q : Oid) → lookup (is_at (λ other. nat_cmp q.0 other.0)) new ≡ cond (is_at (λ other. nat_cmp oid.0 other.0) q) (Some node) (lookup (is_at (λ other. nat_cmp q.0 other.0)) old))
-    → (q : Oid) → ((q ≡ oid) × (start_at new q ≡ node)) ⊎ (start_at new q ≡ start_at old q)
-start-put old new oid node put q =
-    elim (is_at (nat_cmp oid.0) q.0) as (λ b. is_at (nat_cmp oid.0) q.0 ≡ b
-    → lookup (is_at (λ (other : Oid). nat_cmp q.0 other.0)) new ≡ cond b (Some node) (lookup (is_at (λ (other : Oid). nat_cmp q.0 other.0)) old)
-    → ((q ≡ oid) × (start_at new q ≡ node)) ⊎ (start_at new q ≡ start_at old q)) [
-      | true ↦ λ same found. inl (ap (λ (n : ℕ). record { 0 = n }) (sym (same_key oid.0 q.0 same)), ap (λ (o : Option Node). unwrap_or o (node_number 0)) found)
-      | false ↦ λ apart found. inr (ap (λ (o : Option Node). unwrap_or o (node_number 0)) found)
-    ] refl (put q)
-
 -- ---- a node gets edges
 put-sets : (nodes : List GuideNode) (place : ℕ) (new old : GuideNode) → slice_get nodes place ≡ Some old → new.set ≡ old.set → sets_of (slice_set nodes place new) ≡ sets_of nodes
 put-sets [] place new old at same = refl
@@ -167,12 +125,3 @@ put-edges-other = put-other
 pub none-weaker : {X P Q : Type 0} (found : Option X) → (P → Q) → IfNone found P → IfNone found Q
 none-weaker None weaker none = weaker none
 none-weaker (Some x) weaker none = tt
-
-pub start-self : (new : List (Oid × Node)) (oid : Oid) (node : Node) → lookup (is_at (λ other. nat_cmp oid.0 other.0)) new ≡ Some node → start_at new oid ≡ node
-start-self new oid node found = ap (λ (o : Option Node). unwrap_or o (node_number 0)) found
-
-pub starts-stay : (nodes new : List GuideNode) (names : List (List ℕ × Oid)) (starts : List (Oid × Node)) → ((node : Node) (set : List Oid) → HasSet nodes node set → HasSet new node set)
-    → All (λ named. HasSet nodes (start_at starts named.1) (named.1 ∷ [])) names → All (λ named. HasSet new (start_at starts named.1) (named.1 ∷ [])) names
-starts-stay nodes new names starts stay all =
-    All-weaker (λ (n : List ℕ × Oid). HasSet nodes (start_at starts n.1) (n.1 ∷ [])) (λ (n : List ℕ × Oid). HasSet new (start_at starts n.1) (n.1 ∷ []))
-    (λ n has. stay (start_at starts n.1) (n.1 ∷ []) has) names all

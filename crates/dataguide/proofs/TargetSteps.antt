@@ -5,7 +5,7 @@ use Rattle.lore_base.specs.Walks.{Walk, edge_of}
 use Rattle.lore_base.proofs.WalkLaws.{Walk-push, Walk-split}
 use Rattle.lore_base.proofs.TargetLaws.{ListsInOrder-same}
 use Rattle.dataguide.specs.Types.{Oid, Label, Edge}
-use Rattle.dataguide.specs.LabelPaths.{IsTargetSet, IsStep, LeavesTo}
+use Rattle.lore_base.specs.TargetSets.{IsTargetSet, IsStep, LeavesTo}
 use Rattle.dataguide.specs.GuideLaws.{LongerWordsStep}
 
 -- a walk along a longer word is an edge from the shorter word's target set

@@ -6,7 +6,8 @@ use Rattle.lore_base.specs.Lists.{Extends}
 use Rattle.lore_base.proofs.ListLaws.{AllPairs-append, AllPairs-tail, AllPairs-head}
 use Rattle.lore_base.proofs.MemberLaws.{Contains-none, Contains-head, Contains-tail, Contains-cases}
 use Rattle.dataguide.specs.Types.{Oid, Edge}
-use Rattle.dataguide.specs.LabelPaths.{LeadsTo, ComesBefore}
+use Rattle.lore_base.specs.TargetSets.{LeadsTo}
+use Rattle.dataguide.specs.LabelPaths.{ComesBefore}
 use Rattle.dataguide.specs.inside.Entering.{AreEntered}
 use Rattle.dataguide.specs.inside.Trails.{Stop, IsMet, IsTrail}
 use Rattle.dataguide.proofs.PlaceLaws.{unmapped}

@@ -1,7 +1,11 @@
 -- Laws of target sets and guides.
-use Rattle.std.specs.Prelude.{◌≡◌, ◌↔◌, ℕ, List, [], ◌∷◌, ◌++◌, Contains}
+use Rattle.std.specs.Prelude.{◌≡◌, ◌↔◌, ℕ, ◌<◌, List, [], ◌∷◌, ◌++◌, length, Contains}
+use Rattle.lore_base.specs.declared.change_set.Changes.{Changes}
+use Rattle.lore_base.specs.Databases.{OemGraph, IsReached}
+use Rattle.lore_base.specs.ChangeSets.{IsGraphAfter}
+use Rattle.lore_base.specs.TargetSets.{LabelPath, IsTargetSet, IsStep, LeadsTo, AreMoreThan}
 use Rattle.dataguide.specs.Types.{Oid, Label, Edge, Node}
-use Rattle.dataguide.specs.LabelPaths.{IsTargetSet, IsStep, AreInPathOrder}
+use Rattle.dataguide.specs.LabelPaths.{AreInPathOrder}
 use Rattle.dataguide.specs.Guides.{GuideGraph, StandsFor, sets_of, HasSet, HasEdge}
 
 -- the target set of a longer word is the step of the shorter word's
@@ -45,3 +49,33 @@ abbrev pub HasAlikeGuides : Type 0
 HasAlikeGuides =
     (names : List (List ℕ × Oid)) (edges : List Edge) (guide other : GuideGraph)
     → StandsFor guide names edges → StandsFor other names edges → AreAlike guide other
+
+-- a guide has more nodes than a limit exactly where label paths lead to more sets
+abbrev pub NodesAreCounted : Type 0
+NodesAreCounted =
+    (limit : ℕ) (names : List (List ℕ × Oid)) (edges : List Edge) (guide : GuideGraph)
+    → StandsFor guide names edges → (limit < length guide.nodes) ↔ AreMoreThan limit names edges
+
+-- of what leaves the objects that names walk to along the first edges, both lists have the same
+abbrev pub AgreeWhereReached : List (List ℕ × Oid) → List Edge → List Edge → Type 0
+AgreeWhereReached names edges others =
+    (edge : Edge) → IsReached names edges edge.parent → Contains edges edge ↔ Contains others edge
+
+-- label paths lead to the same sets along the one edges and along the others, so these have the same guides
+pub record HaveSameTargets (names : List (List ℕ × Oid)) (edges others : List Edge) : Type 0 where
+  pub leads : (path : LabelPath) (set : List Oid) → LeadsTo names edges path set ↔ LeadsTo names others path set
+  pub more : (limit : ℕ) → AreMoreThan limit names edges ↔ AreMoreThan limit names others
+  pub guides : (guide : GuideGraph) → StandsFor guide names edges ↔ StandsFor guide names others
+  pub order : (sets : List (List Oid)) → AreInPathOrder names edges sets ↔ AreInPathOrder names others sets
+
+-- edges that leave what no name walks to lead to no target set
+abbrev pub ReachedEdgesDecide : Type 0
+ReachedEdgesDecide =
+    (names : List (List ℕ × Oid)) (edges others : List Edge)
+    → AgreeWhereReached names edges others → HaveSameTargets names edges others
+
+-- what vanishes with changes leads to no target set: the edges then and those that are left lead to the same sets
+abbrev pub VanishedEdgesLeadNowhere : Type 0
+VanishedEdgesLeadNowhere =
+    (before : OemGraph) (changes : Changes) (after : OemGraph) (is : IsGraphAfter before changes after)
+    → HaveSameTargets after.names is.between after.edges

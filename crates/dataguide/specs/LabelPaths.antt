@@ -1,62 +1,15 @@
--- Label paths and the sets that they lead to (Goldman and Widom 1997, target sets), the steps from one set to the
--- next, and the order of paths.
-use Rattle.std.specs.Prelude.{◌≡◌, ◌≢◌, ◌⊎◌, ◌↔◌, ℕ, ◌+◌, ◌<◌, ◌≤◌, List, [], length, sum_by}
-use Rattle.std.specs.Prelude.{All, AllPairs, Contains}
+-- What it costs to read target sets, and the order of label paths (Goldman and Widom 1997).
+use Rattle.std.specs.Prelude.{◌≡◌, ◌≢◌, ◌⊎◌, ℕ, ◌+◌, ◌<◌, ◌≤◌, List, length, sum_by}
+use Rattle.std.specs.Prelude.{All, AllPairs}
 use Rattle.std.specs.List.{AllZip}
 use Rattle.std.specs.Ordering.{nat_cmp}
 use Rattle.std.specs.Cmp.Lexicographic.{slice_cmp}
 use Rattle.std.specs.declared.cmp.Ordering.{Ordering}
 use Rattle.std.specs.declared.cmp.Ordering.TheVariants.{Less}
 use Rattle.lore_base.specs.Bytes.{bytes_cmp}
-use Rattle.lore_base.specs.Walks.{Walk, edge_of, out_of}
-use Rattle.lore_base.specs.TargetSets.{ListsInOrder}
+use Rattle.lore_base.specs.Walks.{out_of}
+use Rattle.lore_base.specs.TargetSets.{LabelPath, LeadsTo, IsLedTo}
 use Rattle.dataguide.specs.Types.{Oid, Label, Edge}
-
--- Target sets.
-
--- a label path: a name, and the labels that are walked along from its object
-pub record LabelPath : Type 0 where
-  pub name : List ℕ
-  pub word : List Label
-
--- the target set of a word: all objects that it is walked to
-abbrev pub IsTargetSet : List Edge → Oid → List Label → List Oid → Type 0
-IsTargetSet edges start word set = ListsInOrder (Walk edges start word) set
-
--- the label path leads to the set: this is its target set, and some object is in it
-pub record LeadsTo (names : List (List ℕ × Oid)) (edges : List Edge) (path : LabelPath) (set : List Oid)
-    : Type 0 where
-  pub start : Oid
-  pub named : Contains names (path.name, start)
-  pub target : IsTargetSet edges start path.word set
-  pub some : set ≢ []
-
-abbrev pub IsLedTo : List (List ℕ × Oid) → List Edge → List Oid → Type 0
-IsLedTo names edges set = (path : LabelPath) × LeadsTo names edges path set
-
--- these are all sets that label paths lead to, each once
-pub record AreTargetSets (names : List (List ℕ × Oid)) (edges : List Edge) (sets : List (List Oid)) : Type 0 where
-  pub apart : AllPairs (λ a b. a ≢ b) sets
-  pub exact : (set : List Oid) → Contains sets set ↔ IsLedTo names edges set
-
--- label paths lead to more sets than the limit
-pub record AreMoreThan (limit : ℕ) (names : List (List ℕ × Oid)) (edges : List Edge) : Type 0 where
-  pub sets : List (List Oid)
-  pub apart : AllPairs (λ a b. a ≢ b) sets
-  pub led : All (IsLedTo names edges) sets
-  pub many : limit < length sets
-
--- Steps.
-
--- an edge with the label leads from a member of the set to the object
-pub record LeavesTo (edges : List Edge) (set : List Oid) (label : Label) (oid : Oid) : Type 0 where
-  pub from : Oid
-  pub member : Contains set from
-  pub edge : Contains edges (edge_of from label oid)
-
--- the step of a set by a label: all objects that edges with the label lead to from its members
-abbrev pub IsStep : List Edge → List Oid → Label → List Oid → Type 0
-IsStep edges set label next = ListsInOrder (LeavesTo edges set label) next
 
 -- what it costs to read the edges of all members of a set: a step for each member and one for each of its edges
 abbrev pub reads_of : List Edge → List Oid → ℕ

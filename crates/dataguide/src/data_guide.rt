@@ -5,11 +5,12 @@ ghost use Rattle.std.specs.Option.{option_copied};
 ghost use Rattle.lore_base.specs.Names.{IsNameTable};
 ghost use Rattle.dataguide.specs.Types.{Oid as TheOid, Edge as TheEdge, Node as TheNode};
 ghost use Rattle.dataguide.specs.declared.faults.GuideFault.TheVariants as faults;
-ghost use Rattle.dataguide.specs.LabelPaths.{AreMoreThan, ReadsAtMost, AreInPathOrder, reads_of};
+ghost use Rattle.lore_base.specs.TargetSets.{AreMoreThan};
+ghost use Rattle.dataguide.specs.LabelPaths.{ReadsAtMost, AreInPathOrder, reads_of};
 ghost use Rattle.dataguide.specs.Guides.{StandsFor, sets_of, node_of, edge_at, HasSet, HasEdge};
 ghost use Rattle.dataguide.specs.Guides.{AscendByLabel};
 ghost use Rattle.dataguide.specs.inside.Entering.{AreEntered, AreTooMany};
-ghost use Rattle.dataguide.specs.inside.NodeTables.{start_at};
+ghost use Rattle.dataguide.specs.inside.NodeTables.{AreStarts};
 ghost use Rattle.dataguide.specs.inside.Trails.{IsExpanded, IsOverfull};
 
 use crate::arcs::Reader;
@@ -20,10 +21,9 @@ use crate::groups::enter_groups;
 use crate::hash_lists::HashLists;
 use crate::nodes::{GuideNode, Node, next_by, node_at};
 use index_traits::Adjacent;
-use lore_base::{Label, Names, OemText, Oid, OidBuf, Steps};
+use lore_base::{Label, Listing, Names, OemText, OidBuf, Steps};
 use oem_set::OidSet;
 use std::alloc::Global;
-use std::collections::BTreeMap;
 use std::marker::Model;
 use std::sync::ledger::Ledger;
 
@@ -78,6 +78,7 @@ impl Guide {
         ensures order { IfOk result
             (λ guide. AreInPathOrder names.now (A.edges graph.now) (sets_of guide.nodes)) }
         ensures within { IfOk result (λ guide. length guide.nodes ≤ limit) }
+        ensures few { IfOk result (λ _. ¬ AreMoreThan limit names.now (A.edges graph.now)) }
         ensures steps { IfOk result (λ guide. steps.new
             ≡ steps.old + sum_by (reads_of (A.edges graph.now)) (sets_of guide.nodes)) }
         ensures full { IfErr result (λ fault. fault ≡ faults.Nodes
@@ -93,7 +94,7 @@ impl Guide {
             expand(alloc, &mut found, next, graph, &mut reader, limit, steps)?;
             next += 1;
         }
-        let entries = Entries::of(alloc, names, starts)?;
+        let entries = Entries::of(alloc, names, starts.as_slice())?;
         let FoundNodes { nodes, by_hash } = found;
         Ok(Guide {
             nodes,
@@ -157,17 +158,16 @@ impl Guide {
     }
 }
 
-// Enters the objects of the names in the names' order, and gives their nodes.
+// Enters the objects of the names in the names' order, and gives their nodes, one by one.
 fn enter_names(
     alloc: Global,
     found: &mut FoundNodes,
     names: &Names,
     limit: u32,
-) -> Result<BTreeMap<Oid, Node>, GuideFault>
+) -> Result<Vec<Node>, GuideFault>
     ensures entered { OnOk result (AreEntered (sets_of found.old)
         (map (λ named. named.1 ∷ []) names.now) (sets_of found.new)) }
-    ensures starts { IfOk result (λ starts. All
-        (λ named. HasSet found.new (start_at starts.entries named.1) (named.1 ∷ [])) names.now) }
+    ensures starts { IfOk result (λ starts. AreStarts found.new names.now starts.items) }
     ensures within { length found.old ≤ limit → length found.new ≤ limit }
     ensures full { IfErr result (λ fault. fault ≡ faults.Nodes
         → AreTooMany limit (sets_of found.old) (map (λ named. named.1 ∷ []) names.now)) }
@@ -175,14 +175,14 @@ fn enter_names(
 {
     found.reserve(names.len())?;
     let objects = names.objects()?;
-    let mut starts = BTreeMap::new(alloc);
+    let mut starts = Listing::with_capacity(alloc, names.len())?;
     'names: for oid in objects.as_slice() {
         let mut oids = OidBuf::with_capacity(alloc, 1)?;
         oids.push(*oid)?;
         let node = found.enter(alloc, OidSet::from_ascending(oids), limit)?;
-        starts.insert(*oid, node)?;
+        starts.push(node)?;
     }
-    Ok(starts)
+    Ok(starts.into_items())
 }
 
 // Reads the edges of the node at a place, enters the sets that they lead to, and gives the node its

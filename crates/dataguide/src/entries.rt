@@ -1,39 +1,40 @@
-ghost use Rattle.std.specs.Prelude.{◌≡◌, [], IfOk, OnOk, map, All};
-ghost use Rattle.std.specs.List.{AllZip};
+ghost use Rattle.std.specs.Prelude.{◌≡◌, [], length, map, IfOk};
+ghost use Rattle.std.specs.Map.{keys_of};
 ghost use Rattle.dataguide.specs.Guides.{node_of};
-ghost use Rattle.dataguide.specs.inside.NodeTables.{start_at, entries_of};
+ghost use Rattle.dataguide.specs.inside.NodeTables.{AreAscendingEntries};
 
 use crate::nodes::Node;
-use lore_base::{Names, NoMemory, OemText, Oid, TryCopy};
+use lore_base::{Names, NoMemory, OemText};
 use std::alloc::Global;
-use std::collections::BTreeMap;
 use std::marker::Model;
 
-// The names of a guide with their nodes, seen by contracts as a list of (text, node). A name leads
-// to its object, and this to its node.
+// The entries of a guide: names with their nodes, ascending by the names' bytes. Contracts see
+// them as a list of (text, node).
 #[derive(Drop)]
 pub(crate) struct Entries {
-    pub(crate) names: Names,
-    pub(crate) starts: BTreeMap<Oid, Node>,
+    list: Vec<(OemText, Node)>,
 }
 
 impl Model for Entries {
     ghost use Rattle.std.specs.Prelude.{ℕ, List};
     ghost use Rattle.dataguide.specs.Types.{Node};
-    ghost use Rattle.dataguide.specs.inside.NodeTables.{entries_of};
+    ghost use Rattle.dataguide.specs.inside.NodeTables.{AreAscendingEntries};
 
     ghost Value = { List (List ℕ × Node) };
 
-    ghost view = { λ e. entries_of e.names e.starts.entries };
+    ghost view = { λ e. e.list.items };
+
+    ghost invariant = { λ e. AreAscendingEntries e.list.items };
 }
 
-// The node of a name's object.
-fn start_of(starts: &BTreeMap<Oid, Node>, oid: Oid) -> Node
-    ensures { result ≡ start_at starts.now.entries oid }
+// The node of the name among ascending entries, found by binary search.
+fn node_in(entries: &[(OemText, Node)], name: &OemText) -> Option<Node>
+    requires { AreAscendingEntries entries.now }
+    ensures { result ≡ node_of entries.now name.now }
 {
-    match starts.get(&oid) {
-        Some(node) => *node,
-        None => Node(0),
+    match entries.binary_search_by(|entry| entry.0.cmp(name)) {
+        Ok(place) => Some(entries[place].1),
+        Err(_) => None,
     }
 }
 
@@ -43,28 +44,29 @@ impl Entries {
         ensures { result ≡ [] }
     {
         Entries {
-            names: Names::new(alloc),
-            starts: BTreeMap::new(alloc),
+            list: Vec::new(alloc),
         }
     }
 
-    // The entries of these names, whose objects have these nodes.
-    pub(crate) fn of(
-        alloc: Global,
-        names: &Names,
-        starts: BTreeMap<Oid, Node>,
-    ) -> Result<Entries, NoMemory>
-        ensures { IfOk result (λ entries. entries ≡ entries_of names.now starts.entries) }
+    // The names with these nodes, one by one.
+    pub(crate) fn of(alloc: Global, names: &Names, nodes: &[Node]) -> Result<Entries, NoMemory>
+        requires { length nodes.now ≡ length names.now }
+        ensures names { IfOk result (λ entries. keys_of entries ≡ keys_of names.now) }
+        ensures nodes { IfOk result (λ entries. map (λ entry. entry.1) entries ≡ nodes.now) }
     {
-        let names = names.try_copy(alloc)?;
-        Ok(Entries { names, starts })
+        let mut list = Vec::with_capacity(alloc, names.len())?;
+        let texts = names.texts()?;
+        'texts: for text in texts.into_items() {
+            let node = nodes[list.len()];
+            list.push((text, node))?;
+        }
+        Ok(Entries { list })
     }
 
     // The node of the name; None exactly where the name isn't there. Takes no memory.
     pub(crate) fn find(&self, name: &OemText) -> Option<Node>
         ensures { result ≡ node_of self.now name.now }
     {
-        let oid = self.names.find(name)?;
-        Some(start_of(&self.starts, oid))
+        node_in(self.list.as_slice(), name)
     }
 }

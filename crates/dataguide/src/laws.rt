@@ -1,6 +1,8 @@
 //! Laws of target sets and guides.
 
 ghost use Rattle.dataguide.specs.GuideLaws.{LongerWordsStep, HasAlikeGuides, HasOneOrderedGuide};
+ghost use Rattle.dataguide.specs.GuideLaws.{NodesAreCounted, ReachedEdgesDecide};
+ghost use Rattle.dataguide.specs.GuideLaws.{VanishedEdgesLeadNowhere};
 
 /// The target set of a longer word is the step of the shorter word's, by the last label.
 pub fn longer_words_step()
@@ -15,4 +17,21 @@ pub fn guides_are_alike()
 /// Two guides of one database whose nodes stand in the order of their least label paths are equal.
 pub fn one_ordered_guide()
     ensures { HasOneOrderedGuide }
+{}
+
+/// A guide has more nodes than a limit exactly where label paths lead to more sets.
+pub fn nodes_are_counted()
+    ensures { NodesAreCounted }
+{}
+
+/// Edge lists that agree on what leaves the objects that names walk to lead to the same target
+/// sets, and so have the same guides.
+pub fn reached_edges_decide()
+    ensures { ReachedEdgesDecide }
+{}
+
+/// The edges once changes are made, and those that are left when what no name walks to has
+/// vanished, lead to the same target sets.
+pub fn vanished_edges_lead_nowhere()
+    ensures { VanishedEdgesLeadNowhere }
 {}

@@ -3,3 +3,5 @@ pub mod ClosedLists
 pub mod StepLaws
 pub mod TargetSetLaws
 pub mod SomeGuide
+pub mod LeastPaths
+pub mod OrderedSets

@@ -15,16 +15,18 @@ use Rattle.oem_changes.proofs.ClosureLaws.{Contains-mapped}
 use Rattle.dataguide.specs.Types.{Oid, Label, Edge}
 use Rattle.dataguide.specs.declared.nodes.Node.{Node}
 use Rattle.dataguide.specs.declared.nodes.GuideNode.{GuideNode}
-use Rattle.dataguide.specs.LabelPaths.{AreTargetSets, LeavesTo, IsStep}
+use Rattle.lore_base.specs.TargetSets.{AreTargetSets, LeavesTo, IsStep}
 use Rattle.dataguide.specs.Guides.{GuideGraph, sets_of, AscendByLabel, HasItsSteps, IsEntry, StandsFor}
 use Rattle.dataguide.specs.inside.Trails.{start_path}
 use Rattle.dataguide.proofs.PlaceLaws.{Contains-at, at-Contains, one-place}
 use Rattle.dataguide.proofs.StopLaws.{All-by, leads-start}
 use Rattle.dataguide.proofs.DoneLaws.{some-member}
-use Rattle.guide_laws.specs.Laws.{GuidesExist}
+use Rattle.dataguide.specs.LabelPaths.{AreInPathOrder}
+use Rattle.guide_laws.specs.Laws.{GuidesExist, OrderedGuidesExist}
 use Rattle.guide_laws.proofs.ListLaws.{numbers_ordered}
 use Rattle.guide_laws.proofs.StepLaws.{step_of, step_is}
 use Rattle.guide_laws.proofs.TargetSetLaws.{told_set, target_sets_exist}
+use Rattle.guide_laws.proofs.OrderedSets.{ordered_sets_exist}
 
 -- the labels of edges, in the order of their numbers
 some_labels : (edges : List Edge)
@@ -179,7 +181,7 @@ module _ (edges : List Edge) (sets : List (List Oid)) (apart : AllPairs (λ a b.
         )
 
     some_guide : (names : List (List ℕ × Oid)) → AreTargetSets names edges sets
-        → (guide : GuideGraph) × StandsFor guide names edges
+        → (guide : GuideGraph) × StandsFor guide names edges × (sets_of guide.nodes ≡ sets)
     some_guide names are =
         let entries = some_entries names
         (λ named there. (are.exact (named.1 ∷ [])).1
@@ -192,9 +194,17 @@ module _ (edges : List Edge) (sets : List (List Oid)) (apart : AllPairs (λ a b.
                 (λ set there. has_its_steps set));
             entries = entries.1;
           },
+          sets_are sets,
         )
 
 pub guides_exist : GuidesExist
 guides_exist names edges =
     let all = target_sets_exist names edges in
-    some_guide edges all.0 all.1.apart (λ set there. ((all.1.exact set).0 there).1.some) names all.1
+    let guide = some_guide edges all.0 all.1.apart (λ set there. ((all.1.exact set).0 there).1.some) names all.1 in
+    (guide.0, guide.1)
+
+pub ordered_guides_exist : OrderedGuidesExist
+ordered_guides_exist names edges table =
+    let all = ordered_sets_exist names edges table in
+    let guide = some_guide edges all.0 all.1.apart (λ set there. ((all.1.exact set).0 there).1.some) names all.1 in
+    (guide.0, record { stands = guide.1; order = subst (AreInPathOrder names edges) (sym guide.2) all.2 })

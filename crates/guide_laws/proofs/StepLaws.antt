@@ -1,13 +1,16 @@
--- The step of each set by each label, as one of finitely many lists.
-use Rattle.std.proofs.Common.{◌<◌, List, map}
+-- The step of each set by each label, as one of finitely many lists, and so the target set of each word.
+use Rattle.std.proofs.Common.{◌<◌, List, [], ◌∷◌, ◌++◌, map, sym, subst, append_assoc}
 use Rattle.std.specs.List.{Contains}
+use Rattle.std.proofs.lemmas.List.{append-nil}
 use Rattle.lore_base.specs.Walks.{edge_of}
 use Rattle.oem_changes.proofs.ToldLaws.{IsTold, told_same, told_some, told_member, told_edge}
 use Rattle.oem_changes.proofs.ToldLaws.{passing, passes_told, members_passing, AllPairs-passing}
 use Rattle.oem_changes.proofs.AscentLaws.{IsSetOf, some_ordered}
 use Rattle.oem_changes.proofs.ClosureLaws.{Contains-mapped}
 use Rattle.dataguide.specs.Types.{Oid, Label, Edge}
-use Rattle.dataguide.specs.LabelPaths.{LeavesTo, IsStep}
+use Rattle.lore_base.specs.TargetSets.{IsTargetSet, LeavesTo, IsStep}
+use Rattle.dataguide.proofs.TargetSteps.{step-target}
+use Rattle.dataguide.proofs.StopLaws.{target-none}
 use Rattle.guide_laws.proofs.ListLaws.{numbers_ordered, sublists, filter-sublist}
 
 -- the children of edges, in the order of their numbers
@@ -58,3 +61,19 @@ pub step-sublist : (edges : List Edge) (set : List Oid) (label : Label)
     → Contains (sublists (children_of edges)) (step_of edges set label)
 step-sublist edges set label =
     filter-sublist (λ oid. passes_told (told_leaves edges set label oid)) (children_of edges)
+
+-- a target set, and what more labels lead to from it
+target_on : (edges : List Edge) (start : Oid) (rest done : List Label) (set : List Oid)
+    → IsTargetSet edges start done set → (whole : List Oid) × IsTargetSet edges start (done ++ rest) whole
+target_on edges start [] done set is =
+    (set, subst (λ (w : List Label). IsTargetSet edges start w set) (sym (append-nil done)) is)
+target_on edges start (label ∷ rest) done set is =
+    let later = target_on edges start rest (done ++ label ∷ []) (step_of edges set label)
+    (step-target edges start done label set (step_of edges set label) is (step_is edges set label)) in (
+      later.0,
+      subst (λ (w : List Label). IsTargetSet edges start w later.0) (append_assoc done (label ∷ []) rest) later.1,
+    )
+
+pub target_is : (edges : List Edge) (start : Oid) (word : List Label)
+    → (set : List Oid) × IsTargetSet edges start word set
+target_is edges start word = target_on edges start word [] (start ∷ []) (target-none edges start)

@@ -2,7 +2,7 @@
 use Rattle.std.proofs.Common.{◌≡◌, ◌≢◌, ◌↔◌, ℕ, ◌<◌, inl, inr, List, [], ◌∷◌, ◌++◌, length, map}
 use Rattle.std.proofs.Common.{refl, sym, ap, subst, arith}
 use Rattle.std.specs.List.{Contains}
-use Rattle.std.proofs.lemmas.List.Elements.{All-contains, Contains-append_left, Contains-append_right}
+use Rattle.std.proofs.lemmas.List.Elements.{Contains-append_left, Contains-append_right}
 use Rattle.std.proofs.lemmas.List.Elements.{Contains-append_cases}
 use Rattle.lore_base.specs.Walks.{Walk, edge_of}
 use Rattle.lore_base.specs.TargetSets.{ListsInOrder}
@@ -11,12 +11,12 @@ use Rattle.lore_base.proofs.MemberLaws.{Contains-none, Contains-cases, Contains-
 use Rattle.lore_base.proofs.TargetLaws.{ListsInOrder-same}
 use Rattle.oem_changes.proofs.ToldLaws.{IsTold, told_oid, told_below, told_same, passing, members_passing}
 use Rattle.oem_changes.proofs.ClosureLaws.{Contains-mapped, mapped_from}
-use Rattle.oem_changes.proofs.CountLaws.{distinct_no_longer}
 use Rattle.dataguide.specs.Types.{Oid, Label, Edge}
-use Rattle.dataguide.specs.LabelPaths.{LabelPath, IsTargetSet, IsLedTo, AreTargetSets}
+use Rattle.lore_base.specs.TargetSets.{LabelPath, IsTargetSet, IsLedTo, AreTargetSets}
 use Rattle.dataguide.proofs.TargetSteps.{step-target}
-use Rattle.dataguide.proofs.StopLaws.{All-by, target-none}
+use Rattle.dataguide.proofs.StopLaws.{target-none}
 use Rattle.dataguide.proofs.DoneLaws.{some-member}
+use Rattle.dataguide.proofs.CountLaws.{more-counted}
 use Rattle.guide_laws.specs.Laws.{TargetSetsExist, MoreSetsAreCounted, MoreSetsAreTold}
 use Rattle.guide_laws.proofs.ListLaws.{told_list, told_some_in, sublists, some_once}
 use Rattle.guide_laws.proofs.ClosedLists.{IsClosed, some_closed}
@@ -192,18 +192,7 @@ target_sets_exist names edges =
     all_found names edges closed.0 closed.1
 
 pub more_sets_are_counted : MoreSetsAreCounted
-more_sets_are_counted limit names edges sets are = (
-  λ more. (
-      let no_longer = distinct_no_longer more.sets sets more.apart
-      (λ set at. (are.exact set).1 (All-contains (IsLedTo names edges) more.sets set more.led at)) in
-      omega (arith, more.many, no_longer)),
-  λ many. record {
-    sets = sets;
-    apart = are.apart;
-    led = All-by (IsLedTo names edges) sets (λ set at. (are.exact set).0 at);
-    many = many;
-  },
-)
+more_sets_are_counted limit names edges sets are = more-counted limit names edges sets are
 
 pub more_sets_are_told : MoreSetsAreTold
 more_sets_are_told limit names edges =

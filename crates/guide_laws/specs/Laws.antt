@@ -1,8 +1,11 @@
 -- Laws of target sets and guides: that they exist, and whether there are more of them than a limit.
 use Rattle.std.specs.Prelude.{◌⊎◌, ◌↔◌, ℕ, ◌<◌, List, length}
+use Rattle.lore_base.specs.Names.{IsNameTable}
 use Rattle.dataguide.specs.Types.{Oid, Edge}
-use Rattle.dataguide.specs.LabelPaths.{AreTargetSets, AreMoreThan}
+use Rattle.lore_base.specs.TargetSets.{AreTargetSets, AreMoreThan}
+use Rattle.dataguide.specs.LabelPaths.{AreInPathOrder}
 use Rattle.dataguide.specs.Guides.{GuideGraph, StandsFor}
+use Rattle.dataguide.specs.GuideLaws.{IsOrderedGuide}
 
 -- there is a list of all sets that label paths lead to
 abbrev pub TargetSetsExist : Type 0
@@ -27,3 +30,15 @@ abbrev pub GuidesExist : Type 0
 GuidesExist =
     (names : List (List ℕ × Oid)) (edges : List Edge)
     → (guide : GuideGraph) × StandsFor guide names edges
+
+-- and they can be listed in the order of their least paths
+abbrev pub OrderedSetsExist : Type 0
+OrderedSetsExist =
+    (names : List (List ℕ × Oid)) (edges : List Edge) → IsNameTable names
+    → (sets : List (List Oid)) × AreTargetSets names edges sets × AreInPathOrder names edges sets
+
+-- some guide whose nodes stand in that order stands for each database
+abbrev pub OrderedGuidesExist : Type 0
+OrderedGuidesExist =
+    (names : List (List ℕ × Oid)) (edges : List Edge) → IsNameTable names
+    → (guide : GuideGraph) × IsOrderedGuide guide names edges

@@ -5,6 +5,8 @@ ghost use Rattle.guide_laws.specs.Laws.{
   MoreSetsAreCounted,
   MoreSetsAreTold,
   GuidesExist,
+  OrderedSetsExist,
+  OrderedGuidesExist,
 };
 
 /// The sets that label paths lead to can be listed.
@@ -25,4 +27,14 @@ pub fn more_sets_are_told()
 /// A guide stands for each database.
 pub fn guides_exist()
     ensures { GuidesExist }
+{}
+
+/// The sets that label paths lead to can be listed in the order of their least paths.
+pub fn ordered_sets_exist()
+    ensures { OrderedSetsExist }
+{}
+
+/// A guide whose nodes stand in that order stands for each database.
+pub fn ordered_guides_exist()
+    ensures { OrderedGuidesExist }
 {}

@@ -1,11 +1,13 @@
-//! Tests of sets of objects and of guides: each public call with ample memory, with values from
-//! outside the program.
+//! Tests of sets of objects, of guides and of their lines: each public call with ample memory, with
+//! values from outside the program.
 #![tactic(auto)]
 
 #[cfg(test)]
 mod bits;
 #[cfg(test)]
 mod guides;
+#[cfg(test)]
+mod lines;
 #[cfg(test)]
 mod lists;
 #[cfg(test)]

@@ -1,6 +1,11 @@
+ghost use Rattle.std.specs.Prelude.{◌≡◌, ◌<◌};
+
+use dataguide::{Guide, GuideFault};
 use index_traits::NaiveEdges;
-use lore_base::{Edge, EdgeBuf, Label, Names, NoMemory, OemText, Oid};
+use lore_base::{Edge, EdgeBuf, Label, Names, NoMemory, OemText, Oid, Steps};
 use std::alloc::Global;
+use std::marker::Brand;
+use std::sync::ledger::{Blank, Ledger};
 
 // Names with their objects, and edges written as parent, label and child.
 #[derive(Clone, Copy, Debug)]
@@ -17,7 +22,7 @@ pub(crate) fn names_of(alloc: Global, shape: Shape) -> Result<Names, NoMemory> {
     Ok(names)
 }
 
-pub(crate) fn graph_of(alloc: Global, shape: Shape) -> Result<NaiveEdges, NoMemory> {
+fn graph_of(alloc: Global, shape: Shape) -> Result<NaiveEdges, NoMemory> {
     let mut edges = EdgeBuf::new(alloc);
     for [parent, label, child] in shape.edges {
         edges.push(Edge {
@@ -28,6 +33,31 @@ pub(crate) fn graph_of(alloc: Global, shape: Shape) -> Result<NaiveEdges, NoMemo
     }
     edges.sort_set();
     Ok(NaiveEdges::new(edges))
+}
+
+fn built<L: Ledger>(
+    alloc: Global,
+    shape: Shape,
+    limit: u32,
+    blank: Blank,
+) -> Result<Guide, GuideFault>
+    requires name { blank.name ≡ L.name }
+    requires parts { blank.parts ≡ L.parts }
+    requires some { 0 < blank.parts }
+{
+    let graph = graph_of(alloc, shape)?;
+    let names = names_of(alloc, shape)?;
+    Guide::build(alloc, &graph, &names, limit, &mut Steps::<L>::new(blank))
+}
+
+// The guide of the shape, with at most so many nodes.
+pub(crate) fn guide_within(alloc: Global, shape: Shape, limit: u32) -> Result<Guide, GuideFault> {
+    built::<Brand>(alloc, shape, limit, Blank::new(1))
+}
+
+// The guide of the shape, which has fewer than ten nodes.
+pub(crate) fn guide_of(alloc: Global, shape: Shape) -> Result<Guide, GuideFault> {
+    guide_within(alloc, shape, 9)
 }
 
 // Two restaurants (0), each with a name (1) and a price (2). Objects are numbered otherwise than

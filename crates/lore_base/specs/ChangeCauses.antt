@@ -3,7 +3,8 @@ use Rattle.std.specs.Prelude.{◌≢◌, ℕ, ◌+◌, ◌<◌, List, length, Co
 use Rattle.lore_base.specs.Types.{Oid, Edge, Value, Complex, Changes, Refusal}
 use Rattle.lore_base.specs.Types.{NEXT_NUMBER, LABELS, NAMES, OBJECTS, EDGES}
 use Rattle.lore_base.specs.Types.refusals
-use Rattle.lore_base.specs.Databases.{OemGraph}
+use Rattle.lore_base.specs.TargetSets.{AreMoreThan}
+use Rattle.lore_base.specs.Databases.{OemGraph, Database}
 use Rattle.lore_base.specs.ChangeSets.{HasChildren, IsGraphAfter}
 
 -- an edge is added that leaves an atomic object
@@ -38,3 +39,13 @@ ChangeCause labels graph changes refusals.TooManyObjects =
     Outgrows graph changes (λ after. length after.objects) OBJECTS
 ChangeCause labels graph changes refusals.TooManyEdges = Outgrows graph changes (λ after. length after.edges) EDGES
 ChangeCause labels graph changes _ = ⊥
+
+-- in the graph after the changes label paths lead to more sets than the limit
+abbrev pub LeadsToMore : OemGraph → Changes → ℕ → Type 0
+LeadsToMore graph changes limit =
+    (after : OemGraph) × IsGraphAfter graph changes after × AreMoreThan limit after.names after.edges
+
+-- the cause of each refusal of changes of a database
+abbrev pub DatabaseCause : Database → Changes → Refusal → Type 0
+DatabaseCause db changes refusals.GuideNodes = LeadsToMore db.graph changes db.nodes
+DatabaseCause db changes refusal = ChangeCause db.labels db.graph changes refusal

@@ -6,6 +6,7 @@ use Rattle.lore_base.specs.Types.{Oid, Label, Edge, Value, Whole, Chars, Complex
 use Rattle.lore_base.specs.Types.{TEXT_BYTES, LABELS, NAMES, OBJECTS, EDGES, NEXT_NUMBER, NODES}
 use Rattle.lore_base.specs.Names.{IsNameTable, IsName, IsLabel}
 use Rattle.lore_base.specs.Walks.{Walk, edge_cmp}
+use Rattle.lore_base.specs.TargetSets.{AreMoreThan}
 
 -- the graph of a database: its names, objects and edges, and the number that the next object gets
 pub record OemGraph : Type 0 where
@@ -80,7 +81,7 @@ pub record IsReached (names : List (List ℕ × Oid)) (edges : List Edge) (oid :
   pub walked : Walk edges start word oid
 
 -- the database is valid: distinct labels, a well-formed graph whose edges have labels of the table and whose
--- objects are all reached from names, and each limit kept
+-- objects are all reached from names, and each limit kept, that on the sets that label paths lead to among them
 pub record IsValid (db : Database) : Type 0 where
   pub labels_distinct : AllPairs (λ a b. a ≢ b) db.labels
   pub labels_formed : All IsLabel db.labels
@@ -92,6 +93,7 @@ pub record IsValid (db : Database) : Type 0 where
   pub few_objects : length db.graph.objects ≤ OBJECTS
   pub few_edges : length db.graph.edges ≤ EDGES
   pub nodes_limited : (1 ≤ db.nodes) × (db.nodes ≤ NODES)
+  pub few_sets : ¬ AreMoreThan db.nodes db.graph.names db.graph.edges
 
 -- the graph of a valid database: well-formed, and each object reached from a name
 pub record IsRooted (graph : OemGraph) : Type 0 where

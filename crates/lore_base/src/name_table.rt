@@ -95,6 +95,17 @@ impl Names {
         Ok(oids)
     }
 
+    /// The names, ascending by bytes.
+    pub fn texts(&self) -> Result<TextList, NoMemory>
+        ensures { IfOk result (λ texts. texts ≡ keys_of self.now) }
+    {
+        let mut texts = TextList::with_capacity(self.alloc, self.len())?;
+        'names: for (name, _oid) in &self.objects {
+            texts.push(name.try_copy(self.alloc)?)?;
+        }
+        Ok(texts)
+    }
+
     /// The objects of the names that the changes bind anew or take away, in no order. One may stand
     /// there several times.
     pub fn renamed_objects(&self, changes: &Changes) -> Result<OidBuf, NoMemory>

@@ -1,41 +1,43 @@
 -- Causes of refusals by the forms of statements: those that a form can't have, and those of its changes over its rows.
 use Rattle.std.proofs.Common.{◌≡◌, ◌≢◌, ◌↔◌, inl, inr, ℕ, ◌+◌, ◌<◌, ◌≤◌, true≢false, List, [], ◌∷◌, ◌++◌, length, map, Option, Some, None, refl, sym, ap, subst, ◌∙◌, arith}
 use Rattle.std.specs.Prelude.{MatchOption}
-use Rattle.std.specs.List.{Contains}
 use Rattle.std.proofs.lemmas.List.Elements.{All-contains}
-use Rattle.lore_base.specs.Databases.{Database, IsValid, IsLive}
+use Rattle.lore_base.specs.Databases.{Database, IsValid}
 use Rattle.lore_base.specs.ChangeSets.{AreSame}
-use Rattle.lore_base.specs.ChangeCauses.{ChangeCause, AddsToAtom, HidesChildren, Outgrows}
+use Rattle.lore_base.specs.ChangeCauses.{DatabaseCause, AddsToAtom, HidesChildren}
 use Rattle.lore_base.specs.Verdicts.{IsClear, IsToldBy}
 use Rattle.lore_base.proofs.MemberLaws.{Contains-none}
-use Rattle.lore_base.proofs.VerdictLaws.{clear_both, clear_left, clear_right}
+use Rattle.lore_base.proofs.VerdictLaws.{clear_both}
 use Rattle.lorel_trees.specs.Trees as t
 use Rattle.lorel_trees.specs.Trees.{RootedTree, SelectTree, StatementTree, LiteralTree}
 use Rattle.lorel_bind.specs.Answers.{IsAnswer}
 use Rattle.lorel_bind.proofs.AnswerLaws.{has_one_answer}
 use Rattle.oem_labels.specs.Labels.{first_uses}
-use Rattle.oem_text.specs.Literals.{Arc, bodies, arcs_of, labels_of, edge_at}
+use Rattle.oem_text.specs.Literals.{bodies, arcs_of, labels_of, edge_at}
 use Rattle.oem_text.specs.Parts.{LocalCause, local_order}
 use Rattle.oem_text.specs.Parts as text
-use Rattle.updates.specs.Effects.{Pair, no_changes, changes_by}
+use Rattle.updates.specs.Effects.{Pair, changes_by}
 use Rattle.updates.specs.Causes.{IsUpdate}
-use Rattle.updates.specs.Causes as updating
 use Rattle.updates.proofs.RowLaws.{map_found}
-use Rattle.lore_db.specs.Types.{Oid, Edge, Value, Changes, Refusal, LABELS, NEXT_NUMBER, NAMES}
+use Rattle.lore_db.specs.Types.{Oid, Edge, Value, Changes, Refusal, LABELS, NEXT_NUMBER}
 use Rattle.lore_db.specs.Types.refusals
-use Rattle.lore_db.specs.Built.{reads, makes, path_select, is_read, is_built}
-use Rattle.lore_db.specs.Statements.{pair_of, AreRowsOf, loading, naming, unnaming, effects, IsUnbound, IsNotOne, ChangesCause, Cause, order}
-use Rattle.lore_db.specs.inside.Stages.{bind_order, read_order, found_order, fit_order}
+use Rattle.lore_db.specs.Built.{reads, path_select, is_read, is_built}
+use Rattle.lore_db.specs.Statements.{pair_of, AreRowsOf, loading, naming, effects, IsUnbound, IsOutOfRange, ChangesCause, Cause, order}
+use Rattle.lore_db.specs.inside.Stages.{bind_order, found_order, fit_order}
 use Rattle.lore_db.proofs.LiteralLaws.{length-objects_of}
-use Rattle.lore_db.proofs.OrderLaws.{AreAlike, told_left, told_right, told_between, told_behind, clear_between, clear_alike, told_alike}
-use Rattle.lore_db.proofs.ChangedCauseLaws.{cause_same, few_names}
+use Rattle.lore_db.proofs.OrderLaws.{AreAlike, told_left, told_right, told_between, clear_between, clear_alike, told_alike}
+use Rattle.lore_db.proofs.ChangedCauseLaws.{cause_same}
 
--- the refusals of a literal's locals, of changes before they are made, and of how large the database gets
+-- the refusals of a literal's locals, of changes before they are made, of how large the database and its guide get, and
+-- of the guide's limit
 abbrev pub locals : List Refusal
 locals = refusals.DuplicateLocal ∷ refusals.UndefinedLocal ∷ []
 
 abbrev pub sizes : List Refusal
-sizes = refusals.TooManyNames ∷ refusals.TooManyObjects ∷ refusals.TooManyEdges ∷ []
+sizes = refusals.TooManyNames ∷ refusals.TooManyObjects ∷ refusals.TooManyEdges ∷ refusals.GuideNodes ∷ []
+
+abbrev pub range : List Refusal
+range = refusals.LimitRange ∷ []
 
 abbrev pub early : List Refusal
 early = refusals.AtomicParent ∷ refusals.HasChildren ∷ refusals.OidsSpent ∷ refusals.TooManyLabels ∷ []
@@ -53,37 +55,44 @@ one_rows db statement rows other are also = by (reads statement) are also
 -- the changes over some rows have the cause
 abbrev pub OverRows : Database → StatementTree → Refusal → Type 0
 OverRows db statement refusal =
-    (rows : List (List Oid)) × AreRowsOf db statement rows × ChangeCause db.labels db.graph (effects db statement rows) refusal
+    (rows : List (List Oid)) × AreRowsOf db statement rows × DatabaseCause db (effects db statement rows) refusal
 
 module _ (db : Database) (statement : StatementTree) (rows : List (List Oid)) (are : AreRowsOf db statement rows) where
-  pub over_rows : (refusal : Refusal) → ChangeCause db.labels db.graph (effects db statement rows) refusal ↔ OverRows db statement refusal
+  pub over_rows : (refusal : Refusal) → DatabaseCause db (effects db statement rows) refusal ↔ OverRows db statement refusal
   over_rows refusal = (
     λ h. (rows, are, h),
-    λ h. subst (λ (l : List (List Oid)). ChangeCause db.labels db.graph (effects db statement l) refusal) (one_rows db statement h.0 rows h.1 are) h.2,
+    λ h. subst (λ (l : List (List Oid)). DatabaseCause db (effects db statement l) refusal) (one_rows db statement h.0 rows h.1 are) h.2,
   )
 
   -- where the causes of the changes are the statement's, so are those of changes that are the same
   module _ (changes : Changes) (same : AreSame (effects db statement rows) changes)
       (its : (refusal : Refusal) → OverRows db statement refusal ↔ ChangesCause db statement refusal) where
-    given : (refusal : Refusal) → ChangeCause db.labels db.graph changes refusal ↔ ChangesCause db statement refusal
+    given : (refusal : Refusal) → DatabaseCause db changes refusal ↔ ChangesCause db statement refusal
     given refusal =
-        let first = cause_same db.labels db.graph (effects db statement rows) changes same refusal in
+        let first = cause_same db (effects db statement rows) changes same refusal in
         let second = over_rows refusal in
         let third = its refusal in
         (λ h. third.0 (second.0 (first.1 h)), λ h. first.0 (second.1 (third.1 h)))
 
-    sizes_alike : AreAlike (ChangeCause db.labels db.graph changes) (Cause db statement) sizes
-    sizes_alike = (given refusals.TooManyNames, (given refusals.TooManyObjects, (given refusals.TooManyEdges, tt)))
+    sizes_alike : AreAlike (DatabaseCause db changes) (Cause db statement) sizes
+    sizes_alike = (
+      given refusals.TooManyNames,
+      (given refusals.TooManyObjects, (given refusals.TooManyEdges, (given refusals.GuideNodes, tt))),
+    )
 
-    -- how large the database gets is tried last
-    pub sizes_told : (told : Option Refusal) → IsClear (Cause db statement) fit_order → IsToldBy (ChangeCause db.labels db.graph changes) sizes told
+    -- how large the database gets is tried last, where the statement is a change
+    pub sizes_told : (told : Option Refusal) → IsClear (Cause db statement) fit_order → IsToldBy (DatabaseCause db changes) sizes told
         → IsToldBy (Cause db statement) order told
     sizes_told told clear h =
-        told_right (Cause db statement) fit_order sizes told clear (told_alike (ChangeCause db.labels db.graph changes) (Cause db statement) sizes told sizes_alike h)
+        told_right (Cause db statement) fit_order (sizes ++ range) told clear
+        (told_left (Cause db statement) sizes range told (told_alike (DatabaseCause db changes) (Cause db statement) sizes told sizes_alike h))
 
-    pub sizes_clear : IsClear (Cause db statement) fit_order → IsClear (ChangeCause db.labels db.graph changes) sizes → IsClear (Cause db statement) order
-    sizes_clear clear h =
-        clear_both (Cause db statement) fit_order sizes clear (clear_alike (ChangeCause db.labels db.graph changes) (Cause db statement) sizes sizes_alike h)
+    -- which sets no limit
+    pub sizes_clear : (IsOutOfRange db statement → ⊥) → IsClear (Cause db statement) fit_order → IsClear (DatabaseCause db changes) sizes
+        → IsClear (Cause db statement) order
+    sizes_clear within clear h =
+        clear_both (Cause db statement) fit_order (sizes ++ range) clear
+        (clear_both (Cause db statement) sizes range (clear_alike (DatabaseCause db changes) (Cause db statement) sizes sizes_alike h) (within, tt))
 
 -- ---- loads
 module _ (db : Database) (valid : IsValid db) (name : List ℕ) (literal : LiteralTree) where
@@ -129,7 +138,7 @@ module _ (db : Database) (valid : IsValid db) (name : List ℕ) (literal : Liter
   load_told told h =
       let back = refusals.OidsSpent ∷ refusals.TooManyLabels ∷ [] in
       let middle = refusals.TooManyRows ∷ refusals.NotOne ∷ refusals.AtomicParent ∷ refusals.HasChildren ∷ [] in
-      told_left (Cause db load_tree) fit_order sizes told
+      told_left (Cause db load_tree) fit_order (sizes ++ range) told
       (told_right (Cause db load_tree) bind_order (locals ++ (middle ++ back)) told load_binds
       (told_between (Cause db load_tree) locals middle back told load_between
       (told_alike (text.Cause db.labels db.graph.next literal) (Cause db load_tree) text.order told load_alike h)))
@@ -214,7 +223,7 @@ module _ (db : Database) (valid : IsValid db) where
   pub name_told : (name : List ℕ) (path : RootedTree) (rows : List (List Oid)) → IsAnswer db (path_select path) rows → length rows ≢ 1
       → IsClear (Cause db (t.bind name path)) found_order → IsToldBy (Cause db (t.bind name path)) order (Some refusals.NotOne)
   name_told name path rows answer several clear =
-      told_right (Cause db (t.bind name path)) found_order (refusals.NotOne ∷ (early ++ sizes)) (Some refusals.NotOne) clear
+      told_right (Cause db (t.bind name path)) found_order (refusals.NotOne ∷ (early ++ (sizes ++ range))) (Some refusals.NotOne) clear
       (inl ((rows, answer, several), refl))
 
 pub name_its : (db : Database) (name : List ℕ) (path : RootedTree) (refusal : Refusal)
@@ -245,6 +254,11 @@ update_reads _ update query is = absurd (update refl)
 pub update_names : (db : Database) (statement : StatementTree) → IsUpdate statement → IsUnbound db statement → ⊥
 update_names db (t.unname name) update unbound = update refl
 update_names db _ update unbound = unbound
+
+-- and it sets no limit
+pub update_within : (db : Database) (statement : StatementTree) → IsUpdate statement → IsOutOfRange db statement → ⊥
+update_within db (t.set_nodes nodes) update outside = update refl
+update_within db _ update outside = outside
 
 pub update_single : (db : Database) (statement : StatementTree) → IsUpdate statement → Cause db statement refusals.NotOne → ⊥
 update_single db (t.bind name path) update h = update refl

@@ -1,13 +1,13 @@
 -- Causes of changes are those of changes that differ in how their edges are listed alone; and changes that bind no name
 -- and take none away leave the names as they were.
-use Rattle.std.proofs.Common.{◌≡◌, ◌↔◌, ℕ, ◌+◌, ◌<◌, ◌≤◌, inl, inr, List, [], length, refl, sym, ap, subst, arith}
+use Rattle.std.proofs.Common.{◌≡◌, ◌↔◌, ℕ, ◌+◌, ◌<◌, ◌≤◌, inl, inr, List, [], length, sym, ap, subst, arith}
 use Rattle.std.specs.List.{Contains}
-use Rattle.lore_base.specs.Databases.{OemGraph, Database, IsValid}
+use Rattle.lore_base.specs.Databases.{OemGraph, Database}
 use Rattle.lore_base.specs.ChangeSets.{AreSame, IsGraphAfter}
-use Rattle.lore_base.specs.ChangeCauses.{ChangeCause, Outgrows}
+use Rattle.lore_base.specs.ChangeCauses.{ChangeCause, DatabaseCause, Outgrows}
 use Rattle.lore_base.specs.Names.{IsNameTable}
 use Rattle.lore_base.proofs.MemberLaws.{Contains-none}
-use Rattle.oem_changes.proofs.SameLaws.{same-back, AddsToAtom-same, HidesChildren-same, Outgrows-same}
+use Rattle.oem_changes.proofs.SameLaws.{same-back, AddsToAtom-same, HidesChildren-same, Outgrows-same, IsGraphAfter-same}
 use Rattle.oem_changes.proofs.TableLaws.{one_table}
 use Rattle.lore_db.specs.Types.{Oid, Value, Changes, Refusal, NAMES, OBJECTS, EDGES, NEXT_NUMBER, LABELS}
 use Rattle.lore_db.specs.Types.refusals
@@ -25,9 +25,12 @@ caused labels graph a b same refusals.TooManyObjects h = Outgrows-same a b same 
 caused labels graph a b same refusals.TooManyEdges h = Outgrows-same a b same graph (λ after. length after.edges) EDGES h
 caused labels graph a b same _ h = h
 
-pub cause_same : (labels : List (List ℕ)) (graph : OemGraph) (a b : Changes) → AreSame a b → (refusal : Refusal)
-    → ChangeCause labels graph a refusal ↔ ChangeCause labels graph b refusal
-cause_same labels graph a b same refusal = (caused labels graph a b same refusal, caused labels graph b a (same-back a b same) refusal)
+database_caused : (db : Database) (a b : Changes) → AreSame a b → (refusal : Refusal) → DatabaseCause db a refusal → DatabaseCause db b refusal
+database_caused db a b same refusals.GuideNodes h = (h.0, IsGraphAfter-same a b same db.graph h.0 h.1, h.2)
+database_caused db a b same refusal h = caused db.labels db.graph a b same refusal h
+
+pub cause_same : (db : Database) (a b : Changes) → AreSame a b → (refusal : Refusal) → DatabaseCause db a refusal ↔ DatabaseCause db b refusal
+cause_same db a b same refusal = (database_caused db a b same refusal, database_caused db b a (same-back a b same) refusal)
 
 -- ---- names
 module _ (graph : OemGraph) (changes : Changes) (named : changes.named ≡ []) (unnamed : changes.unnamed ≡ []) where

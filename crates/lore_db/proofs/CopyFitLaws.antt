@@ -1,6 +1,5 @@
 -- Copies of a literal fit the database whose objects they come to.
-use Rattle.std.proofs.Common.{◌≡◌, ◌≢◌, ◌⊎◌, inl, inr, ℕ, ◌+◌, ◌<◌, ◌≤◌, List, [], ◌∷◌, ◌++◌, length, All, AllPairs, Contains, refl, sym, ap, subst, ◌∙◌, arith}
-use Rattle.std.proofs.lemmas.List.{length-append}
+use Rattle.std.proofs.Common.{◌≡◌, inl, inr, ℕ, ◌+◌, ◌<◌, List, [], ◌∷◌, ◌++◌, length, All, Contains, subst, arith}
 use Rattle.std.proofs.lemmas.List.Elements.{All-nil, All-cons, All-append, All-weaker, All-head, All-tail, All-contains, Contains-append_left, Contains-append_right}
 use Rattle.lore_base.specs.Names.{IsName, IsLabel}
 use Rattle.lore_base.specs.Walks.{oid_of, edge_of}
@@ -14,7 +13,7 @@ use Rattle.lorel_trees.specs.Formed.{IsFormedLiteral}
 use Rattle.oem_labels.specs.Labels.{first_uses, place_in, label_in}
 use Rattle.oem_text.specs.Literals.{bodies, labels_of, HasUndefined, objects_of, edges_of}
 use Rattle.updates.specs.Effects.{copied_objects, copied_edges, copying}
-use Rattle.lore_db.specs.Types.{Oid, Label, Edge, Value, Changes, LABELS, NEXT_NUMBER}
+use Rattle.lore_db.specs.Types.{Oid, Label, Edge, Value, LABELS, NEXT_NUMBER}
 use Rattle.lore_db.proofs.LabelFitLaws.{labels_come_new, labels_come_once, labels_come_formed, place_below, labels_there}
 use Rattle.lore_db.proofs.LiteralLaws.{Within, values_of, numbered_on, length-objects_of, objects_sized, labels_formed, edges_linked, first_live}
 use Rattle.lore_db.proofs.FitLaws.{at_most, no_names, complex_parent, growing_fits, arcs_labelled}

@@ -1,5 +1,5 @@
 -- What a statement changes fits the database, where no cause applies that is tried before the changes are made.
-use Rattle.std.proofs.Common.{◌≡◌, ℕ, ◌+◌, ◌<◌, List, [], ◌∷◌, ◌++◌, length, map, Option, Some, None, All, refl, sym, ap, inl, inr, ◌∙◌, arith}
+use Rattle.std.proofs.Common.{◌≡◌, ℕ, List, [], ◌∷◌, map, Option, Some, None, refl, sym, inl, inr, ◌∙◌, arith}
 use Rattle.std.specs.List.{Contains}
 use Rattle.lore_base.specs.Names.{IsNameTable, object_of}
 use Rattle.lore_base.specs.Databases.{Database, IsValid}
@@ -12,7 +12,7 @@ use Rattle.lorel_trees.specs.Formed.{IsFormedStatement}
 use Rattle.lorel_trees.specs.UpdateRows.{target_select, pair_select}
 use Rattle.lorel_bind.specs.Answers.{IsAnswer}
 use Rattle.lorel_bind.specs.Refusals.{HasUnknownName, HasUnknownVariable}
-use Rattle.updates.specs.Effects.{Pair, targets}
+use Rattle.updates.specs.Effects.{targets}
 use Rattle.updates.specs.Causes.{IsUpdate, HasTargets}
 use Rattle.lore_db.specs.Types.{Oid}
 use Rattle.lore_db.specs.Statements.{pair_of, AreRowsOf, effects, Cause}

@@ -1,10 +1,9 @@
 -- Executions of statements: a select that answers, and changes that are made.
-use Rattle.std.proofs.Common.{◌≡◌, ◌↔◌, inl, inr, ℕ, List, [], ◌∷◌, ◌++◌, length, map, Option, Some, None, Result, Ok, Err, IfOk, refl, sym, ap, subst}
-use Rattle.std.specs.Prelude.{MatchOption, IfErr, OnErr}
-use Rattle.std.specs.List.{Contains}
+use Rattle.std.proofs.Common.{◌≡◌, ◌↔◌, inl, inr, List, [], ◌∷◌, Option, Result, Ok, Err, IfOk, refl, sym, subst}
+use Rattle.std.specs.Prelude.{IfErr, OnErr}
 use Rattle.lore_base.specs.Databases.{Database, IsValid}
 use Rattle.lore_base.specs.ChangeSets.{Fits, IsAfter, AreSame}
-use Rattle.lore_base.specs.ChangeCauses.{ChangeCause}
+use Rattle.lore_base.specs.ChangeCauses.{DatabaseCause}
 use Rattle.lore_base.specs.Verdicts.{IsClear, IsToldBy}
 use Rattle.lore_base.specs.declared.no_memory.NoMemory.{NoMemory}
 use Rattle.lore_base.proofs.VerdictLaws.{clear_both}
@@ -14,9 +13,9 @@ use Rattle.lorel_trees.specs.Trees.{SelectTree, StatementTree}
 use Rattle.lorel_trees.specs.Formed.{IsFormedStatement}
 use Rattle.lorel_bind.specs.Answers.{IsAnswer}
 use Rattle.updates.specs.Causes.{IsUpdate}
-use Rattle.lore_db.specs.Types.{Oid, Changes, Refusal, Reply, Changed, Rows, Refused}
+use Rattle.lore_db.specs.Types.{Oid, Changes, Refusal, Reply, Rows}
 use Rattle.lore_db.specs.Types.refusals
-use Rattle.lore_db.specs.Statements.{AreRowsOf, effects, ChangesCause, Cause, order, LeadsOn, Performs, Executes}
+use Rattle.lore_db.specs.Statements.{AreRowsOf, effects, IsOutOfRange, ChangesCause, Cause, order, Counts, LeadsOn, Performs, Executes}
 use Rattle.lore_db.specs.inside.Stages.{ReadCause, read_order, found_order, change_order, fit_order}
 use Rattle.lore_db.specs.inside.Stops.{told, IsRepliedTo}
 use Rattle.lore_db.specs.declared.stops.Stop.{Stop}
@@ -32,7 +31,8 @@ module _ (db : Database) (query : SelectTree) where
   no_locals = (λ h. h, (λ h. h, tt))
 
   no_changes : IsClear (Cause db (t.select query)) change_order
-  no_changes = (λ h. h, (λ h. h, (λ h. h, (λ h. h, (λ h. h, (λ h. h, (λ h. h, (λ h. h, tt))))))))
+  no_changes =
+      (λ h. h, (λ h. h, (λ h. h, (λ h. h, (λ h. h, (λ h. h, (λ h. h, (λ h. h, (λ h. h, (λ h. h, tt))))))))))
 
   pub select_performs : (rows : List (List Oid)) → IsClear (ReadCause db query) read_order → IsAnswer db query rows
       → Executes db (t.select query) (Rows rows) db
@@ -68,14 +68,13 @@ module _ (db : Database) (statement : StatementTree) (rows : List (List Oid)) (a
 
   module _ (its : (refusal : Refusal) → OverRows db statement refusal ↔ ChangesCause db statement refusal) where
     -- what refuses the changes refuses the statement
-    pub changes_told : (told : Option Refusal) → IsToldBy (ChangeCause db.labels db.graph changes) sizes told → IsToldBy (Cause db statement) order told
+    pub changes_told : (told : Option Refusal) → IsToldBy (DatabaseCause db changes) sizes told → IsToldBy (Cause db statement) order told
     changes_told told h = sizes_told db statement rows are changes same its told clear h
 
-    pub changes_lead : (after : Database) (reply : Reply) → IsClear (ChangeCause db.labels db.graph changes) sizes → IsAfter db changes after
-        → reply ≡ Changed (length after.graph.objects) (length after.graph.edges)
-        → IsClear (Cause db statement) order × LeadsOn db statement reply after
-    changes_lead after reply left is counts = (
-      sizes_clear db statement rows are changes same its clear left,
+    pub changes_lead : (IsOutOfRange db statement → ⊥) → (after : Database) (reply : Reply) → IsClear (DatabaseCause db changes) sizes
+        → IsAfter db changes after → Counts after reply → IsClear (Cause db statement) order × LeadsOn db statement reply after
+    changes_lead within after reply left is counts = (
+      sizes_clear db statement rows are changes same its within clear left,
       ((rows, are, IsAfter-same changes (effects db statement rows) (same-back (effects db statement rows) changes same) db after is), counts),
     )
 

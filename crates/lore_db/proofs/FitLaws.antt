@@ -1,32 +1,32 @@
 -- What a statement changes fits the database, in each form: where the statement's texts have their forms, its rows are of
 -- live objects, and no cause applies that its changes are refused for before they are made.
-use Rattle.std.proofs.Common.{◌≡◌, ◌≢◌, ◌⊎◌, inl, inr, ℕ, ◌+◌, ◌<◌, ◌≤◌, true, false, if◌then◌else◌, List, [], ◌∷◌, ◌++◌, length, map, Option, Some, None, All, AllPairs, Contains, refl, sym, ap, subst, ◌∙◌, arith, append-nil}
+use Rattle.std.proofs.Common.{◌≡◌, ◌≢◌, ◌⊎◌, inl, inr, ℕ, ◌+◌, ◌<◌, ◌≤◌, true, false, if◌then◌else◌, List, [], ◌∷◌, ◌++◌, length, map, Option, Some, All, AllPairs, Contains, refl, ap, subst, arith, append-nil}
 use Rattle.std.specs.Prelude.{IfSome}
-use Rattle.std.specs.List.{list_any, filter}
+use Rattle.std.specs.List.{list_any}
 use Rattle.std.specs.List.Sorted.{IsStrictlySortedBy}
 use Rattle.std.specs.Str.{bytes_eq}
 use Rattle.std.proofs.lemmas.Bool.{cases_lt}
-use Rattle.std.proofs.lemmas.List.{length-append, length-map, get_or-map}
-use Rattle.std.proofs.lemmas.List.Elements.{All-nil, All-cons, All-append, All-weaker, All-map, All-contains, All-head, All-tail, All-filter, Contains-append_left, Contains-append_right}
+use Rattle.std.proofs.lemmas.List.{length-map, get_or-map}
+use Rattle.std.proofs.lemmas.List.Elements.{All-nil, All-cons, All-weaker, All-map, All-contains, All-head, All-filter}
 use Rattle.std.proofs.lemmas.List.Kept.{AllPairs-filter}
-use Rattle.lore_base.specs.Names.{IsName, IsLabel, IsNameTable, object_of}
+use Rattle.lore_base.specs.Names.{IsName, IsLabel, IsNameTable}
 use Rattle.lore_base.specs.Walks.{oid_of, edge_of}
 use Rattle.lore_base.specs.Databases.{OemGraph, Database, IsLive, IsComplex, IsSized, IsLinked, IsValid}
-use Rattle.lore_base.specs.ChangeSets.{IsBound, HasChildren, AreNumberedFrom, IsAtHand, IsComplexThen, FitsGraph, Fits}
+use Rattle.lore_base.specs.ChangeSets.{IsBound, HasChildren, AreNumberedFrom, IsAtHand, IsComplexThen, Fits}
 use Rattle.lore_base.specs.ChangeCauses.{AddsToAtom, HidesChildren}
-use Rattle.lore_base.proofs.MemberLaws.{Contains-none, Contains-head, Contains-tail, Contains-cases}
+use Rattle.lore_base.proofs.MemberLaws.{Contains-none}
 use Rattle.oem_changes.proofs.RootedLaws.{All-of_members}
 use Rattle.lorel_trees.specs.Trees.{LiteralTree}
 use Rattle.lorel_trees.specs.Formed.{IsFormedLiteral}
 use Rattle.oem_labels.specs.Labels.{first_uses, place_in, label_in}
 use Rattle.oem_labels.proofs.LabelLaws.{known_text}
 use Rattle.oem_text.specs.Literals.{Arc, bodies, arcs_of, labels_of, HasUndefined, objects_of, edge_at, edges_of}
-use Rattle.updates.specs.Effects.{Pair, targets, no_changes, is_atomic, takers, assigning, link_of, links, linking, unlinking, copied_objects, copied_edges, copying}
-use Rattle.updates.proofs.RowLaws.{map_found, map_holds, link_found, link_holds}
+use Rattle.updates.specs.Effects.{Pair, no_changes, is_atomic, takers, assigning, links, linking, unlinking}
+use Rattle.updates.proofs.RowLaws.{map_holds, link_found, link_holds}
 use Rattle.lore_db.specs.Statements.{loading, naming, unnaming}
 use Rattle.lore_db.specs.Types.{Oid, Label, Edge, Value, Whole, Chars, Complex, Changes, LABELS, NEXT_NUMBER}
 use Rattle.lore_db.proofs.LabelFitLaws.{labels_come_new, labels_come_once, labels_come_formed, place_below, labels_there}
-use Rattle.lore_db.proofs.LiteralLaws.{Within, values_of, numbered_on, length-objects_of, objects_sized, labels_formed, edges_linked, first_live}
+use Rattle.lore_db.proofs.LiteralLaws.{values_of, numbered_on, length-objects_of, objects_sized, labels_formed, edges_linked, first_live}
 
 AllPairs-nil : {X : Type 0} (R : X → X → Type 0) → AllPairs R []
 AllPairs-nil R i j d low within = absurd (omega (arith, within))

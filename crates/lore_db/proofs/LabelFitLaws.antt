@@ -1,15 +1,14 @@
 -- The texts that a list uses first come to a table: none of them is there, none comes twice, and the labels of all texts
 -- of the list are those of the table then.
-use Rattle.std.proofs.Common.{◌≡◌, ◌≢◌, ◌⊎◌, inl, inr, ℕ, ◌+◌, ◌<◌, Bool, true, false, if◌then◌else◌, List, [], ◌∷◌, ◌++◌, length, map, All, AllPairs, Contains, refl, sym, ap, subst, ◌∙◌, arith}
+use Rattle.std.proofs.Common.{◌≡◌, ◌≢◌, inl, inr, ℕ, ◌+◌, ◌<◌, Bool, true, false, if◌then◌else◌, List, [], ◌∷◌, ◌++◌, length, All, AllPairs, Contains, refl, ap, arith}
 use Rattle.std.specs.Str.{bytes_eq}
-use Rattle.std.specs.List.{list_any}
-use Rattle.std.proofs.lemmas.List.Elements.{All-nil, All-contains, Contains-append_right, Contains-append_left}
+use Rattle.std.proofs.lemmas.List.Elements.{Contains-append_right}
 use Rattle.std.proofs.lemmas.Slice.Eq.{bytes_eq-Decides}
 use Rattle.lore_base.specs.Names.{IsLabel}
-use Rattle.lore_base.proofs.MemberLaws.{Contains-none, Contains-cases, Contains-tail}
+use Rattle.lore_base.proofs.MemberLaws.{Contains-none, Contains-cases}
 use Rattle.lore_base.proofs.ListLaws.{AllPairs-head, AllPairs-tail}
 use Rattle.oem_changes.proofs.RootedLaws.{All-of_members}
-use Rattle.oem_labels.specs.Labels.{first_uses, place_in, label_in}
+use Rattle.oem_labels.specs.Labels.{first_uses, place_in}
 use Rattle.oem_labels.proofs.LabelLaws.{first_uses_distinct, first_uses_cover, All-first_uses}
 
 -- ---- lists apart

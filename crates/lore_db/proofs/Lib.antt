@@ -20,6 +20,7 @@ pub mod LoadLaws
 pub mod EffectLaws
 pub mod UpdateLaws
 pub mod ExecutionLaws
+pub mod GuideStatementLaws
 pub mod NamingLaws
 pub mod UpdatingLaws
 pub mod TurnLaws

@@ -1,20 +1,19 @@
 -- What a literal makes fits together: its objects are numbered one after another, and its edges join them, where each
 -- local that it uses marks one of them.
-use Rattle.std.proofs.Common.{◌≡◌, ◌⊎◌, inl, inr, ℕ, zero, suc, ◌+◌, ◌<◌, ◌≤◌, Bool, true, false, if◌then◌else◌, List, [], ◌∷◌, ◌++◌, length, map, Option, Some, None, All, Contains, refl, sym, ap, subst, ◌∙◌, arith, true≢false, slice_get}
+use Rattle.std.proofs.Common.{◌≡◌, ◌⊎◌, inl, inr, ℕ, zero, suc, ◌+◌, ◌<◌, ◌≤◌, Bool, true, false, if◌then◌else◌, List, [], ◌∷◌, ◌++◌, length, map, Some, All, Contains, refl, sym, ap, subst, ◌∙◌, arith, true≢false}
 use Rattle.std.proofs.lemmas.List.{length-map, map-append, length-append}
 use Rattle.std.proofs.lemmas.Option.{none-some, same_Some}
 use Rattle.std.proofs.lemmas.Bool.Decides.{nat_tests}
 use Rattle.std.proofs.lemmas.List.Elements.{All-nil, All-cons, All-append, All-weaker, All-map, All-contains, Contains-append_left, Contains-append_right}
 use Rattle.lore_base.specs.Names.{IsLabel}
-use Rattle.lore_base.specs.Walks.{oid_of, edge_of}
+use Rattle.lore_base.specs.Walks.{oid_of}
 use Rattle.lore_base.specs.Databases.{IsLive, IsComplex, IsSized, IsLinked}
 use Rattle.lore_base.specs.ChangeSets.{AreNumberedFrom}
 use Rattle.lore_base.proofs.MemberLaws.{Contains-head, Contains-tail}
 use Rattle.oem_changes.proofs.RootedLaws.{All-of_members}
 use Rattle.lorel_trees.specs.Trees.{LiteralTree, local, atom, node, MemberTrees, none, more}
 use Rattle.lorel_trees.specs.Formed.{IsFormedLiteral, AreFormedMembers}
-use Rattle.oem_labels.specs.Labels.{label_in}
-use Rattle.lore_db.specs.Types.{Oid, Edge, Value, Complex}
+use Rattle.lore_db.specs.Types.{Oid, Value, Complex}
 use Rattle.oem_text.specs.Literals.{Body, Target, placed, called, Arc, bodies, member_bodies, target, arcs, member_arcs, arcs_of, labels_of, IsMarkedAt, HasUndefined, is_mark, marked_place, place_of, numbered, objects_of, edge_at, edges_of}
 use Rattle.updates.proofs.RowLaws.{map_holds}
 

@@ -1,13 +1,12 @@
 -- The rows of a select are rows of live objects: each is reached from a name. Those of a path have one cell, those of two
 -- paths two.
-use Rattle.std.proofs.Common.{◌≡◌, ◌≢◌, ◌⊎◌, inl, inr, ℕ, List, [], ◌∷◌, ◌++◌, length, map, Some, None, All, AllPairs, refl, sym, ap, subst, ◌∙◌, append_assoc, append-nil, arith}
+use Rattle.std.proofs.Common.{◌≡◌, ◌≢◌, inl, inr, ℕ, List, [], ◌∷◌, ◌++◌, length, map, All, AllPairs, sym, ap, subst, ◌∙◌, append_assoc, append-nil, arith}
 use Rattle.std.specs.List.{Contains}
 use Rattle.std.specs.Prelude.{IfSome}
 use Rattle.std.specs.Ordering.{ordering_reverse}
 use Rattle.std.specs.declared.cmp.Ordering.TheVariants.{Less, Greater}
-use Rattle.std.proofs.lemmas.List.Elements.{All-nil, All-cons, All-head, All-tail, All-map, All-contains, Contains-push_cases}
+use Rattle.std.proofs.lemmas.List.Elements.{All-head, All-tail, All-map, All-contains, Contains-push_cases}
 use Rattle.std.proofs.lemmas.List.Kept.{AllPairs-cons}
-use Rattle.lore_base.specs.Names.{object_of}
 use Rattle.lore_base.specs.Walks.{Walk, edge_of}
 use Rattle.lore_base.specs.Databases.{OemGraph, Database, IsLive, IsLinked, IsWellFormed, IsValid}
 use Rattle.lore_base.proofs.NameLaws.{found_bound}
@@ -16,7 +15,7 @@ use Rattle.lore_base.proofs.ListLaws.{AllPairs-head, AllPairs-tail}
 use Rattle.oem_changes.proofs.RootedLaws.{All-of_members}
 use Rattle.lorel_trees.specs.Trees.{RootedTree, TailTree, SelectTree}
 use Rattle.lorel_trees.specs.UpdateRows.{target_select, pair_select}
-use Rattle.lorel_bind.specs.Places.{named, Place, at_root, scope_of, place_of, cell_places}
+use Rattle.lorel_bind.specs.Places.{Place, scope_of, place_of, cell_places}
 use Rattle.lorel_bind.specs.Ranges.{Range, places, ArePlain}
 use Rattle.lorel_bind.specs.Answers.{Leads, IsValuation, IsRow, row_cmp, IsAnswer}
 use Rattle.lorel_bind.specs.Refusals.{text_places, ranged_identifiers, StartsNowhere, HasUnknownName, HasUnknownVariable}
@@ -27,7 +26,7 @@ use Rattle.lorel_bind.proofs.RootLaws.{IsBoundName, IsKnown, known_found, names_
 use Rattle.lorel_bind.proofs.ToldLaws.{told_member, told_bytes}
 use Rattle.updates.specs.Effects.{Pair, targets}
 use Rattle.updates.proofs.RowLaws.{map_found}
-use Rattle.lore_db.specs.Types.{Oid, Label, Edge}
+use Rattle.lore_db.specs.Types.{Oid, Label}
 use Rattle.lore_db.specs.Statements.{pair_of}
 
 -- where no path starts at an unknown name or variable, none starts nowhere

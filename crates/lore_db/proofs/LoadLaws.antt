@@ -1,5 +1,5 @@
 -- Loads: the part that a literal brings makes the changes of its load, and what refuses it refuses the load.
-use Rattle.std.proofs.Common.{◌≡◌, ℕ, List, [], ◌∷◌, ◌++◌, Option, sym, ap, subst, ◌∙◌}
+use Rattle.std.proofs.Common.{◌≡◌, ℕ, List, [], ◌∷◌, ◌++◌, Option, ap, subst, ◌∙◌}
 use Rattle.lore_base.specs.Walks.{oid_of}
 use Rattle.lore_base.specs.Databases.{Database, IsValid}
 use Rattle.lore_base.specs.Verdicts.{IsClear, IsToldBy}
@@ -10,7 +10,7 @@ use Rattle.oem_text.specs.Literals.{labels_of, objects_of, edges_of}
 use Rattle.oem_text.specs.Parts.{IsPart}
 use Rattle.oem_text.specs.Parts as text
 use Rattle.oem_text.specs.declared.parts.Part.{Part}
-use Rattle.lore_db.specs.Types.{Oid, Edge, Value, Refusal}
+use Rattle.lore_db.specs.Types.{Refusal}
 use Rattle.lore_db.specs.Statements.{loading, Cause, order}
 use Rattle.lore_db.specs.inside.Stages.{loading_part, fit_order}
 use Rattle.lore_db.proofs.CauseLaws.{load_told, load_clear}

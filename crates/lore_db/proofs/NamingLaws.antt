@@ -4,16 +4,16 @@ use Rattle.std.specs.List.{Contains}
 use Rattle.lore_base.specs.Names.{IsName, IsNameTable, object_of}
 use Rattle.lore_base.specs.Databases.{Database, IsValid}
 use Rattle.lore_base.specs.ChangeSets.{IsBound, Fits, IsAfter}
-use Rattle.lore_base.specs.ChangeCauses.{ChangeCause}
+use Rattle.lore_base.specs.ChangeCauses.{DatabaseCause}
 use Rattle.lore_base.specs.Verdicts.{IsClear, IsToldBy}
 use Rattle.lore_base.proofs.NameLaws.{found_bound, bound_found}
 use Rattle.oem_changes.proofs.RootedLaws.{All-of_members}
 use Rattle.lorel_trees.specs.Trees.{RootedTree, SelectTree, StatementTree, bind, unname}
 use Rattle.lorel_bind.specs.Answers.{IsAnswer}
-use Rattle.lore_db.specs.Types.{Oid, Changes, Refusal, Reply, Changed}
+use Rattle.lore_db.specs.Types.{Oid, Changes, Refusal, Reply}
 use Rattle.lore_db.specs.Types.refusals
 use Rattle.lore_db.specs.Built.{path_select}
-use Rattle.lore_db.specs.Statements.{pair_of, naming, unnaming, effects, Cause, order, Executes}
+use Rattle.lore_db.specs.Statements.{pair_of, naming, unnaming, effects, Cause, order, Counts, Executes}
 use Rattle.lore_db.specs.inside.Stops.{told}
 use Rattle.lore_db.specs.inside.Stages.{ReadCause, read_order, found_order, change_order, fit_order, IsOnly, IsNotOnly}
 use Rattle.lore_db.specs.declared.stops.Stop.{Stop}
@@ -79,15 +79,15 @@ module _ (db : Database) (valid : IsValid db) (name : List ℕ) (path : RootedTr
       pub named_fit : Fits db changes
       named_fit = subst (λ (c : Changes). Fits db c) (sym lists) (name_fits db valid name (map pair_of rows) formed (one_targets db rows each))
 
-      pub named_stop : (told : Option Refusal) → IsToldBy (ChangeCause db.labels db.graph changes) sizes told → IsToldBy (Cause db naming_tree) order told
+      pub named_stop : (told : Option Refusal) → IsToldBy (DatabaseCause db changes) sizes told → IsToldBy (Cause db naming_tree) order told
       named_stop told h =
           changes_told db naming_tree rows answer changes (same_as (effects db naming_tree rows) changes lists) fit_clear (name_its db name path) told h
 
-      pub named_executes : (after : Database) (reply : Reply) → IsClear (ChangeCause db.labels db.graph changes) sizes → IsAfter db changes after
-          → reply ≡ Changed (length after.graph.objects) (length after.graph.edges) → Executes db naming_tree reply after
+      pub named_executes : (after : Database) (reply : Reply) → IsClear (DatabaseCause db changes) sizes → IsAfter db changes after
+          → Counts after reply → Executes db naming_tree reply after
       named_executes after reply left leads counts =
           inl (changes_lead db naming_tree rows answer changes (same_as (effects db naming_tree rows) changes lists) fit_clear (name_its db name path)
-          after reply left leads counts)
+          (λ outside. outside) after reply left leads counts)
 
 -- ---- a name taken away
 module _ (db : Database) (valid : IsValid db) (name : List ℕ) where
@@ -104,10 +104,11 @@ module _ (db : Database) (valid : IsValid db) (name : List ℕ) where
     pub unnamed_fit : Fits db changes
     unnamed_fit = subst (λ (c : Changes). Fits db c) (sym is) (unname_fits db valid name bound)
 
-    pub unnamed_stop : (told : Option Refusal) → IsToldBy (ChangeCause db.labels db.graph changes) sizes told → IsToldBy (Cause db unnaming_tree) order told
+    pub unnamed_stop : (told : Option Refusal) → IsToldBy (DatabaseCause db changes) sizes told → IsToldBy (Cause db unnaming_tree) order told
     unnamed_stop told h = changes_told db unnaming_tree [] refl changes (same_as (unnaming name) changes is) bound_clear (unname_its db name) told h
 
-    pub unnamed_executes : (after : Database) (reply : Reply) → IsClear (ChangeCause db.labels db.graph changes) sizes → IsAfter db changes after
-        → reply ≡ Changed (length after.graph.objects) (length after.graph.edges) → Executes db unnaming_tree reply after
+    pub unnamed_executes : (after : Database) (reply : Reply) → IsClear (DatabaseCause db changes) sizes → IsAfter db changes after
+        → Counts after reply → Executes db unnaming_tree reply after
     unnamed_executes after reply left leads counts =
-        inl (changes_lead db unnaming_tree [] refl changes (same_as (unnaming name) changes is) bound_clear (unname_its db name) after reply left leads counts)
+        inl (changes_lead db unnaming_tree [] refl changes (same_as (unnaming name) changes is) bound_clear (unname_its db name) (λ outside. outside)
+        after reply left leads counts)

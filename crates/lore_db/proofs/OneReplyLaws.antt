@@ -1,16 +1,18 @@
 -- A statement has one reply, and leaves one database.
-use Rattle.std.proofs.Common.{◌≡◌, List, [], length, Some, None, inl, inr, sym, ap, subst, ◌∙◌}
-use Rattle.std.specs.Prelude.{MatchOption}
+use Rattle.std.proofs.Common.{◌≡◌, ℕ, List, [], length, Some, None, inl, inr, sym, ap, subst, ◌∙◌}
+use Rattle.std.specs.Prelude.{ℤ, pos, MatchOption}
 use Rattle.lore_base.specs.Databases.{Database}
 use Rattle.lore_base.specs.ChangeSets.{IsAfter}
 use Rattle.lore_base.proofs.VerdictLaws.{one_first, first_unclear}
+use Rattle.oem_changes.proofs.CountLaws.{distinct_as_long}
 use Rattle.oem_changes.proofs.DeterminedLaws.{one_database_after}
-use Rattle.lorel_trees.specs.Trees.{StatementTree, select}
+use Rattle.guide_query.proofs.OneListOfLines.{one_list_of_lines}
+use Rattle.lorel_trees.specs.Trees.{StatementTree, select, guide, set_nodes}
 use Rattle.lorel_bind.specs.Answers.{IsAnswer}
 use Rattle.lorel_bind.proofs.AnswerLaws.{has_one_answer}
-use Rattle.lore_db.specs.Types.{Oid, Refusal, Reply, Changed, Rows, Refused}
+use Rattle.lore_db.specs.Types.{Oid, Refusal, Reply, Changed, Rows, Lines, Refused}
 use Rattle.lore_db.specs.Built.{reads}
-use Rattle.lore_db.specs.Statements.{AreRowsOf, effects, Cause, order, LeadsOn, Performs, Refuses}
+use Rattle.lore_db.specs.Statements.{AreRowsOf, effects, Cause, order, Counts, LeadsOn, Shows, Limits, Performs, Refuses}
 use Rattle.lore_db.specs.StatementLaws.{ExecutesOnce}
 
 -- a statement is executed over one list of rows
@@ -23,6 +25,18 @@ one_rows db statement rows other =
       | Some query ↦ has_one_answer db query rows other
     ]
 
+-- a database is counted by one reply
+one_counted : (db : Database) (reply other : Reply) → Counts db reply → Counts db other → reply ≡ other
+one_counted db reply other h k =
+    let many = distinct_as_long h.0 k.0 h.1.apart k.1.apart
+    (λ set. (λ at. (k.1.exact set).1 ((h.1.exact set).0 at), λ at. (h.1.exact set).1 ((k.1.exact set).0 at))) in
+    h.2 ∙ ap (λ (count : ℕ). Changed (length db.graph.objects) (length db.graph.edges) count) many ∙ sym k.2
+
+-- also where it is another one that is the same
+same_counted : (after later : Database) (reply other : Reply) → after ≡ later → Counts after reply → Counts later other → reply ≡ other
+same_counted after later reply other same h k =
+    one_counted later reply other (subst (λ (db : Database). Counts db reply) same h) k
+
 one_led : (before : Database) (statement : StatementTree) (reply other : Reply) (after later : Database)
     → LeadsOn before statement reply after
     → LeadsOn before statement other later → (reply ≡ other) × (after ≡ later)
@@ -30,7 +44,21 @@ one_led before statement reply other after later h k =
     let rows = one_rows before statement h.0.0 k.0.0 h.0.1 k.0.1 in
     let there = subst (λ (l : List (List Oid)). IsAfter before (effects before statement l) after) rows h.0.2 in
     let same = one_database_after before (effects before statement k.0.0) after later there k.0.2 in
-    (h.1 ∙ ap (λ (db : Database). Changed (length db.graph.objects) (length db.graph.edges)) same ∙ sym k.1, same)
+    (same_counted after later reply other same h.1 k.1, same)
+
+one_shown : (before : Database) (reply other : Reply) (after later : Database) → Shows before reply after
+    → Shows before other later → (reply ≡ other) × (after ≡ later)
+one_shown before reply other after later h k =
+    let same = one_list_of_lines before.graph.names before.graph.edges before.labels h.1.0 k.1.0 h.1.2 k.1.2 in
+    (h.1.1 ∙ ap (λ (lines : List (List ℕ)). Lines lines) same ∙ sym k.1.1, h.0 ∙ sym k.0)
+
+one_limited : (before : Database) (nodes : ℤ) (reply other : Reply) (after later : Database) → Limits before nodes reply after
+    → Limits before nodes other later → (reply ≡ other) × (after ≡ later)
+one_limited before nodes reply other after later h k =
+    let numbers : pos h.0.0 ≡ pos k.0.0 = sym h.0.1 ∙ k.0.1 in
+    let limit : h.0.0 ≡ k.0.0 = cc in
+    let same : after ≡ later = h.0.2 ∙ ap (λ (n : ℕ). record before { nodes = n }) limit ∙ sym k.0.2 in
+    (same_counted after later reply other same h.1 k.1, same)
 
 one_performed : (before : Database) (statement : StatementTree) (reply other : Reply) (after later : Database)
     → Performs before statement reply after
@@ -38,6 +66,8 @@ one_performed : (before : Database) (statement : StatementTree) (reply other : R
 one_performed before (select query) reply other after later h k =
     let same = has_one_answer before query h.1.0 k.1.0 h.1.2 k.1.2 in
     (h.1.1 ∙ ap (λ (rows : List (List Oid)). Rows rows) same ∙ sym k.1.1, h.0 ∙ sym k.0)
+one_performed before guide reply other after later h k = one_shown before reply other after later h k
+one_performed before (set_nodes nodes) reply other after later h k = one_limited before nodes reply other after later h k
 one_performed before statement reply other after later h k = one_led before statement reply other after later h k
 
 one_refused : (refusal same : Refusal) (before : Database) (reply other : Reply) (after later : Database)

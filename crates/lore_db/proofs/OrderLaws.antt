@@ -1,6 +1,6 @@
 -- Orders of refusals in parts: what is told of a part is told of the whole, also where causes that don't apply come
 -- between; and the same causes in other words.
-use Rattle.std.proofs.Common.{◌≡◌, ◌↔◌, inl, inr, List, [], ◌∷◌, ◌++◌, Option, Some, None}
+use Rattle.std.proofs.Common.{◌↔◌, inl, inr, List, [], ◌∷◌, ◌++◌, Option, Some, None}
 use Rattle.lore_base.specs.Verdicts.{IsFirst, IsClear, IsToldBy}
 use Rattle.lore_base.proofs.VerdictLaws.{first_left, first_right, clear_left, clear_right, clear_both}
 use Rattle.lore_db.specs.Types.{Refusal}

@@ -1,5 +1,5 @@
 -- A statement that is executed over a select is refused for what the select is refused for.
-use Rattle.std.proofs.Common.{◌≡◌, ◌≢◌, ◌↔◌, inl, inr, Bool, true, false, if◌then◌else◌, true≢false, ℕ, ◌<◌, ◌≤◌, List, [], ◌∷◌, ◌++◌, length, Option, Some, None, AllPairs, All, refl, sym, ap, subst, ◌∙◌, arith}
+use Rattle.std.proofs.Common.{◌≡◌, ◌≢◌, ◌↔◌, inl, inr, Bool, true, false, if◌then◌else◌, true≢false, ◌<◌, ◌≤◌, List, [], ◌∷◌, length, Option, Some, None, AllPairs, All, refl, sym, ap, subst, ◌∙◌, arith}
 use Rattle.std.specs.Prelude.{MatchOption}
 use Rattle.std.specs.List.{Contains}
 use Rattle.graph_search.proofs.SumLaws.{length-within}
@@ -16,7 +16,7 @@ use Rattle.lore_db.specs.Types.refusals
 use Rattle.lore_db.specs.Built.{reads, has_path_variable, is_read, is_built}
 use Rattle.lore_db.specs.Statements.{IsUnbound, OfReads, HasTooManyRows, Cause}
 use Rattle.lore_db.specs.inside.Stages.{ReadCause, bind_order, read_order, found_order}
-use Rattle.lore_db.proofs.OrderLaws.{AreAlike, told_left, told_right, told_between, clear_between, clear_alike, told_alike}
+use Rattle.lore_db.proofs.OrderLaws.{AreAlike, told_between, clear_between, clear_alike, told_alike}
 use Rattle.lore_db.proofs.LiveRowLaws.{starts_somewhere}
 
 -- ---- answers that are too long

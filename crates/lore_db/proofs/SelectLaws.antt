@@ -1,7 +1,7 @@
 -- The rows of a select: none of its path variables is left, and what a search finds is its answer.
-use Rattle.std.proofs.Common.{◌≡◌, true, false, true≢false, Bool, ◌||◌, ℕ, ◌<◌, List, [], ◌∷◌, ◌++◌, length, Option, Some, None, ◌↔◌, is_some, All, refl, sym, ap, inl, inr}
+use Rattle.std.proofs.Common.{◌≡◌, true, false, true≢false, Bool, ◌||◌, ℕ, List, [], ◌∷◌, Option, Some, None, ◌↔◌, is_some, All, refl, inl}
 use Rattle.std.specs.List.{Contains, list_any}
-use Rattle.std.specs.Prelude.{MatchOption, IfSome}
+use Rattle.std.specs.Prelude.{IfSome}
 use Rattle.std.proofs.lemmas.List.Elements.{All-nil, All-cons, All-weaker}
 use Rattle.lore_base.specs.Databases.{Database}
 use Rattle.lore_base.specs.Verdicts.{IsClear, IsToldBy}
@@ -11,10 +11,9 @@ use Rattle.lorel_bind.specs.Answers.{IsAnswer}
 use Rattle.lorel_bind.specs.Bound.{BoundTree, BoundPathTree}
 use Rattle.lorel_bind.specs.Bindings.{IsPath, HasNoPathVariable, IsBinding, IsRunnable}
 use Rattle.lorel_bind.specs.Conditions.{CondOf}
-use Rattle.lorel_bind.specs.Refusals.{IsAccepted}
 use Rattle.lorel_bind.specs.SlotRows.{HoldsOver, IsSlotRow}
 use Rattle.lorel_bind.proofs.SlotRowLaws.{binding_keeps_rows}
-use Rattle.lore_db.specs.Types.{Oid, Edge, Value, Refusal, ROWS}
+use Rattle.lore_db.specs.Types.{Oid, Edge, Value, Refusal}
 use Rattle.lore_db.specs.Types.refusals
 use Rattle.lore_db.specs.Built.{is_path_variable, has_path_variable}
 use Rattle.lore_db.specs.Statements.{HasTooManyRows}

@@ -1,5 +1,5 @@
 -- A sound select is shallow, and so is that of a sound update: each quantifier of its condition nests in its derivation.
-use Rattle.std.proofs.Common.{◌≡◌, ℕ, ◌+◌, ◌≤◌, max, List, Option, Some, None, refl, sym, ap, ◌∙◌, subst, arith}
+use Rattle.std.proofs.Common.{◌≡◌, ℕ, ◌≤◌, max, Some, None, refl, sym, ap, ◌∙◌, subst, arith}
 use Rattle.std.proofs.Math.Nat.{le_trans, le-max_left, le-max_right, max-le}
 use Rattle.lorel_trees.specs.Types.{NESTING}
 use Rattle.lorel_trees.specs.Trees as t

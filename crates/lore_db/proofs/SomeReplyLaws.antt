@@ -1,19 +1,24 @@
 -- From each database that a `Db` can be, a sound statement has a reply, and leaves such a database.
 use Rattle.std.proofs.Common.{◌≡◌, ◌≢◌, ℕ, ◌+◌, ◌<◌, ◌≤◌, inl, inr, Bool, true, false, true≢false, List, [], ◌∷◌, ◌++◌}
 use Rattle.std.proofs.Common.{length, Option, Some, None, refl, subst, ◌∙◌, arith}
-use Rattle.std.specs.Prelude.{MatchOption}
+use Rattle.std.specs.Prelude.{ℤ, MatchOption}
 use Rattle.std.specs.List.Sorted.{IsStrictlySortedBy}
 use Rattle.std.proofs.lemmas.Bool.{cases_eq, cases_lt}
 use Rattle.lore_base.specs.Databases.{OemGraph, Database, new_database}
-use Rattle.lore_base.specs.ChangeSets.{Fits}
-use Rattle.lore_base.specs.ChangeCauses.{Outgrows, ChangeCause}
+use Rattle.lore_base.specs.TargetSets.{AreMoreThan}
+use Rattle.lore_base.specs.ChangeSets.{Fits, IsGraphAfter}
+use Rattle.lore_base.specs.ChangeCauses.{Outgrows, LeadsToMore, DatabaseCause}
 use Rattle.lore_base.specs.Verdicts.{IsClear}
 use Rattle.lore_base.proofs.VerdictLaws.{clear_left, clear_right, clear_both}
 use Rattle.oem_changes.proofs.ToldLaws.{IsTold, told_same, told_not, told_either, told_paired, told_bytes, told_below}
 use Rattle.oem_changes.proofs.ToldCauseLaws.{told_adds_to_atom, told_hides_children, told_outgrows}
+use Rattle.oem_changes.proofs.DeterminedLaws.{one_after}
 use Rattle.oem_changes.proofs.SomeAfterLaws.{some_database_after}
 use Rattle.oem_changes.proofs.ValidLaws.{valid_after}
-use Rattle.lorel_trees.specs.Trees.{LiteralTree, SelectTree, StatementTree, bind, unname, select}
+use Rattle.guide_laws.proofs.TargetSetLaws.{target_sets_exist, more_sets_are_told}
+use Rattle.guide_query.proofs.SomeLines.{lines_exist}
+use Rattle.lore_store.proofs.NewLaws.{none_led}
+use Rattle.lorel_trees.specs.Trees.{LiteralTree, SelectTree, StatementTree, bind, unname, select, guide, set_nodes}
 use Rattle.lorel_trees.specs.Formed.{IsFormedStatement}
 use Rattle.lorel_trees.proofs.FormLaws.{sound_statement}
 use Rattle.lorel_bind.specs.Answers.{IsAnswer}
@@ -24,10 +29,10 @@ use Rattle.lorel_bind.proofs.SomeAnswerLaws.{has_some_answer}
 use Rattle.lorel_bind.proofs.RefusalLaws.{has_some_verdict}
 use Rattle.oem_text.specs.Literals.{HasDouble, HasUndefined}
 use Rattle.lore_db.specs.Types.{Oid, Changes, Refusal, LABELS, NAMES, OBJECTS, EDGES, NEXT_NUMBER, ROWS, Reply, Changed}
-use Rattle.lore_db.specs.Types.{Rows, Refused}
+use Rattle.lore_db.specs.Types.{Rows, Lines, Refused}
 use Rattle.lore_db.specs.Types.refusals
 use Rattle.lore_db.specs.Built.{reads, makes, path_select, is_built}
-use Rattle.lore_db.specs.Statements.{AreRowsOf, effects, IsUnbound, HasTooManyRows, IsNotOne, ChangesCause, OfReads}
+use Rattle.lore_db.specs.Statements.{AreRowsOf, effects, IsUnbound, HasTooManyRows, IsNotOne, IsOutOfRange, ChangesCause, OfReads}
 use Rattle.lore_db.specs.Statements.{Cause, order, LeadsOn, Performs, Executes}
 use Rattle.lorel_trees.specs.Sound.{IsSound}
 use Rattle.lore_db.specs.KeptDatabases.{IsKept}
@@ -38,6 +43,8 @@ use Rattle.lore_db.proofs.LocalToldLaws.{told_double, told_undefined}
 use Rattle.lore_db.proofs.OneReplyLaws.{one_rows}
 use Rattle.lore_db.proofs.LiveRowLaws.{starts_somewhere}
 use Rattle.lore_db.proofs.EffectLaws.{effects_fit}
+use Rattle.lore_db.proofs.CauseLaws.{sizes, range}
+use Rattle.lore_db.proofs.GuideStatementLaws.{IsLimit, told_no_limit, some_limit, kept_limited}
 
 -- the order in stages: what is told of the text, where the last are told of a select and of a literal; of rows and the
 -- changes over them; and of what these leave
@@ -56,7 +63,8 @@ row_order =
     ∷ refusals.TooManyLabels ∷ []
 
 abbrev limit_order : List Refusal
-limit_order = refusals.TooManyNames ∷ refusals.TooManyObjects ∷ refusals.TooManyEdges ∷ []
+limit_order =
+    refusals.TooManyNames ∷ refusals.TooManyObjects ∷ refusals.TooManyEdges ∷ refusals.GuideNodes ∷ refusals.LimitRange ∷ []
 
 -- ---- what is told of the text
 told_false : (test : Bool) → IsTold (test ≡ false)
@@ -117,12 +125,28 @@ told_not_one db statement rows are = inr (λ h. h)
 -- of changes it is told with any list of the rows
 told_changes : (db : Database) (statement : StatementTree) (rows : List (List Oid)) → AreRowsOf db statement rows
     → (refusal : Refusal)
-    → IsTold (ChangeCause db.labels db.graph (effects db statement rows) refusal)
+    → IsTold (DatabaseCause db (effects db statement rows) refusal)
     → IsTold (ChangesCause db statement refusal)
 told_changes db (select query) rows are refusal told = inr (λ h. h)
+told_changes db guide rows are refusal told = inr (λ h. h)
+told_changes db (set_nodes nodes) rows are refusal told = inr (λ h. h)
 told_changes db statement rows are refusal told =
-    let Has = λ (l : List (List Oid)). ChangeCause db.labels db.graph (effects db statement l) refusal in
+    let Has = λ (l : List (List Oid)). DatabaseCause db (effects db statement l) refusal in
     told_same (λ h. (rows, are, h)) (λ h. subst Has (one_rows db statement h.0 rows h.1 are) h.2) told
+
+-- where changes leave a graph, it is told whether more sets are led to than a limit
+told_leads_to_more : (graph : OemGraph) (changes : Changes) (limit : ℕ) (after : OemGraph) → IsGraphAfter graph changes after
+    → IsTold (LeadsToMore graph changes limit)
+told_leads_to_more graph changes limit after leaves =
+    told_same
+    (λ more. (after, leaves, more))
+    (λ (h : LeadsToMore graph changes limit). subst (λ (g : OemGraph). AreMoreThan limit g.names g.edges)
+    (one_after graph changes h.0 after h.1 leaves) h.2)
+    (more_sets_are_told limit after.names after.edges)
+
+told_range : (db : Database) (statement : StatementTree) → IsTold (IsOutOfRange db statement)
+told_range db (set_nodes nodes) = told_no_limit db nodes
+told_range db statement = inr (λ h. h)
 
 module _ (db : Database) (kept : IsKept db) (statement : StatementTree) (formed : IsFormedStatement statement) where
   -- ---- what is told of the changes
@@ -130,7 +154,7 @@ module _ (db : Database) (kept : IsKept db) (statement : StatementTree) (formed 
     abbrev changes : Changes
     changes = effects db statement rows
 
-    told_changed : (refusal : Refusal) → IsTold (ChangeCause db.labels db.graph changes refusal)
+    told_changed : (refusal : Refusal) → IsTold (DatabaseCause db changes refusal)
         → IsTold (ChangesCause db statement refusal)
     told_changed = told_changes db statement rows are
 
@@ -144,7 +168,13 @@ module _ (db : Database) (kept : IsKept db) (statement : StatementTree) (formed 
           told_changed refusals.TooManyNames (told (λ after. length after.names) NAMES),
           λ names. (
             told_changed refusals.TooManyObjects (told (λ after. length after.objects) OBJECTS),
-            λ objects. (told_changed refusals.TooManyEdges (told (λ after. length after.edges) EDGES), λ edges. tt),
+            λ objects. (
+              told_changed refusals.TooManyEdges (told (λ after. length after.edges) EDGES),
+              λ edges. (
+                told_changed refusals.GuideNodes (told_leads_to_more db.graph changes db.nodes left.0.graph left.1.graph),
+                λ sets. (told_range db statement, λ within. tt),
+              ),
+            ),
           ),
         )
 
@@ -202,8 +232,9 @@ module _ (db : Database) (kept : IsKept db) (statement : StatementTree) (formed 
       → (Outgrows db.graph (effects db statement rows) (λ after. length after.names) NAMES → ⊥)
       → (Outgrows db.graph (effects db statement rows) (λ after. length after.objects) OBJECTS → ⊥)
       → (Outgrows db.graph (effects db statement rows) (λ after. length after.edges) EDGES → ⊥)
+      → (LeadsToMore db.graph (effects db statement rows) db.nodes → ⊥)
       → (reply : Reply) × (after : Database) × LeadsOn db statement reply after × IsKept after
-  some_led rows are fits names objects edges =
+  some_led rows are fits names objects edges sets =
       let made = effects db statement rows in
       let left = some_database_after db made kept.valid.well_formed.ordered fits.graph in
       let after = left.0 in
@@ -211,12 +242,29 @@ module _ (db : Database) (kept : IsKept db) (statement : StatementTree) (formed 
       let valid = valid_after db made after kept.valid fits left.1
       (at_most (length after.graph.names) NAMES (λ many. names (after.graph, graph, many)))
       (at_most (length after.graph.objects) OBJECTS (λ many. objects (after.graph, graph, many)))
-      (at_most (length after.graph.edges) EDGES (λ many. edges (after.graph, graph, many))) in (
-        Changed (length after.graph.objects) (length after.graph.edges),
+      (at_most (length after.graph.edges) EDGES (λ many. edges (after.graph, graph, many)))
+      (λ more. sets (
+        after.graph,
+        graph,
+        subst (λ (n : ℕ). AreMoreThan n after.graph.names after.graph.edges) left.1.nodes more,
+      )) in
+      let all = target_sets_exist after.graph.names after.graph.edges in (
+        Changed (length after.graph.objects) (length after.graph.edges) (length all.0),
         after,
-        ((rows, are, left.1), refl),
-        record { valid = valid; nodes = left.1.nodes ∙ kept.nodes; mode = left.1.mode ∙ kept.mode },
+        ((rows, are, left.1), (all.0, all.1, refl)),
+        record { valid = valid; mode = left.1.mode ∙ kept.mode },
       )
+
+-- a limit is set
+some_limited : (db : Database) → IsKept db → (nodes : ℤ) → IsLimit db nodes
+    → (reply : Reply) × (after : Database) × Performs db (set_nodes nodes) reply after × IsKept after
+some_limited db kept nodes is =
+    let all = target_sets_exist db.graph.names db.graph.edges in (
+      Changed (length db.graph.objects) (length db.graph.edges) (length all.0),
+      record db { nodes = is.limit },
+      ((is.limit, is.is, refl), (all.0, all.1, refl)),
+      kept_limited db kept nodes is,
+    )
 
 some_performed : (db : Database) → IsKept db → (statement : StatementTree) → IsFormedStatement statement
     → IsClear (Cause db statement) order
@@ -224,6 +272,13 @@ some_performed : (db : Database) → IsKept db → (statement : StatementTree) �
 some_performed db kept (select query) formed clear =
     let found = some_rows db (select query) clear.1.0 clear.1.1.0 in
     (Rows found.0, db, (refl, (found.0, refl, found.1)), kept)
+some_performed db kept guide formed clear =
+    let valid = kept.valid in
+    let lines = lines_exist db.graph.names db.graph.edges db.labels valid.well_formed.ordered.names_ascend valid.labelled in
+    (Lines lines.0, db, (refl, (lines.0, refl, lines.1)), kept)
+some_performed db kept (set_nodes nodes) formed clear =
+    let within = clear_right (Cause db (set_nodes nodes)) (fit_order ++ sizes) range clear in
+    some_limited db kept nodes (some_limit db nodes within.0)
 some_performed db kept statement formed clear =
     let found = some_rows db statement clear.1.0 clear.1.1.0 in
     let limits = clear_right (Cause db statement) fit_order limit_order clear in
@@ -231,6 +286,7 @@ some_performed db kept statement formed clear =
     (clear_left (Cause db statement) fit_order limit_order clear) in
     some_led db kept statement formed found.0 found.1 fits (λ many. limits.0 (found.0, found.1, many))
     (λ many. limits.1.0 (found.0, found.1, many)) (λ many. limits.1.1.0 (found.0, found.1, many))
+    (λ many. limits.1.1.1.0 (found.0, found.1, many))
 
 pub executes_always : ExecutesAlways
 executes_always db statement kept sound =
@@ -273,8 +329,8 @@ begins_kept = record {
     few_objects = omega arith;
     few_edges = omega arith;
     nodes_limited = (omega arith, omega arith);
+    few_sets = none_led [];
   };
-  nodes = refl;
   mode = refl;
 }
 

@@ -1,6 +1,6 @@
 -- Faults handed on by `?`: the stop tells what the fault told.
 use Rattle.std.proofs.Common.{◌≡◌, List, Option, Result, Ok, Err, sym, subst}
-use Rattle.std.specs.Prelude.{IfErr, OnErr}
+use Rattle.std.specs.Prelude.{IfErr}
 use Rattle.std.specs.Result.{IsErrAnd}
 use Rattle.lore_base.specs.Verdicts.{IsToldBy}
 use Rattle.lore_db.specs.Types.{Refusal}

@@ -1,9 +1,8 @@
 -- Updates: what refuses one before its rows are found, with them, and what refuses its changes.
-use Rattle.std.proofs.Common.{◌≡◌, ◌≢◌, ◌↔◌, inl, inr, ℕ, List, [], ◌∷◌, ◌++◌, length, map, Option, Some, None, option_map, All, refl, sym, ap, subst, ◌∙◌}
+use Rattle.std.proofs.Common.{◌≡◌, ◌↔◌, List, [], ◌∷◌, ◌++◌, map, Option, Some, None, refl, sym, subst, ◌∙◌}
 use Rattle.std.specs.Prelude.{MatchOption, IfSome}
-use Rattle.lore_base.specs.Databases.{Database, IsLive, IsValid}
-use Rattle.lore_base.specs.ChangeSets.{AreSame}
-use Rattle.lore_base.specs.ChangeCauses.{ChangeCause}
+use Rattle.lore_base.specs.Databases.{Database, IsValid}
+use Rattle.lore_base.specs.ChangeCauses.{DatabaseCause}
 use Rattle.lore_base.specs.Verdicts.{IsClear, IsToldBy}
 use Rattle.lore_base.proofs.VerdictLaws.{clear_both, clear_left, clear_right}
 use Rattle.lorel_trees.specs.Trees as t
@@ -17,17 +16,17 @@ use Rattle.oem_text.specs.Parts.{LocalCause, local_order}
 use Rattle.updates.specs.Effects.{Pair, changes_by}
 use Rattle.updates.specs.Causes.{IsUpdate, OfLiteral}
 use Rattle.updates.specs.Causes as updating
-use Rattle.lore_db.specs.Types.{Oid, Changes, Refusal, NAMES}
+use Rattle.lore_db.specs.Types.{Oid, Changes, Refusal}
 use Rattle.lore_db.specs.Types.refusals
 use Rattle.lore_db.specs.Built.{reads, makes}
-use Rattle.lore_db.specs.Statements.{pair_of, AreRowsOf, effects, OfMakes, ChangesCause, Cause, order}
+use Rattle.lore_db.specs.Statements.{pair_of, AreRowsOf, OfMakes, ChangesCause, Cause, order}
 use Rattle.lore_db.specs.inside.Finding.{AreRows, AreTooMany}
-use Rattle.lore_db.specs.inside.Stages.{ReadCause, bind_order, read_order, found_order, fit_order}
+use Rattle.lore_db.specs.inside.Stages.{ReadCause, bind_order, found_order, fit_order}
 use Rattle.lore_db.proofs.OrderLaws.{AreAlike, told_left, told_right, told_between, told_behind, clear_alike, told_alike}
 use Rattle.lore_db.proofs.ChangedCauseLaws.{few_names}
 use Rattle.lore_db.proofs.ReadLaws.{read_binds, read_bound, read_found, read_clear}
 use Rattle.lore_db.proofs.SelectLaws.{rows_clear, rows_told}
-use Rattle.lore_db.proofs.CauseLaws.{locals, sizes, early, over_rows, update_its, update_reads, update_names, update_single, update_effects, update_named}
+use Rattle.lore_db.proofs.CauseLaws.{locals, sizes, range, early, over_rows, update_its, update_reads, update_names, update_single, update_effects, update_named}
 
 -- ---- the select
 pub update_form : (statement : StatementTree) → IsUpdate statement → reads statement ≡ rows_of statement
@@ -90,6 +89,9 @@ module _ (db : Database) (statement : StatementTree) (update : IsUpdate statemen
 abbrev large : List Refusal
 large = refusals.TooManyObjects ∷ refusals.TooManyEdges ∷ []
 
+abbrev guided : List Refusal
+guided = refusals.GuideNodes ∷ range
+
 of_literal : (statement : StatementTree) (Has : LiteralTree → Type 0) → OfLiteral statement Has → OfMakes statement Has
 of_literal (t.add_new target label literal tail) Has h = h
 of_literal _ Has h = absurd h
@@ -105,13 +107,13 @@ module _ (db : Database) (valid : IsValid db) (statement : StatementTree) (updat
   abbrev Told : Refusal → Type 0
   Told = updating.Cause db.labels db.graph statement pairs
 
-  its : (refusal : Refusal) → ChangeCause db.labels db.graph given refusal ↔ ChangesCause db statement refusal
+  its : (refusal : Refusal) → DatabaseCause db given refusal ↔ ChangesCause db statement refusal
   its refusal =
       let same = update_effects db statement update rows in
       let first = over_rows db statement rows are refusal in
       let second = update_its db statement update refusal in (
-        λ h. second.0 (first.0 (subst (λ (c : Changes). ChangeCause db.labels db.graph c refusal) same h)),
-        λ h. subst (λ (c : Changes). ChangeCause db.labels db.graph c refusal) (sym same) (first.1 (second.1 h)),
+        λ h. second.0 (first.0 (subst (λ (c : Changes). DatabaseCause db c refusal) same h)),
+        λ h. subst (λ (c : Changes). DatabaseCause db c refusal) (sym same) (first.1 (second.1 h)),
       )
 
   early_alike : AreAlike Told (Cause db statement) early
@@ -139,17 +141,18 @@ module _ (db : Database) (valid : IsValid db) (statement : StatementTree) (updat
 
   plain_told : (told : Option Refusal) → IsToldBy Told (locals ++ early) told → IsToldBy (Cause db statement) order told
   plain_told told h =
-      told_right (Cause db statement) found_order (refusals.NotOne ∷ (early ++ sizes)) told clear
-      (told_right (Cause db statement) (refusals.NotOne ∷ []) (early ++ sizes) told single
-      (told_left (Cause db statement) early sizes told
+      told_right (Cause db statement) found_order (refusals.NotOne ∷ (early ++ (sizes ++ range))) told clear
+      (told_right (Cause db statement) (refusals.NotOne ∷ []) (early ++ (sizes ++ range)) told single
+      (told_left (Cause db statement) early (sizes ++ range) told
       (told_alike Told (Cause db statement) early told early_alike (told_behind Told locals early told sound_locals h))))
 
   copy_told : (told : Option Refusal) → IsToldBy Told (locals ++ (early ++ large)) told → IsToldBy (Cause db statement) order told
   copy_told told h =
-      told_right (Cause db statement) found_order (refusals.NotOne ∷ (early ++ sizes)) told clear
-      (told_right (Cause db statement) (refusals.NotOne ∷ []) (early ++ sizes) told single
-      (told_between (Cause db statement) early (refusals.TooManyNames ∷ []) large told names_stay
-      (told_alike Told (Cause db statement) (early ++ large) told all_alike (told_behind Told locals (early ++ large) told sound_locals h))))
+      told_right (Cause db statement) found_order (refusals.NotOne ∷ (early ++ (sizes ++ range))) told clear
+      (told_right (Cause db statement) (refusals.NotOne ∷ []) (early ++ (sizes ++ range)) told single
+      (told_between (Cause db statement) early (refusals.TooManyNames ∷ []) (large ++ guided) told names_stay
+      (told_left (Cause db statement) (early ++ large) guided told
+      (told_alike Told (Cause db statement) (early ++ large) told all_alike (told_behind Told locals (early ++ large) told sound_locals h)))))
 
   early_clear : IsClear Told early → IsClear (Cause db statement) fit_order
   early_clear h =

@@ -1,9 +1,9 @@
 -- Updates over their rows as pairs: what the targets are, what refuses the changes, and what is performed.
-use Rattle.std.proofs.Common.{◌≡◌, inl, inr, ℕ, List, [], length, map, Option, Some, sym, subst, ◌∙◌}
+use Rattle.std.proofs.Common.{◌≡◌, inl, inr, ℕ, List, [], map, Option, Some, sym, subst, ◌∙◌}
 use Rattle.std.specs.Prelude.{MatchOption}
 use Rattle.lore_base.specs.Databases.{OemGraph, Database, IsValid}
 use Rattle.lore_base.specs.ChangeSets.{AreSame, Fits, IsAfter}
-use Rattle.lore_base.specs.ChangeCauses.{ChangeCause}
+use Rattle.lore_base.specs.ChangeCauses.{DatabaseCause}
 use Rattle.lore_base.specs.Verdicts.{IsClear, IsToldBy}
 use Rattle.lorel_trees.specs.Trees.{SelectTree, StatementTree}
 use Rattle.lorel_trees.specs.Sound.{IsSound}
@@ -16,12 +16,12 @@ use Rattle.lorel_bind.specs.SlotRows.{IsSlotRow}
 use Rattle.updates.specs.Effects.{Pair, changes_by}
 use Rattle.updates.specs.Causes.{IsUpdate, HasTargets}
 use Rattle.updates.specs.Causes as updating
-use Rattle.lore_db.specs.Types.{Oid, Changes, Refusal, Reply, Changed}
-use Rattle.lore_db.specs.Statements.{pair_of, AreRowsOf, effects, Cause, order, Executes}
+use Rattle.lore_db.specs.Types.{Oid, Changes, Refusal, Reply}
+use Rattle.lore_db.specs.Statements.{pair_of, AreRowsOf, effects, Cause, order, Counts, Executes}
 use Rattle.lore_db.specs.inside.Finding.{AreRows}
 use Rattle.lore_db.specs.inside.Locals.{StopsRows}
 use Rattle.lore_db.specs.inside.Stages.{ReadCause, bind_order, found_order, fit_order}
-use Rattle.lore_db.proofs.CauseLaws.{sizes, update_its, update_effects}
+use Rattle.lore_db.proofs.CauseLaws.{sizes, update_its, update_effects, update_within}
 use Rattle.lore_db.proofs.EffectLaws.{rows_targets}
 use Rattle.lore_db.proofs.ExecutionLaws.{changes_fit, changes_told, changes_lead, update_performs}
 use Rattle.lore_db.proofs.SelectLaws.{rows_answer}
@@ -78,11 +78,12 @@ module _ (db : Database) (valid : IsValid db) (statement : StatementTree) (updat
     pairs_fit sound = changes_fit db statement rows are changes same_effects fit_clear valid (sound_statement statement sound)
 
     -- how large the database gets
-    pub pairs_grown : (told : Option Refusal) → IsToldBy (ChangeCause db.labels db.graph changes) sizes told → IsToldBy (Cause db statement) order told
+    pub pairs_grown : (told : Option Refusal) → IsToldBy (DatabaseCause db changes) sizes told → IsToldBy (Cause db statement) order told
     pairs_grown told h = changes_told db statement rows are changes same_effects fit_clear (update_its db statement update) told h
 
-    pub pairs_performed : (after : Database) (reply : Reply) → IsClear (ChangeCause db.labels db.graph changes) sizes → IsAfter db changes after
-        → reply ≡ Changed (length after.graph.objects) (length after.graph.edges) → Executes db statement reply after
+    pub pairs_performed : (after : Database) (reply : Reply) → IsClear (DatabaseCause db changes) sizes → IsAfter db changes after
+        → Counts after reply → Executes db statement reply after
     pairs_performed after reply few made counts =
-        let led = changes_lead db statement rows are changes same_effects fit_clear (update_its db statement update) after reply few made counts in
+        let led = changes_lead db statement rows are changes same_effects fit_clear (update_its db statement update) (update_within db statement update)
+        after reply few made counts in
         inl (led.0, update_performs db statement update reply after led.1)

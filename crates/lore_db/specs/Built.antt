@@ -2,7 +2,7 @@
 use Rattle.std.specs.Prelude.{Bool, true, false, ◌||◌, if◌then◌else◌, [], Option, Some, None, is_some}
 use Rattle.std.specs.List.{list_any}
 use Rattle.lorel_trees.specs.Trees.{LiteralTree, RootedTree, ItemTree, object, path_of, FromTree, SelectTree, StatementTree}
-use Rattle.lorel_trees.specs.Trees.{load, bind, unname, add_new, select}
+use Rattle.lorel_trees.specs.Trees.{load, bind, unname, add_new, select, guide, set_nodes}
 use Rattle.lorel_trees.specs.UpdateRows.{target_select, rows_of}
 
 -- the select of one path
@@ -36,8 +36,11 @@ abbrev pub is_read : Option SelectTree → Bool
 is_read None = false
 is_read (Some query) = if has_path_variable query then false else true
 
--- whether the form is built: a load, an unname, and what is executed over a select without path variables
+-- whether the form is built: a load, an unname, the guide and its limit, and what is executed over a select without
+-- path variables
 abbrev pub is_built : StatementTree → Bool
 is_built (load name literal) = true
 is_built (unname name) = true
+is_built guide = true
+is_built (set_nodes nodes) = true
 is_built statement = is_read (reads statement)

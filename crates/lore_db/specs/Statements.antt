@@ -1,18 +1,21 @@
 -- What one statement answers, and the database that it leaves.
-use Rattle.std.specs.Prelude.{◌≡◌, ◌≢◌, ℕ, ◌+◌, ◌<◌, ◌⊎◌, false, List, [], ◌∷◌, ◌++◌, length, map, Some, None, MatchOption}
-use Rattle.lore_db.specs.Types.{Oid, Changes, Refusal, ROWS, Reply, Changed, Rows, Refused}
+use Rattle.std.specs.Prelude.{◌≡◌, ◌≢◌, ℕ, ℤ, pos, ◌<◌, ◌<ℤ◌, ◌⊎◌, false, List, [], ◌∷◌, ◌++◌, length, map}
+use Rattle.std.specs.Prelude.{Some, None, MatchOption}
+use Rattle.lore_db.specs.Types.{Oid, Changes, Refusal, NODES, ROWS, Reply, Changed, Rows, Lines, Refused}
 use Rattle.lore_db.specs.Types.refusals
 use Rattle.lore_base.specs.Walks.{oid_of}
 use Rattle.lore_base.specs.Databases.{Database}
+use Rattle.lore_base.specs.TargetSets.{AreTargetSets, AreMoreThan}
 use Rattle.lore_base.specs.ChangeSets.{IsBound, IsAfter}
-use Rattle.lore_base.specs.ChangeCauses.{ChangeCause}
+use Rattle.lore_base.specs.ChangeCauses.{DatabaseCause}
 use Rattle.lore_base.specs.Verdicts.{IsFirst, IsClear}
-use Rattle.lorel_trees.specs.Trees.{LiteralTree, SelectTree, StatementTree, load, bind, unname, select}
+use Rattle.lorel_trees.specs.Trees.{LiteralTree, SelectTree, StatementTree, load, bind, unname, select, guide, set_nodes}
 use Rattle.lorel_bind.specs.Answers.{IsAnswer}
 use Rattle.lorel_bind.specs.Refusals as binding
 use Rattle.oem_labels.specs.Labels.{first_uses}
 use Rattle.oem_text.specs.Literals.{HasDouble, HasUndefined, labels_of, objects_of, edges_of}
 use Rattle.updates.specs.Effects.{Pair, no_changes, changes_by}
+use Rattle.guide_query.specs.GuideLines.{AreGuideLines}
 use Rattle.lore_db.specs.Built.{reads, makes, path_select, is_built}
 
 -- What a statement changes.
@@ -90,11 +93,23 @@ IsNotOne db (bind name path) =
     (rows : List (List Oid)) × IsAnswer db (path_select path) rows × (length rows ≢ 1)
 IsNotOne db statement = ⊥
 
--- the changes that a statement makes have this cause; a select makes none
+-- the changes that a statement makes have this cause; a select, the guide and its limit make none
 abbrev pub ChangesCause : Database → StatementTree → Refusal → Type 0
 ChangesCause db (select query) refusal = ⊥
+ChangesCause db guide refusal = ⊥
+ChangesCause db (set_nodes nodes) refusal = ⊥
 ChangesCause db statement refusal =
-    (rows : List (List Oid)) × AreRowsOf db statement rows × ChangeCause db.labels db.graph (effects db statement rows) refusal
+    (rows : List (List Oid)) × AreRowsOf db statement rows × DatabaseCause db (effects db statement rows) refusal
+
+-- the number is no limit on the guide's nodes: it is out of range, or label paths lead to more sets
+abbrev pub IsNoLimit : Database → ℤ → Type 0
+IsNoLimit db nodes =
+    (nodes <ℤ pos 1) ⊎ ((limit : ℕ) × (nodes ≡ pos limit)
+    × ((NODES < limit) ⊎ AreMoreThan limit db.graph.names db.graph.edges))
+
+abbrev pub IsOutOfRange : Database → StatementTree → Type 0
+IsOutOfRange db (set_nodes nodes) = IsNoLimit db nodes
+IsOutOfRange db statement = ⊥
 
 -- the select that a statement is executed over has this
 abbrev pub OfReads : StatementTree → (SelectTree → Type 0) → Type 0
@@ -120,6 +135,7 @@ Cause db statement refusals.DuplicateLocal = OfMakes statement HasDouble
 Cause db statement refusals.UndefinedLocal = OfMakes statement HasUndefined
 Cause db statement refusals.TooManyRows = OfReads statement (HasTooManyRows db)
 Cause db statement refusals.NotOne = IsNotOne db statement
+Cause db statement refusals.LimitRange = IsOutOfRange db statement
 Cause db statement refusal = ChangesCause db statement refusal
 
 -- the order in which causes are tried: that of their numbers
@@ -128,15 +144,33 @@ order =
     refusals.Syntax ∷ refusals.UnknownName ∷ refusals.UnknownVariable ∷ refusals.DuplicateVariable
     ∷ refusals.TooManyRanges ∷ refusals.DuplicateLocal ∷ refusals.UndefinedLocal ∷ refusals.TooManyRows
     ∷ refusals.NotOne ∷ refusals.AtomicParent ∷ refusals.HasChildren ∷ refusals.OidsSpent
-    ∷ refusals.TooManyLabels ∷ refusals.TooManyNames ∷ refusals.TooManyObjects ∷ refusals.TooManyEdges ∷ []
+    ∷ refusals.TooManyLabels ∷ refusals.TooManyNames ∷ refusals.TooManyObjects ∷ refusals.TooManyEdges
+    ∷ refusals.GuideNodes ∷ refusals.LimitRange ∷ []
 
 -- What a statement does where nothing refuses it.
+
+-- the reply counts what the database holds: objects, edges, and the sets that label paths lead to
+abbrev pub Counts : Database → Reply → Type 0
+Counts db reply =
+    (sets : List (List Oid)) × AreTargetSets db.graph.names db.graph.edges sets
+    × (reply ≡ Changed (length db.graph.objects) (length db.graph.edges) (length sets))
 
 -- the database after the changes that a statement makes, and the reply that counts what it holds
 abbrev pub LeadsOn : Database → StatementTree → Reply → Database → Type 0
 LeadsOn before statement reply after =
     ((rows : List (List Oid)) × AreRowsOf before statement rows × IsAfter before (effects before statement rows) after)
-    × (reply ≡ Changed (length after.graph.objects) (length after.graph.edges))
+    × Counts after reply
+
+-- the lines of the guide, and nothing changes
+abbrev pub Shows : Database → Reply → Database → Type 0
+Shows before reply after =
+    (after ≡ before) × ((lines : List (List ℕ)) × (reply ≡ Lines lines)
+    × AreGuideLines before.graph.names before.graph.edges before.labels lines)
+
+-- the limit on the guide's nodes becomes the number
+abbrev pub Limits : Database → ℤ → Reply → Database → Type 0
+Limits before nodes reply after =
+    ((limit : ℕ) × (nodes ≡ pos limit) × (after ≡ record before { nodes = limit })) × Counts after reply
 
 -- a select answers all of its rows and changes nothing
 abbrev pub Answers : Database → SelectTree → Reply → Database → Type 0
@@ -145,6 +179,8 @@ Answers before query reply after =
 
 abbrev pub Performs : Database → StatementTree → Reply → Database → Type 0
 Performs before (select query) reply after = Answers before query reply after
+Performs before guide reply after = Shows before reply after
+Performs before (set_nodes nodes) reply after = Limits before nodes reply after
 Performs before statement reply after = LeadsOn before statement reply after
 
 -- a refusal changes nothing

@@ -12,4 +12,4 @@ pub use Rattle.lorel_bind.specs.declared.bound.Start.{Start}
 pub use Rattle.lore_base.specs.declared.limits.TheConstants.{LABELS, NAMES, OBJECTS, EDGES, NEXT_NUMBER, NODES}
 pub use Rattle.lore_base.specs.declared.limits.TheConstants.{LEAVES, RANGES, ROWS}
 pub use Rattle.lore_db.specs.declared.replies.Reply.{Reply}
-pub use Rattle.lore_db.specs.declared.replies.Reply.TheVariants.{Changed, Rows, Refused}
+pub use Rattle.lore_db.specs.declared.replies.Reply.TheVariants.{Changed, Rows, Lines, Refused}

@@ -91,6 +91,8 @@ impl Db {
             | Statement::AddLink { .. }
             | Statement::Remove { .. } => reply_of(self.update(alloc, statement, steps)),
             Statement::Select(query) => reply_of(self.select(alloc, query, steps)),
+            Statement::Guide => reply_of(self.show_guide()),
+            Statement::SetNodes(nodes) => reply_of(self.set_nodes(*nodes)),
             _ => Ok(Reply::Refused(Refusal::Syntax)),
         }
     }

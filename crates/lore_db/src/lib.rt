@@ -4,8 +4,9 @@
 //! then its rows are found range by range (`rows`, over `legs`), tested (`lorel_eval`) and noted
 //! down, each once (`found_rows`). A load (`loads`), a name bound or taken away (`namings`) and an
 //! update over the rows of its select (`updating`) list changes, which are made all at once
-//! (`applying`, over `lore_store`). What ends the work early is a `Stop` (`stops`). What a statement
-//! answers is a `Reply` (`replies`), with the rows of a select (`answers`) among them.
+//! (`applying`, over `lore_store`). The guide is shown, and its limit set, by `guides`. What ends the
+//! work early is a `Stop` (`stops`). What a statement answers is a `Reply` (`replies`), with the rows
+//! of a select (`answers`) among them.
 #![tactic(auto)]
 
 pub use answers::{Answer, AnswerRow};
@@ -16,6 +17,7 @@ mod answers;
 mod applying;
 mod db;
 mod found_rows;
+mod guides;
 pub mod laws;
 mod legs;
 mod loads;

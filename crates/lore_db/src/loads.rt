@@ -18,7 +18,8 @@ use std::sync::ledger::Ledger;
 
 impl Db {
     /// Loads a literal under a name: makes its objects and edges and binds the name to the first of
-    /// them, in place of an older binding. Answers how many objects and edges there are then.
+    /// them, in place of an older binding. Answers how many objects, edges and nodes of the guide
+    /// there are then.
     pub(crate) fn load<L: Ledger>(
         &mut self,
         alloc: Global,

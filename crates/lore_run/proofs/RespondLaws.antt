@@ -1,5 +1,5 @@
 -- A part that was executed and counted, and what its written reply tells.
-use Rattle.std.proofs.Common.{sym, subst, ◌≡◌, ◌+◌, List, Result, Ok, Err, OnOk, OnErr, IfErr}
+use Rattle.std.proofs.Common.{sym, subst, ◌≡◌, ◌+◌, Result, Ok, Err, OnOk, OnErr, IfErr}
 use Rattle.std.specs.Io.KnownBytes.{Appends}
 use Rattle.lore_run.specs.Types.{Reply}
 use Rattle.lore_run.specs.Replies.{rendered}

@@ -9,7 +9,7 @@ use Rattle.lore_base.specs.Chunks.{joined_chunks}
 use Rattle.lore_run.specs.Types.{SCRIPT_BYTES}
 use Rattle.lore_base.specs.Databases.{Database}
 use Rattle.lorel_lex.specs.Scan.{IsChunk}
-use Rattle.lore_run.specs.Types.{Reply, Changed, Rows, Refused}
+use Rattle.lore_run.specs.Types.{Reply, Changed, Rows, Lines, Refused}
 use Rattle.lore_run.specs.Replies.{rendered}
 use Rattle.lore_run.specs.Runs.{ScriptPart, chunk, Runs, refusals}
 use Rattle.lore_run.specs.Endings.{Outside, outside}
@@ -139,8 +139,9 @@ few_done {a} {b} {xs} g =
 
 -- a part is refused once at most
 pub refusals_le : (reply : Reply) → refusals reply ≤ 1
-refusals_le (Changed objects edges) = omega arith
+refusals_le (Changed objects edges nodes) = omega arith
 refusals_le (Rows oids) = omega arith
+refusals_le (Lines lines) = omega arith
 refusals_le (Refused refusal) = omega arith
 
 -- a run at its beginning, and behind one more piece

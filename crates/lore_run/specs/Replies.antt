@@ -2,7 +2,7 @@
 use Rattle.std.specs.Prelude.{ℕ, ◌==◌, List, ◌++◌, length, codes, decimal, unwrap_or}
 use Rattle.std.specs.List.{flat_map, join_by}
 use Rattle.std.specs.Map.{lookup}
-use Rattle.lore_run.specs.Types.{Oid, Value, Complex, Reply, Changed, Rows, Refused}
+use Rattle.lore_run.specs.Types.{Oid, Value, Complex, Reply, Changed, Rows, Lines, Refused}
 use Rattle.lore_base.specs.Printed.{printed}
 use Rattle.lore_base.specs.Refusals.{number_of, text_of}
 
@@ -20,8 +20,10 @@ row_line objects row = join_by (cell_text objects) (codes " | ") row ++ codes "\
 
 -- the bytes of a reply, where these are the objects
 abbrev pub rendered : List (Oid × Value) → Reply → List ℕ
-rendered objects (Changed live edges) =
-    codes "ok objects " ++ decimal live ++ codes " edges " ++ decimal edges ++ codes "\n"
+rendered objects (Changed live edges nodes) =
+    codes "ok objects " ++ decimal live ++ codes " edges " ++ decimal edges ++ codes " nodes " ++ decimal nodes
+    ++ codes "\n"
+rendered objects (Lines lines) = flat_map (λ line. line ++ codes "\n") lines
 rendered objects (Rows rows) =
     flat_map (row_line objects) rows ++ codes "rows " ++ decimal (length rows) ++ codes "\n"
 rendered objects (Refused refusal) =

@@ -110,6 +110,7 @@ fn respond<K: Sink>(
     sink: &mut K,
     tally: &mut Tally,
 ) -> Result<(), Status>
+    requires some { 0 < length (rendered session.now.graph.objects reply.now) }
     requires room { (tally.old.done + 1 < 2 ^ 64) × (tally.old.refused + 1 < 2 ^ 64) }
     ensures done { tally.new.done ≡ tally.old.done + 1 }
     ensures refused { tally.new.refused ≡ tally.old.refused + refusals reply.now }

@@ -1,4 +1,4 @@
-ghost use Rattle.std.specs.Prelude.{◌≡◌, [], ◌++◌, codes, decimal, OnOk, OnErr};
+ghost use Rattle.std.specs.Prelude.{◌≡◌, ◌<◌, [], ◌++◌, length, codes, decimal, OnOk, OnErr};
 ghost use Rattle.std.specs.Io.KnownBytes.{Appends};
 ghost use Rattle.std.specs.List.{flat_map, join_by};
 ghost use Rattle.lore_base.specs.Causes.{HasCause};
@@ -7,11 +7,12 @@ ghost use Rattle.lore_base.specs.Printed.{printed};
 ghost use Rattle.lore_run.specs.Replies.{value_of, cell_text, row_line, rendered};
 ghost use Rattle.lore_run.specs.inside.Deliveries.{AppendsProperFront};
 ghost use Rattle.lore_run.specs.Types.{Changed as ChangedReply, Rows as RowsReply};
+ghost use Rattle.lore_run.specs.Types.{Lines as LinesReply};
 ghost use Rattle.lore_run.specs.Types.{Refused as RefusedReply};
 
 use crate::reply_writer::ReplyWriter;
 use itoa::{Buffer, Integer};
-use lore_base::{Failed, Oid, Out, Refusal, Sink, Value};
+use lore_base::{Failed, OemText, Oid, Out, Refusal, Sink, Value};
 use lore_db::{AnswerRow, Db, Reply};
 use oem_atom::print_value;
 
@@ -19,6 +20,7 @@ use oem_atom::print_value;
 /// that isn't live is printed as a complex one. Fails where a write fails, and a proper front of
 /// the lines is written then. Takes no memory.
 pub(crate) fn write_reply<K: Sink>(reply: &Reply, db: &Db, sink: &mut K) -> Result<(), Failed>
+    requires some { 0 < length (rendered db.now.graph.objects reply.now) }
     ensures ok { OnOk result (Appends (K.written sink.old) (K.written sink.new)
         (rendered db.now.graph.objects reply.now)) }
     ensures err { OnErr result (AppendsProperFront (K.written sink.old) (K.written sink.new)
@@ -30,7 +32,8 @@ pub(crate) fn write_reply<K: Sink>(reply: &Reply, db: &Db, sink: &mut K) -> Resu
 
 /// Puts the lines of a reply, and hands all of them to the sink.
 fn deliver<K: Sink>(reply: &Reply, db: &Db, out: &mut ReplyWriter<K>) -> Result<(), Failed>
-    requires { out.old.buffer ≡ [] }
+    requires some { 0 < length (rendered db.now.graph.objects reply.now) }
+    requires empty { out.old.buffer ≡ [] }
     ensures same_sink { out.new.sink.ghost_name ≡ out.old.sink.ghost_name }
     ensures ok { OnOk result (Appends (K.written out.old.sink.now) (K.written out.new.sink.now)
         (rendered db.now.graph.objects reply.now)) }
@@ -49,20 +52,38 @@ fn put_reply<O: Out>(reply: &Reply, db: &Db, out: &mut O) -> Result<(), O::Fault
         (rendered db.now.graph.objects reply.now) (O.state out.new) result }
 {
     match reply {
-        Reply::Changed { objects, edges } => put_changed(*objects, *edges, out),
+        Reply::Changed {
+            objects,
+            edges,
+            nodes,
+        } => put_changed(*objects, *edges, *nodes, out),
         Reply::Rows(answer) => put_rows(answer.as_slice(), db, out),
+        Reply::Lines(lines) => put_lines(lines.as_slice(), out),
         Reply::Refused(refusal) => put_refused(*refusal, out),
     }
 }
 
-/// Puts the line of a change: how many objects and edges there are now.
-fn put_changed<O: Out>(objects: u32, edges: u32, out: &mut O) -> Result<(), O::Fault>
+/// Puts the line of a change: how many objects and edges there are now, and nodes of the guide.
+fn put_changed<O: Out>(objects: u32, edges: u32, nodes: u32, out: &mut O) -> Result<(), O::Fault>
     ensures { Puts O.is_memory (O.state out.old)
-        (rendered [] (ChangedReply objects edges)) (O.state out.new) result }
+        (rendered [] (ChangedReply objects edges nodes)) (O.state out.new) result }
 {
     put_count(b"ok objects ", objects, out)?;
     put_count(b" edges ", edges, out)?;
+    put_count(b" nodes ", nodes, out)?;
     out.put(b"\n")
+}
+
+/// Puts each line, with its end.
+fn put_lines<O: Out>(lines: &[OemText], out: &mut O) -> Result<(), O::Fault>
+    ensures { Puts O.is_memory (O.state out.old)
+        (rendered [] (LinesReply lines.now)) (O.state out.new) result }
+{
+    'lines: for line in lines {
+        out.put(line.as_bytes())?;
+        out.put(b"\n")?;
+    }
+    Ok(())
 }
 
 /// Puts the line of a refusal: its number and its name.

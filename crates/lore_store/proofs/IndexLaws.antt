@@ -1,5 +1,5 @@
 -- What the indexes of a store hold: the entries of its graph, before and after a prepared change.
-use Rattle.std.proofs.Common.{◌≡◌, ◌≢◌, ℕ, ◌<◌, ◌≤◌, ◌^◌, ◌⊎◌, ◌↔◌, List, [], ◌∷◌, length, map, inl, inr, refl, ap, sym, subst, ◌∙◌, arith, Less}
+use Rattle.std.proofs.Common.{◌≡◌, ◌≢◌, ℕ, Option, Some, None, ◌<◌, ◌≤◌, ◌^◌, ◌⊎◌, ◌↔◌, List, [], ◌∷◌, length, map, inl, inr, refl, ap, sym, subst, ◌∙◌, arith, Less}
 use Rattle.std.specs.List.{All, AllPairs, Contains}
 use Rattle.std.proofs.lemmas.Bool.Decides.{nat_tests}
 use Rattle.std.proofs.lemmas.List.{length-map}
@@ -25,7 +25,8 @@ use Rattle.oem_changes.proofs.RootedLaws.{All-of_members, told_live}
 use Rattle.oem_graph.proofs.LeftLaws.{mapped, map-contains}
 use Rattle.link_index.specs.Links.{RoomyLinks}
 use Rattle.value_index.specs.Values.{RoomyEntries}
-use Rattle.lore_store.specs.Stores.{PlannedDatabase, state_of, database_then, IsStored, LeadsOn}
+use Rattle.dataguide.specs.Guides.{GuideGraph}
+use Rattle.lore_store.specs.Stores.{PlannedDatabase, state_of, database_then, guide_then, IsStored, LeadsOn}
 
 -- ---- what a list holds that takes in a change
 module _ {T : Type 0} (Before After : T → Type 0) (kept gone come : List T) (same : (item : T) → Contains kept item ↔ Before item)
@@ -225,15 +226,16 @@ module _ (before : OemGraph) (changes : Changes) (after : OemGraph) (leaves : Is
 
 -- ---- what a store commits
 -- the indexes hold the entries of the graph that is then
-pub stored_then : (db : Database) (plan : PlannedDatabase) (link link_then : RoomyLinks) (value value_then : RoomyEntries)
-    → IsStored db link value → LeadsOn db plan → AreAscendingLinks link_then.links → IsLessWith link.links plan.links.gone plan.links.come link_then.links
+pub stored_then : (db : Database) (guide : GuideGraph) (plan : PlannedDatabase) (link link_then : RoomyLinks) (value value_then : RoomyEntries)
+    → IsStored db link value guide → LeadsOn db guide plan → AreAscendingLinks link_then.links → IsLessWith link.links plan.links.gone plan.links.come link_then.links
     → AreAscendingEntries value_then.entries → IsLessWith value.entries plan.values.gone plan.values.come value_then.entries
-    → IsStored (database_then db plan) link_then value_then
-stored_then db plan link link_then value value_then stored leads links_ascend links_less entries_ascend entries_less =
+    → IsStored (database_then db plan) link_then value_then (guide_then guide plan.guide)
+stored_then db guide plan link link_then value value_then stored leads links_ascend links_less entries_ascend entries_less =
     let then = (database_then db plan).graph in
     let taken = links_take db.graph.edges then.edges plan.links.gone plan.links.come leads.indexes.gone leads.indexes.come in
     record {
       valid = leads.valid;
+      guided = leads.guided;
       links = record {
         ascend = links_ascend;
         exact = held (Contains db.graph.edges) (Contains then.edges) link.links plan.links.gone plan.links.come stored.links.exact taken link_then.links links_less;
@@ -244,3 +246,8 @@ stored_then db plan link link_then value value_then stored leads links_ascend li
             leads.indexes.values.takes value_then.entries entries_less;
       };
     }
+
+-- where no other guide is planned, the kept one stays
+pub kept_guide : (kept : GuideGraph) (planned : Option GuideGraph) → ((other : GuideGraph) → planned ≡ Some other → ⊥) → guide_then kept planned ≡ kept
+kept_guide kept None none = refl
+kept_guide kept (Some other) none = absurd (none other refl)

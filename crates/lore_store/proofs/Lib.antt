@@ -1,3 +1,4 @@
 pub mod SizeLaws
 pub mod IndexLaws
+pub mod NewLaws
 pub mod PreparedLaws

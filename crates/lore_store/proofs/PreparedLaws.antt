@@ -6,14 +6,16 @@ use Rattle.lore_store.specs.Types.{Changes, NAMES, OBJECTS, EDGES, NODES, Auto}
 use Rattle.lore_base.specs.declared.edges.Oid.{Oid}
 use Rattle.lore_base.specs.declared.edges.Edge.{Edge}
 use Rattle.lore_base.specs.declared.values.Value.{Value}
-use Rattle.lore_base.specs.Databases.{OemGraph, Database, IsLive, IsReached, IsValid, IsRooted}
-use Rattle.lore_base.specs.ChangeSets.{FitsGraph, Fits, EdgesThen, NamesThen, IsRenamed, IsBound, IsLiveThen, IsReachedThen, IsGraphAfter, IsAfter, AreDead}
+use Rattle.lore_base.specs.Databases.{OemGraph, Database, IsLive, IsLinked, IsReached, IsValid, IsRooted}
+use Rattle.lore_base.specs.ChangeSets.{FitsGraph, Fits, EdgesThen, ObjectsThen, NamesThen, IsRenamed, IsBound, IsLiveThen, IsReachedThen, IsGraphAfter, IsAfter, AreDead}
+use Rattle.lore_base.specs.TargetSets.{AreMoreThan}
 use Rattle.lore_base.specs.Verdicts.{IsClear}
 use Rattle.lore_base.proofs.MemberLaws.{Contains-none}
 use Rattle.lore_base.proofs.ListLaws.{AllPairs-append}
 use Rattle.oem_labels.specs.Labels.{first_uses}
 use Rattle.oem_labels.proofs.TextSetLaws.{first_uses-apart}
 use Rattle.oem_changes.proofs.ValidLaws.{valid_after}
+use Rattle.oem_changes.proofs.DeterminedLaws.{one_between, one_after}
 use Rattle.lore_store.specs.Stores.{PlannedDatabase, database_then, order}
 use Rattle.lore_store.specs.inside.Sizes.{SizeCause}
 use Rattle.lore_store.specs.inside.Unlinked.{LinkNothing}
@@ -66,6 +68,40 @@ module _ (graph : OemGraph) (changes : Changes) (rooted : IsRooted graph) (fits 
     stay = λ oid live. inr (then_reached oid live);
   }
 
+  -- and names and edges stay
+  same_names : (entry : List ℕ × Oid) → Contains graph.names entry ↔ NamesThen graph.names changes entry
+  same_names entry = (
+    λ there. inr (there, not_renamed entry.0),
+    λ then_there. elim then_there [
+      | inl named ↦ absurd (none_of changes.named entry nothing.named named)
+      | inr (there, stays) ↦ there
+    ],
+  )
+
+  parent_reached : (edge : Edge) → Contains graph.edges edge → IsReachedThen graph.names changes graph.edges edge.parent
+  parent_reached edge at =
+      live_reached edge.parent (_, (All-contains (IsLinked graph.objects) graph.edges edge rooted.well_formed.edges_linked at).parent)
+
+  pub nothing_linked : (after : OemGraph) → IsGraphAfter graph changes after → (after.names ≡ graph.names) × (after.edges ≡ graph.edges)
+  nothing_linked after leaves =
+      let between : leaves.between ≡ graph.edges =
+      one_between graph.edges changes leaves.between graph.edges leaves.linked (record { ascend = rooted.well_formed.ordered.edges_ascend; exact = same_edges }) in
+      let kept : OemGraph = record { names = graph.names; objects = after.objects; edges = graph.edges; next = after.next } in
+      let same = one_after graph changes after kept leaves (record {
+        between = graph.edges;
+        linked = record { ascend = rooted.well_formed.ordered.edges_ascend; exact = same_edges };
+        names_ascend = rooted.well_formed.ordered.names_ascend;
+        names = same_names;
+        objects_ascend = leaves.objects_ascend;
+        objects = λ object. subst (λ (l : List Edge). Contains after.objects object ↔ (ObjectsThen graph.objects changes object × IsReachedThen graph.names changes l object.0)) between (leaves.objects object);
+        edges_ascend = rooted.well_formed.ordered.edges_ascend;
+        edges = λ edge. (λ at. (at, parent_reached edge at), λ both. both.0);
+        next = leaves.next;
+      }) in (
+        ap (λ (g : OemGraph). g.names) same,
+        ap (λ (g : OemGraph). g.edges) same,
+      )
+
 module _ (db : Database) (changes : Changes) (valid : IsValid db) (fits : Fits db changes) where
   -- the listed labels are the new ones
   pub labels_come : first_uses db.labels changes.labels ≡ changes.labels
@@ -82,11 +118,12 @@ module _ (db : Database) (changes : Changes) (valid : IsValid db) (fits : Fits d
     pub leads_after : IsAfter db changes (database_then db plan)
     leads_after = record { labels = ap (λ l. db.labels ++ l) (labels ∙ labels_come); graph = graph; nodes = refl; mode = refl }
 
-    pub leads_valid : IsClear (SizeCause (database_then db plan).graph) order → IsValid (database_then db plan)
-    leads_valid sized = valid_after db changes (database_then db plan) valid fits leads_after
+    pub leads_valid : IsClear (SizeCause (database_then db plan).graph) order
+        → (AreMoreThan db.nodes (database_then db plan).graph.names (database_then db plan).graph.edges → ⊥) → IsValid (database_then db plan)
+    leads_valid sized few_sets = valid_after db changes (database_then db plan) valid fits leads_after
         (few NAMES (length (database_then db plan).graph.names) sized.0)
         (few OBJECTS (length (database_then db plan).graph.objects) sized.1.0)
-        (few EDGES (length (database_then db plan).graph.edges) sized.1.1.0)
+        (few EDGES (length (database_then db plan).graph.edges) sized.1.1.0) few_sets
       where
         few : (limit count : ℕ) → (limit < count → ⊥) → count ≤ limit
         few limit count not_more = omega (arith, not_more)

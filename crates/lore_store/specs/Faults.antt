@@ -10,4 +10,5 @@ abbrev pub refusal_of : StoreFault → Option Refusal
 refusal_of fault.TooManyNames = Some refusals.TooManyNames
 refusal_of fault.TooManyObjects = Some refusals.TooManyObjects
 refusal_of fault.TooManyEdges = Some refusals.TooManyEdges
+refusal_of fault.GuideNodes = Some refusals.GuideNodes
 refusal_of fault.NoMemory = None

@@ -19,6 +19,9 @@ pub enum StoreFault {
     /// There would be more than 262,144 edges.
     #[error("too many edges")]
     TooManyEdges,
+    /// Label paths would lead to more sets of objects than the guide may have nodes.
+    #[error("too many nodes of the guide")]
+    GuideNodes,
     /// Memory was refused.
     #[error("out of memory")]
     NoMemory,
@@ -32,6 +35,7 @@ impl Fault for StoreFault {
             StoreFault::TooManyNames => Some(Refusal::TooManyNames),
             StoreFault::TooManyObjects => Some(Refusal::TooManyObjects),
             StoreFault::TooManyEdges => Some(Refusal::TooManyEdges),
+            StoreFault::GuideNodes => Some(Refusal::GuideNodes),
             StoreFault::NoMemory => None,
         }
     }

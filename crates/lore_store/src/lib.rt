@@ -1,5 +1,5 @@
-//! One OEM database with all that is kept of it: its graph, its table of labels, and the indexes of
-//! its links and values.
+//! One OEM database with all that is kept of it: its graph, its table of labels, its guide, and the
+//! indexes of its links and values.
 //!
 //! A change comes in three calls: `prepare` works out what it leads to, `reserve` takes the memory
 //! for it, and `commit` puts it in place and cannot fail.

@@ -1,3 +1,4 @@
+use dataguide::Guide;
 use link_index::LinkPlan;
 use oem_graph::GraphPlan;
 use oem_labels::LabelPlan;
@@ -11,6 +12,8 @@ pub struct Prepared {
     pub(crate) labels: LabelPlan,
     pub(crate) links: LinkPlan,
     pub(crate) values: ValuePlan,
+    // The guide then, where it is another.
+    pub(crate) guide: Option<Guide>,
 }
 
 impl Model for Prepared {
@@ -23,5 +26,6 @@ impl Model for Prepared {
       labels = p.labels;
       links = p.links;
       values = p.values;
+      guide = p.guide;
     } };
 }

@@ -1,19 +1,24 @@
-ghost use Rattle.std.specs.Prelude.{◌≡◌, IsTrue, IfOk, IfErr, OnOk};
+ghost use Rattle.std.specs.Prelude.{◌≡◌, [], ◌∷◌, IsTrue, IfOk, IfErr, OnOk};
 ghost use Rattle.lore_base.specs.Databases.{IsValid, new_database};
 ghost use Rattle.lore_base.specs.ChangeSets.{FitsGraph, Fits, IsAfter, IsGraphAfter, AreDead};
-ghost use Rattle.lore_base.specs.ChangeCauses.{ChangeCause};
+ghost use Rattle.lore_base.specs.TargetSets.{AreMoreThan};
+ghost use Rattle.lore_base.specs.ChangeCauses.{DatabaseCause};
 ghost use Rattle.lore_base.specs.Verdicts.{IsClear, IsToldBy};
 ghost use Rattle.oem_graph.specs.Plans.{graph_then};
 ghost use Rattle.index_traits.specs.Entries.{AreLinks, AreValueEntries};
 ghost use Rattle.lore_store.specs.Faults.{refusal_of};
-ghost use Rattle.lore_store.specs.Stores.{database_then, LeadsOn, HasRoomFor, AreIndexed, order};
-ghost use Rattle.lore_store.specs.inside.Sizes.{SizeCause};
+ghost use Rattle.lore_store.specs.Types.refusals;
+ghost use Rattle.lore_store.specs.Stores as spec;
+ghost use Rattle.lore_store.specs.Stores.{database_then, LeadsOn, HasRoomFor, AreIndexed, IsGuided};
+ghost use Rattle.lore_store.specs.Stores.{SetsLimit, order};
+ghost use Rattle.lore_store.specs.inside.Sizes.{SizeCause, NodesCause};
 ghost use Rattle.lore_store.specs.inside.Unlinked.{LinkNothing};
 
 use crate::faults::StoreFault;
 use crate::prepared::Prepared;
+use dataguide::{Guide, GuideFault};
 use link_index::{LinkIndex, LinkPlan};
-use lore_base::limits::{EDGES, NAMES, OBJECTS};
+use lore_base::limits::{EDGES, NAMES, NODES, OBJECTS};
 use lore_base::{Changes, NoMemory, OidBuf, Steps};
 use oem_graph::{EdgeChanges, Graph, GraphPlan};
 use oem_labels::LabelTable;
@@ -24,15 +29,17 @@ use std::sync::ledger::Ledger;
 use value_changes::{EntryChanges, GraphChanges, entry_changes};
 use value_index::{ValueIndex, ValuePlan};
 
-/// One valid database: its graph, its table of labels, and the indexes of its links and values,
-/// which are those that would be built from its edges and objects. Contracts see it as that database
-/// and what it is kept in, with the room of each part.
+/// One valid database: its graph, its table of labels, its limit on the guide's nodes, its guide, and
+/// the indexes of its links and values, all as they would be built from it. Contracts see it as that
+/// database and what it is kept in, with the room of each part.
 #[derive(Drop)]
 pub struct Store {
     graph: Graph,
     labels: LabelTable,
     links: LinkIndex,
     values: ValueIndex,
+    guide: Guide,
+    limit: u32,
 }
 
 impl Model for Store {
@@ -41,13 +48,15 @@ impl Model for Store {
     ghost Value = { RoomyDatabase };
 
     ghost view = { λ s. record {
-      db = database_of s.labels s.graph.graph;
+      db = database_of s.labels s.graph.graph s.limit;
       kept = s.graph;
       links = s.links;
       values = s.values;
+      guide = s.guide;
     } };
 
-    ghost invariant = { λ s. IsStored (database_of s.labels s.graph.graph) s.links s.values };
+    ghost invariant = { λ s.
+        IsStored (database_of s.labels s.graph.graph s.limit) s.links s.values s.guide };
 }
 
 impl Store {
@@ -60,6 +69,8 @@ impl Store {
             labels: LabelTable::new(alloc),
             links: LinkIndex::new(alloc),
             values: ValueIndex::new(alloc),
+            guide: Guide::new(alloc),
+            limit: NODES,
         }
     }
 
@@ -93,9 +104,38 @@ impl Store {
         &self.values
     }
 
+    /// The guide of the database, its nodes in the order of their least label paths (Goldman and
+    /// Widom 1997, strong DataGuide).
+    pub fn guide(&self) -> &Guide
+        ensures guide { result.now ≡ self.now.guide }
+        ensures guided { IsGuided self.now.db.graph self.now.guide }
+    {
+        &self.guide
+    }
+
+    /// The most nodes that the guide may have.
+    pub fn limit(&self) -> u32
+        ensures { result ≡ self.now.db.nodes }
+    {
+        self.limit
+    }
+
+    /// Sets the most nodes that the guide may have. False, and nothing changes, exactly where the
+    /// number is below 1, above 4,096, or below the number of nodes that there are. Takes no memory.
+    pub fn set_limit(&mut self, limit: u32) -> bool
+        ensures { SetsLimit self.old.db limit result self.new.db }
+    {
+        if limit < 1 || limit > NODES || limit < self.guide.len() {
+            return false;
+        }
+        self.limit = limit;
+        true
+    }
+
     /// Works out what these changes, which fit the database, lead to: what no name walks to then
     /// vanishes. The database stays as it is. Refused are, in this order, more names, objects and
-    /// edges than a database holds (`TooManyNames`, `TooManyObjects`, `TooManyEdges`).
+    /// edges than a database holds (`TooManyNames`, `TooManyObjects`, `TooManyEdges`), and more nodes
+    /// of the guide than its limit (`GuideNodes`).
     pub fn prepare<L: Ledger>(
         &self,
         alloc: Global,
@@ -104,15 +144,15 @@ impl Store {
     ) -> Result<Prepared, StoreFault>
         requires fits { Fits self.now.db changes.now }
         ensures after { IfOk result (λ plan. IsAfter self.now.db changes.now (database_then self.now.db plan)) }
-        ensures leads { IfOk result (λ plan. LeadsOn self.now.db plan) }
-        ensures ok { let cause = ChangeCause self.now.db.labels self.now.db.graph changes.now in
-            OnOk result (IsClear cause order) }
-        ensures err { let cause = ChangeCause self.now.db.labels self.now.db.graph changes.now in
+        ensures leads { IfOk result (λ plan. LeadsOn self.now.db self.now.guide plan) }
+        ensures ok { OnOk result (IsClear (DatabaseCause self.now.db changes.now) order) }
+        ensures err { let cause = DatabaseCause self.now.db changes.now in
             IfErr result (λ fault. IsToldBy cause order (refusal_of fault)) }
     {
         let dead = self.dead(alloc, changes, steps)?;
         let graph = self.graph.prepare(changes, &dead)?;
         self.check_sizes(&graph)?;
+        let guide = self.guide_then(alloc, changes, &graph, steps)?;
         let labels = self.labels.plan_new(&changes.labels)?;
         let (links, values) = self.indexes_then(alloc, changes, &graph, steps)?;
         Ok(Prepared {
@@ -120,6 +160,7 @@ impl Store {
             labels,
             links,
             values,
+            guide,
         })
     }
 
@@ -128,6 +169,7 @@ impl Store {
     pub fn reserve(&mut self, prepared: &Prepared) -> Result<(), NoMemory>
         ensures room { OnOk result (HasRoomFor self.new prepared.now) }
         ensures same { self.new.db ≡ self.old.db }
+        ensures guide { self.new.guide ≡ self.old.guide }
     {
         self.graph.reserve(&prepared.graph)?;
         self.links.reserve(&prepared.links)?;
@@ -136,7 +178,7 @@ impl Store {
 
     /// Puts in place what was prepared. Takes no memory.
     pub fn commit(&mut self, prepared: Prepared)
-        requires leads { LeadsOn self.old.db prepared }
+        requires leads { LeadsOn self.old.db self.old.guide prepared }
         requires room { HasRoomFor self.old prepared }
         ensures { self.new.db ≡ database_then self.old.db prepared }
     {
@@ -145,11 +187,15 @@ impl Store {
             labels,
             links,
             values,
+            guide,
         } = prepared;
         self.graph.commit(graph);
         self.labels.commit_new(labels);
         self.links.commit(links);
         self.values.commit(values);
+        if let Some(guide) = guide {
+            self.guide = guide;
+        }
     }
 
     // The objects that no name walks to once the changes are made. Where they link nothing anew
@@ -189,7 +235,7 @@ impl Store {
     {
         let EdgeChanges { lost, fresh } = self.graph.edge_changes(plan)?;
         let links = self.links.prepare(&lost, &fresh)?;
-        let then = self.graph.values_then(plan);
+        let then = self.graph.then(plan);
         let changes = GraphChanges {
             lost: lost.as_slice(),
             fresh: fresh.as_slice(),
@@ -199,6 +245,38 @@ impl Store {
         let EntryChanges { gone, come } = entries;
         let values = self.values.prepare(&gone, &come)?;
         Ok((links, values))
+    }
+
+    // The guide of the graph that the plan leads to. None where nothing is linked anew, and so the
+    // guide stays.
+    fn guide_then<L: Ledger>(
+        &self,
+        alloc: Global,
+        changes: &Changes,
+        plan: &GraphPlan,
+        steps: &mut Steps<L>,
+    ) -> Result<Option<Guide>, StoreFault>
+        requires fits { FitsGraph self.now.db.graph changes.now }
+        requires after { IsGraphAfter self.now.db.graph changes.now
+            (graph_then self.now.db.graph plan.now) }
+        ensures guided { let after = graph_then self.now.db.graph plan.now in
+            IfOk result (λ guide. IsGuided after (spec.guide_then self.now.guide guide)) }
+        ensures few { let after = graph_then self.now.db.graph plan.now in
+            OnOk result (¬ AreMoreThan self.now.db.nodes after.names after.edges) }
+        ensures err { let after = graph_then self.now.db.graph plan.now in
+            IfErr result (λ fault. IsToldBy (NodesCause self.now.db.nodes after)
+            (refusals.GuideNodes ∷ []) (refusal_of fault)) }
+    {
+        let limit = self.limit;
+        if link_nothing(changes) {
+            return Ok(None);
+        }
+        let then = self.graph.then(plan);
+        match Guide::build(alloc, &then, plan.names(), limit, steps) {
+            Ok(guide) => Ok(Some(guide)),
+            Err(GuideFault::Nodes) => Err(StoreFault::GuideNodes),
+            Err(GuideFault::NoMemory) => Err(StoreFault::NoMemory),
+        }
     }
 
     // Refuses a plan after which the database would hold too much.

@@ -6,6 +6,7 @@ use Rattle.std.proofs.lemmas.List.Elements.{All-append, All-contains, All-get_or
 use Rattle.oem_changes.specs.Types.{Edge, Changes, NAMES, OBJECTS, EDGES}
 use Rattle.lore_base.specs.Names.{IsLabel}
 use Rattle.lore_base.specs.Databases.{Database, IsValid, IsRooted}
+use Rattle.lore_base.specs.TargetSets.{AreMoreThan}
 use Rattle.lore_base.specs.ChangeSets.{Fits, IsAfter}
 use Rattle.lore_base.proofs.ListLaws.{AllPairs-append}
 use Rattle.oem_changes.proofs.RootedLaws.{All-of_members, rooted_after}
@@ -41,8 +42,9 @@ module _ (before : Database) (changes : Changes) (after : Database) (valid : IsV
       ])
 
   pub valid_after : length after.graph.names ≤ NAMES → length after.graph.objects ≤ OBJECTS
-      → length after.graph.edges ≤ EDGES → IsValid after
-  valid_after few_names few_objects few_edges =
+      → length after.graph.edges ≤ EDGES → (AreMoreThan after.nodes after.graph.names after.graph.edges → ⊥)
+      → IsValid after
+  valid_after few_names few_objects few_edges few_sets =
       let rooted = rooted_after before.graph changes valid.well_formed fits.graph after.graph leaves.graph in
       let longer : length after.labels ≡ length before.labels + length changes.labels = ap length leaves.labels
       ∙ length-append before.labels changes.labels in
@@ -58,6 +60,7 @@ module _ (before : Database) (changes : Changes) (after : Database) (valid : IsV
         few_names = few_names;
         few_objects = few_objects;
         few_edges = few_edges;
+        few_sets = few_sets;
         nodes_limited = (
           omega (arith, leaves.nodes, valid.nodes_limited.0),
           omega

@@ -27,6 +27,11 @@ pub record PlannedGraph : Type 0 where
   pub edges : PlannedList Edge
   pub next : ℕ
 
+-- the objects and the edges of a graph
+pub record GraphLists : Type 0 where
+  pub objects : List (Oid × Value)
+  pub edges : List Edge
+
 -- the graph that the plan leads to
 abbrev pub graph_then : OemGraph → PlannedGraph → OemGraph
 graph_then before plan = record {

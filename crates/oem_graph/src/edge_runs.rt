@@ -1,8 +1,11 @@
-ghost use Rattle.std.specs.Prelude.{◌≡◌, ◌<◌, ◌≢◌, ◌≤◌, length};
+ghost use Rattle.std.specs.Prelude.{◌≡◌, ◌<◌, ◌≢◌, ◌≤◌, ◌++◌, length};
 ghost use Rattle.std.specs.List.{AllWithin, HoldsAt};
 ghost use Rattle.lore_base.specs.Databases.{AreAscendingEdges};
 ghost use Rattle.lore_base.specs.Walks.{out_of};
+ghost use Rattle.oem_graph.specs.Plans.{list_then};
+ghost use Rattle.oem_graph.specs.inside.Planned.{planned};
 
+use crate::planned_items::PlannedItems;
 use lore_base::{Edge, Oid};
 
 // The edges that leave the object: one run of the ascending edges, whose start is found by binary
@@ -30,4 +33,20 @@ fn run_length(edges: &[Edge], oid: Oid) -> usize
         }
     }
     edges.len()
+}
+
+// The edges that leave the object once the plan is in place: a first run, and one that comes behind
+// it.
+pub(crate) fn runs_then<'a>(
+    kept: &'a [Edge],
+    plan: &'a PlannedItems<Edge>,
+    oid: Oid,
+) -> (&'a [Edge], &'a [Edge])
+    requires { AreAscendingEdges (list_then kept.now (planned plan.now)) }
+    ensures { result.0.now ++ result.1.now ≡ out_of oid (list_then kept.now (planned plan.now)) }
+{
+    match plan {
+        PlannedItems::Behind(more) => (run_of(kept, oid), run_of(more.as_slice(), oid)),
+        PlannedItems::Whole(list) => (run_of(list.as_slice(), oid), &[]),
+    }
 }

@@ -30,6 +30,13 @@ impl Model for GraphPlan {
 }
 
 impl GraphPlan {
+    /// The table of names then.
+    pub fn names(&self) -> &Names
+        ensures { result.now ≡ self.now.names }
+    {
+        &self.names
+    }
+
     /// The number of names then.
     pub fn names_len(&self) -> usize
         ensures { result ≡ length self.now.names }

@@ -9,8 +9,8 @@
 pub use edge_changes::EdgeChanges;
 pub use edge_overlay::Overlay;
 pub use graph_plan::GraphPlan;
+pub use graph_then::GraphThen;
 pub use sorted_graph::Graph;
-pub use values_then::ValuesThen;
 
 mod dead_oids;
 mod edge_changes;
@@ -20,8 +20,8 @@ mod edge_sets;
 mod edge_strands;
 mod edges_then;
 mod graph_plan;
+mod graph_then;
 mod object_lists;
 mod objects_then;
 mod planned_items;
 mod sorted_graph;
-mod values_then;

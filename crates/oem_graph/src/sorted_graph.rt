@@ -13,10 +13,10 @@ use crate::edge_runs::run_of;
 use crate::edge_sets::{fresh_edges, lost_edges};
 use crate::edges_then::planned_edges;
 use crate::graph_plan::GraphPlan;
+use crate::graph_then::GraphThen;
 use crate::object_lists::value_in;
 use crate::objects_then::planned_objects;
 use crate::planned_items::{count_then, make_room, put_in_place};
-use crate::values_then::ValuesThen;
 use index_traits::{Adjacent, ValueOf};
 use lore_base::{
     Changes, Edge, EdgeBuf, Names, NoMemory, OemText, Oid, OidBuf, RoomyList, Steps, Value,
@@ -181,14 +181,19 @@ impl Graph {
         planned_changes(self.edges.allocator(), self.edges.as_slice(), &plan.edges)
     }
 
-    /// The values of the objects that the plan leads to.
-    pub fn values_then<'a>(&'a self, plan: &'a GraphPlan) -> ValuesThen<'a>
-        requires { AreAscendingObjects (graph_then self.now.graph plan.now).objects }
-        ensures { result ≡ (graph_then self.now.graph plan.now).objects }
+    /// The objects and the edges that the plan leads to, for readers before it is put in place.
+    /// Takes no memory.
+    pub fn then<'a>(&'a self, plan: &'a GraphPlan) -> GraphThen<'a>
+        requires objects { AreAscendingObjects (graph_then self.now.graph plan.now).objects }
+        requires edges { AreAscendingEdges (graph_then self.now.graph plan.now).edges }
+        ensures objects { result.objects ≡ (graph_then self.now.graph plan.now).objects }
+        ensures edges { result.edges ≡ (graph_then self.now.graph plan.now).edges }
     {
-        ValuesThen {
-            kept: self.objects.as_slice(),
-            plan: &plan.objects,
+        GraphThen {
+            kept_objects: self.objects.as_slice(),
+            kept_edges: self.edges.as_slice(),
+            objects: &plan.objects,
+            edges: &plan.edges,
         }
     }
 

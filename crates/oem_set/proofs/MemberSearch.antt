@@ -1,5 +1,5 @@
 -- Objects by their numbers: lists of them in order, and a binary search among them.
-use Rattle.std.proofs.Common.{◌≡◌, ◌≢◌, ℕ, ◌<◌, ◌≤◌, ◌⊎◌, ◌↔◌, ◌==◌, nat_eq, Bool, true, false, Decides, Less, Equal, Err, List, [], ◌∷◌, ◌++◌, length, get_or, All, AllPairs, Contains, refl, sym, ap, ◌∙◌, inl, inr, arith}
+use Rattle.std.proofs.Common.{◌≡◌, ℕ, ◌<◌, ◌≤◌, ◌↔◌, nat_eq, true, Decides, Less, Equal, Err, List, get_or, AllPairs, Contains, sym, ap, ◌∙◌, inl, inr, arith}
 use Rattle.std.specs.Ordering.{nat_cmp, ordering_index}
 use Rattle.std.specs.List.Sorted.{IsBinarySearchResult, IsNonDecreasingBy}
 use Rattle.std.proofs.lemmas.Bool.{cases_lt}

@@ -1,6 +1,5 @@
 ghost use Rattle.std.specs.Prelude.{◌≡◌, ◌↔◌, ◌⊎◌, ℕ, List, length, Contains, slice_get};
 ghost use Rattle.std.specs.Prelude.{IsTrue, IfOk, OnOk, OnErr};
-ghost use Rattle.std.specs.List.Sorted.{IsPermutation};
 ghost use Rattle.oem_set.specs.Types.{Oid as TheOid};
 ghost use Rattle.lore_base.specs.TargetSets.{ListsInOrder};
 ghost use Rattle.oem_set.specs.Sets.{IsSet, hash_of};
@@ -29,16 +28,23 @@ impl Model for OidSet {
     ghost invariant = { λ s. IsSet s.oids × (s.hash ≡ hash_of s.oids) };
 }
 
+// Puts the objects in ascending order, each once.
+fn put_in_order(buf: &mut OidBuf)
+    ensures { ListsInOrder (Contains buf.old) buf.new }
+{
+    buf.sort_set();
+}
+
 impl OidSet {
-    /// The objects of the buffer, each once. The buffer is put in order.
+    /// The objects of the buffer, each once. The buffer itself is put in ascending order, each
+    /// object once, whatever the answer.
     pub fn from_buf(buf: &mut OidBuf) -> Result<OidSet, NoMemory>
         ensures set { IfOk result (λ set. ListsInOrder (Contains buf.old) set) }
-        ensures buffer { IsPermutation buf.old buf.new }
+        ensures buffer { ListsInOrder (Contains buf.old) buf.new }
     {
-        buf.sort_from(0);
+        put_in_order(buf);
         let mut oids = OidBuf::with_capacity(buf.allocator(), buf.len())?;
         oids.append(buf.as_slice())?;
-        oids.sort_set();
         Ok(OidSet::from_ascending(oids))
     }
 

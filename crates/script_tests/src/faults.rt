@@ -10,8 +10,8 @@ use std::test::Fail;
 // The replies to no statement, the first, the first two and all three.
 const REPLIES: [&[u8]; 4] = [
     b"",
-    b"ok objects 1 edges 0\n",
-    b"ok objects 1 edges 0\nok objects 2 edges 0\n",
+    b"ok objects 1 edges 0 nodes 1\n",
+    b"ok objects 1 edges 0 nodes 1\nok objects 2 edges 0 nodes 2\n",
     LOADED,
 ];
 
@@ -96,7 +96,7 @@ fn check_write(
     check_run(rt, alloc, script, outside, outcome, &all[..count])
 }
 
-// Three replies of 21 bytes, in one write each where the piece has room for it.
+// Three replies of 29 bytes, in one write each where the piece has room for it.
 #[test]
 fn a_write_fault_ends_a_run_in_a_reply(rt: HostRuntime) -> Result<(), Fail> {
     // The piece of a write; the bytes written and the statements replied to, where the first,
@@ -123,22 +123,22 @@ fn a_write_fault_ends_a_run_in_a_reply(rt: HostRuntime) -> Result<(), Fail> {
                 (10, 1),
                 (15, 1),
                 (20, 1),
-                (21, 2),
-                (26, 2),
-                (31, 2),
+                (25, 1),
+                (29, 2),
+                (34, 2),
             ],
         ),
         (
             4_096,
             [
                 (0, 1),
-                (21, 2),
-                (42, 3),
-                (63, 3),
-                (63, 3),
-                (63, 3),
-                (63, 3),
-                (63, 3),
+                (29, 2),
+                (58, 3),
+                (87, 3),
+                (87, 3),
+                (87, 3),
+                (87, 3),
+                (87, 3),
             ],
         ),
     ] {
@@ -147,7 +147,7 @@ fn a_write_fault_ends_a_run_in_a_reply(rt: HostRuntime) -> Result<(), Fail> {
                 failing_write,
                 ..sound(13, write_piece)
             };
-            let status = if count < 63 {
+            let status = if count < 87 {
                 Status::WriteFault
             } else {
                 Status::Done
@@ -165,13 +165,14 @@ fn a_refused_statement_is_counted_where_its_reply_breaks_off(rt: HostRuntime) ->
     for (write_piece, failing_write, count, done) in [
         (1, 22, 21, 1),
         (1, 23, 22, 2),
-        (1, 43, 42, 2),
-        (1, 44, 43, 3),
-        (1, 55, 54, 3),
+        (1, 51, 50, 2),
+        (1, 52, 51, 3),
+        (1, 63, 62, 3),
         (13, 2, 13, 1),
         (13, 3, 22, 2),
         (13, 4, 35, 2),
-        (13, 5, 43, 3),
+        (13, 5, 48, 2),
+        (13, 6, 51, 3),
     ] {
         let outside = Outside {
             failing_write,
@@ -180,7 +181,7 @@ fn a_refused_statement_is_counted_where_its_reply_breaks_off(rt: HostRuntime) ->
         let outcome = ends(Status::WriteFault, done, 1);
         check_write(&rt, rt.alloc(), SELECTS, outside, outcome, SELECTED, count)?;
     }
-    for (write_piece, failing_write) in [(1, 56), (2, 29), (13, 6), (13, 7), (13, 8)] {
+    for (write_piece, failing_write) in [(1, 64), (2, 33), (13, 7), (13, 8), (13, 9)] {
         let outside = Outside {
             failing_write,
             ..sound(13, write_piece)
@@ -194,7 +195,7 @@ fn a_refused_statement_is_counted_where_its_reply_breaks_off(rt: HostRuntime) ->
 // Room, which is written to the full, and statements replied to.
 #[test]
 fn a_sink_that_is_full_ends_a_run(rt: HostRuntime) -> Result<(), Fail> {
-    for (room, done) in [(0, 1), (1, 1), (21, 2), (22, 2), (30, 2), (62, 3)] {
+    for (room, done) in [(0, 1), (1, 1), (29, 2), (30, 2), (40, 2), (86, 3)] {
         for piece in [1, 2, 13, 65_536] {
             let outside = Outside {
                 room,
@@ -205,7 +206,7 @@ fn a_sink_that_is_full_ends_a_run(rt: HostRuntime) -> Result<(), Fail> {
         }
     }
     let enough = Outside {
-        room: 63,
+        room: 87,
         ..sound(65_536, 13)
     };
     check_run(
@@ -242,7 +243,12 @@ fn framed(alloc: Global, front: &[u8], count: u32, behind: &[u8]) -> Result<Vec<
 #[test]
 fn a_long_reply_breaks_off_where_its_buffer_is_full(rt: HostRuntime) -> Result<(), Fail> {
     let script = framed(rt.alloc(), b"load A := \"", 4_096, b"\"; select A;")?;
-    let written = framed(rt.alloc(), b"ok objects 1 edges 0\n&1 \"", 4_092, b"")?;
+    let written = framed(
+        rt.alloc(),
+        b"ok objects 1 edges 0 nodes 1\n&1 \"",
+        4_092,
+        b"",
+    )?;
     let outside = Outside {
         failing_write: 3,
         ..sound(65_536, 65_536)

@@ -11,15 +11,21 @@ use std::test::Fail;
 /// Three loads, whose `;` are the bytes 12, 25 and 38.
 pub(crate) const LOADS: &[u8] = b"load A := 1; load B := 2; load C := 3;";
 
-/// Their replies, of 21 bytes each.
-pub(crate) const LOADED: &[u8] =
-    b"ok objects 1 edges 0\nok objects 2 edges 0\nok objects 3 edges 0\n";
+/// Their replies, of 29 bytes each.
+pub(crate) const LOADED: &[u8] = b"ok objects 1 edges 0 nodes 1
+ok objects 2 edges 0 nodes 2
+ok objects 3 edges 0 nodes 3
+";
 
 /// Three statements, of which the first is refused.
 pub(crate) const SELECTS: &[u8] = b"select A; load A := 1; select A;";
 
-/// Their replies, of 22, 21 and 12 bytes.
-pub(crate) const SELECTED: &[u8] = b"refused 7 UnknownName\nok objects 1 edges 0\n&1 1\nrows 1\n";
+/// Their replies, of 22, 29 and 12 bytes.
+pub(crate) const SELECTED: &[u8] = b"refused 7 UnknownName
+ok objects 1 edges 0 nodes 1
+&1 1
+rows 1
+";
 
 /// Bytes that any reply of these tests finds room for.
 const ROOM: usize = 65_536;

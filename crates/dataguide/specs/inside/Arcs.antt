@@ -7,7 +7,7 @@ use Rattle.std.specs.declared.cmp.Ordering.TheVariants.{Less}
 use Rattle.lore_base.specs.Walks.{out_of}
 use Rattle.lore_base.specs.TargetSets.{ListsInOrder}
 use Rattle.dataguide.specs.Types.{Oid, Label, Edge}
-use Rattle.dataguide.specs.LabelPaths.{LeavesTo, IsStep}
+use Rattle.lore_base.specs.TargetSets.{LeavesTo, IsStep}
 
 -- arcs in the order of label and child
 abbrev pub arc_cmp : Label × Oid → Label × Oid → Ordering

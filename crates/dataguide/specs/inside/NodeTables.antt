@@ -1,11 +1,14 @@
 -- The nodes of a guide and how they are found by the hashes of their sets.
-use Rattle.std.specs.Prelude.{◌≡◌, ℕ, ◌≤◌, List, [], length, Some, unwrap_or, slice_get, map, All, Contains}
+use Rattle.std.specs.Prelude.{◌≡◌, ℕ, ◌≤◌, List, [], ◌∷◌, length, Some, unwrap_or, slice_get, All, Contains}
 use Rattle.std.specs.Ordering.{nat_cmp}
-use Rattle.std.specs.Map.{lookup}
+use Rattle.std.specs.List.{AllZip}
+use Rattle.std.specs.List.Sorted.{IsStrictlySortedBy}
+use Rattle.std.specs.Map.{lookup, keys_of}
 use Rattle.std.specs.BTreeMap.{is_at}
+use Rattle.lore_base.specs.Bytes.{bytes_cmp}
 use Rattle.oem_set.specs.Sets.{hash_of}
 use Rattle.dataguide.specs.Types.{Oid, Node, GuideNode}
-use Rattle.dataguide.specs.Guides.{AscendByLabel}
+use Rattle.dataguide.specs.Guides.{AscendByLabel, HasSet}
 
 abbrev pub node_number : ℕ → Node
 node_number place = record { 0 = place }
@@ -26,10 +29,10 @@ pub record IsNodeTable (lists : List (ℕ × List Node)) (nodes : List GuideNode
   pub ascend : All (λ node. AscendByLabel node.edges) nodes
   pub few : length nodes ≤ 4_294_967_295
 
--- the node of a name's object
-abbrev pub start_at : List (Oid × Node) → Oid → Node
-start_at starts oid = unwrap_or (lookup (is_at (λ other. nat_cmp oid.0 other.0)) starts) (node_number 0)
+-- entries ascend by the bytes of their names
+abbrev pub AreAscendingEntries : List (List ℕ × Node) → Type 0
+AreAscendingEntries entries = IsStrictlySortedBy bytes_cmp (keys_of entries)
 
--- the names with the nodes of their objects
-abbrev pub entries_of : List (List ℕ × Oid) → List (Oid × Node) → List (List ℕ × Node)
-entries_of names starts = map (λ named. (named.0, start_at starts named.1)) names
+-- the nodes have the objects of the names alone, one by one
+abbrev pub AreStarts : List GuideNode → List (List ℕ × Oid) → List Node → Type 0
+AreStarts nodes names starts = AllZip (λ named node. HasSet nodes node (named.1 ∷ [])) names starts

@@ -5,7 +5,8 @@ use Rattle.std.specs.List.{AllZip}
 use Rattle.lore_base.specs.Lists.{Extends}
 use Rattle.lore_base.specs.TargetSets.{ListsInOrder}
 use Rattle.dataguide.specs.Types.{Oid, Label, Edge, Node, GuideNode}
-use Rattle.dataguide.specs.LabelPaths.{LabelPath, LeadsTo, LeavesTo, IsStep, ComesBefore}
+use Rattle.lore_base.specs.TargetSets.{LabelPath, LeadsTo, LeavesTo, IsStep}
+use Rattle.dataguide.specs.LabelPaths.{ComesBefore}
 use Rattle.dataguide.specs.Guides.{sets_of, HasSet, AscendByLabel}
 use Rattle.dataguide.specs.inside.Arcs.{AreGroups, AreSteps}
 use Rattle.dataguide.specs.inside.Entering.{AreEntered, AreTooMany}

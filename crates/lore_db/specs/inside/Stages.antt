@@ -38,7 +38,8 @@ fit_order =
 abbrev pub change_order : List Refusal
 change_order =
     refusals.NotOne ∷ refusals.AtomicParent ∷ refusals.HasChildren ∷ refusals.OidsSpent ∷ refusals.TooManyLabels
-    ∷ refusals.TooManyNames ∷ refusals.TooManyObjects ∷ refusals.TooManyEdges ∷ []
+    ∷ refusals.TooManyNames ∷ refusals.TooManyObjects ∷ refusals.TooManyEdges ∷ refusals.GuideNodes
+    ∷ refusals.LimitRange ∷ []
 
 -- the changes that make the part and bind the name to its first object
 abbrev pub loading_part : List ℕ → Part → Changes

@@ -1,16 +1,15 @@
-use Rattle.std.proofs.Common.{◌≡◌, ℕ, ◌+◌, ◌<◌, inl, inr, List, [], ◌∷◌, ◌++◌, length, get_or, take, drop, map, All, Contains, sym, ap, ◌∙◌, subst, drop-cons, add-one, arith}
-use Rattle.std.proofs.lemmas.List.{map_more, take_all, length-map, take-append-drop}
-use Rattle.std.proofs.lemmas.List.Elements.{All-more, All-weaker, All-contains}
+use Rattle.std.proofs.Common.{◌≡◌, ℕ, ◌+◌, ◌<◌, List, [], ◌∷◌, ◌++◌, length, get_or, take, drop, map, Contains, sym, ap, ◌∙◌, subst, drop-cons, add-one, arith}
+use Rattle.std.specs.List.{AllZip}
+use Rattle.std.proofs.lemmas.List.{map_more, take_more, take_all, length-map, take-append-drop}
 use Rattle.std.proofs.lemmas.Result.{err_from_is_err_and}
 use Rattle.dataguide.specs.Types.{Oid, Node, GuideNode}
 use Rattle.dataguide.specs.Guides.{sets_of, HasSet}
 use Rattle.dataguide.specs.inside.Entering.{IsEntered, AreEntered, AreTooMany}
-use Rattle.dataguide.specs.inside.NodeTables.{start_at}
-use Rattle.dataguide.proofs.PlaceLaws.{map-map, mapped}
-use Rattle.dataguide.proofs.StopLaws.{All-by}
+use Rattle.dataguide.specs.inside.NodeTables.{AreStarts}
+use Rattle.dataguide.proofs.PlaceLaws.{map-map, AllZip-then, AllZip-weaker}
 use Rattle.dataguide.proofs.EnteredLaws.{AreEntered-push, too-many-here}
 use Rattle.dataguide.proofs.SearchedLaws.{set-extends}
-use Rattle.dataguide.proofs.TableLaws.{start-put, start-self}
+use Rattle.dataguide.proofs.EntryLaws.{starts-of}
 use Rattle.dataguide.proofs.data_guide.enter_names.Goals as goal
 
 abbrev alone : Oid → List Oid
@@ -47,18 +46,14 @@ names-preserved c =
     let ok = c.in_ok-node.ensures in
     let set : c.from_ascending.result ≡ alone oid = c.from_ascending.ensures ∙ c.in_ok-push.ensures.ok ∙ ap (λ (l : List Oid). l ++ oid ∷ []) c.in_ok-oids.ensures in
     let has = subst (λ (s : List Oid). HasSet c.enter.new.self c.in_ok-node.node s) set ok.node in
-    let new = c.insert.new.self.entries in
     record {
       entered = subst (λ (l : List (List Oid)). AreEntered (sets_of c.args.found.now) l (sets_of c.enter.new.self)) (sym (map_more alone objects i (record { 0 = 0 }) c.names-test.true))
           (AreEntered-push (sets_of c.args.found.now) (map alone (take i objects)) (sets_of c.names.found) (alone oid) (sets_of c.enter.new.self) c.names.invariant.entered
           (subst (λ (s : List Oid). IsEntered (sets_of c.names.found) s (sets_of c.enter.new.self)) set ok.entered));
-      starts = All-more (λ (q : Oid). HasSet c.enter.new.self (start_at new q) (alone q)) objects i (record { 0 = 0 }) c.names-test.true
-          (All-weaker (λ (q : Oid). HasSet c.names.found (start_at c.names.starts.entries q) (alone q)) (λ (q : Oid). HasSet c.enter.new.self (start_at new q) (alone q))
-          (λ q had. elim (start-put c.names.starts.entries new oid c.in_ok-node.node c.in_ok-insert.ensures.updates.0 q) [
-            | inl put ↦ subst (λ (n : Node). HasSet c.enter.new.self n (alone q)) (sym put.1) (subst (λ (o : Oid). HasSet c.enter.new.self c.in_ok-node.node (alone o)) (sym put.0) has)
-            | inr same ↦ subst (λ (n : Node). HasSet c.enter.new.self n (alone q)) (sym same) (set-extends c.names.found c.enter.new.self (start_at c.names.starts.entries q) (alone q) c.enter.ensures.kept had)
-          ]) (take i objects) c.names.invariant.starts)
-          (subst (λ (n : Node). HasSet c.enter.new.self n (alone oid)) (sym (start-self new oid c.in_ok-node.node c.in_ok-insert.ensures.updates.1)) has);
+      starts = rw (take_more objects i (record { 0 = 0 }) c.names-test.true, c.in_ok-push-2.ensures.ok)
+          (AllZip-then (λ (q : Oid) (n : Node). HasSet c.enter.new.self n (alone q)) (take i objects) c.names.starts oid c.in_ok-node.node
+          (AllZip-weaker (λ (q : Oid) (n : Node). HasSet c.names.found n (alone q)) (λ (q : Oid) (n : Node). HasSet c.enter.new.self n (alone q))
+          (λ q n had. set-extends c.names.found c.enter.new.self n (alone q) c.enter.ensures.kept had) (take i objects) c.names.starts c.names.invariant.starts) has);
       within = λ few. c.enter.ensures.within (c.names.invariant.within few);
     }
 
@@ -73,7 +68,7 @@ pub returns-clause-starts : goal.returns-clause-starts
 returns-clause-starts c =
     let objects = c.as_slice-oid-items.result.now in
     let are : objects ≡ map object c.args.names.now = c.as_slice-oid-items.ensures ∙ c.in_ok-objects.ensures in
-    let all = subst (λ (l : List Oid). All (λ q. HasSet c.names.found (start_at c.names.starts.entries q) (alone q)) l)
-    (take_all c.names.oid-index objects c.names-test.false ∙ are) c.names.invariant.starts in
-    All-by (λ (named : List ℕ × Oid). HasSet c.names.found (start_at c.names.starts.entries named.1) (alone named.1)) c.args.names.now
-    (λ named there. All-contains (λ (q : Oid). HasSet c.names.found (start_at c.names.starts.entries q) (alone q)) (map object c.args.names.now) named.1 all (mapped object c.args.names.now named there))
+    subst (AreStarts c.names.found c.args.names.now) (sym c.into_items.ensures)
+    (starts-of c.names.found c.args.names.now c.names.starts
+    (subst (λ (l : List Oid). AllZip (λ q n. HasSet c.names.found n (alone q)) l c.names.starts)
+    (take_all c.names.oid-index objects c.names-test.false ∙ are) c.names.invariant.starts))

@@ -3,15 +3,17 @@ use Rattle.std.specs.List.{sum_by, AllZip}
 use Rattle.std.proofs.lemmas.List.{take_all, length-map, append-nil}
 use Rattle.std.proofs.lemmas.Option.{slice_get_within}
 use Rattle.std.proofs.lemmas.Result.{err_from_is_err_and}
-use Rattle.dataguide.specs.Types.{Oid, Node, GuideNode}
-use Rattle.dataguide.specs.LabelPaths.{AreInPathOrder, AreTargetSets, reads_of}
+use Rattle.dataguide.specs.Types.{Oid, GuideNode}
+use Rattle.lore_base.specs.TargetSets.{AreTargetSets}
+use Rattle.dataguide.specs.LabelPaths.{AreInPathOrder, reads_of}
 use Rattle.dataguide.specs.Guides.{HasItsSteps, IsEntry, sets_of}
 use Rattle.dataguide.specs.inside.Entering.{AreEntered, AreTooMany}
 use Rattle.dataguide.specs.inside.Trails.{IsSearched}
 use Rattle.dataguide.proofs.SearchedLaws.{searched-start, searched-more, expanded-sets, expanded-stays, expanded-more}
 use Rattle.dataguide.proofs.DoneLaws.{are-targets, in-order, has-steps}
+use Rattle.dataguide.proofs.CountLaws.{no-more}
 use Rattle.dataguide.proofs.LimitLaws.{names-too-many, steps-too-many, reads-some, spent-more}
-use Rattle.dataguide.proofs.TableLaws.{entries-start, starts-stay}
+use Rattle.dataguide.proofs.EntryLaws.{entries-are, starts-as_many, starts-stay}
 use Rattle.dataguide.proofs.data_guide.Guide.build.Goals as goal
 
 pub nodes-init : goal.nodes-init
@@ -43,7 +45,7 @@ nodes-preserved g c =
           ∙ add_assoc c.args.steps.now spent (reads_of edges now.set)
           ∙ ap (λ n. c.args.steps.now + n)
           (sym (spent-more (reads_of edges) (sets_of old) (sets_of new) c.nodes.next now.set (expanded-sets edges old new c.nodes.next now) now.at));
-      starts = starts-stay old new names c.in_ok-starts.starts.entries (expanded-stays edges old new c.nodes.next now) c.nodes.invariant.starts;
+      starts = starts-stay old new names c.in_ok-starts.starts.items (expanded-stays edges old new c.nodes.next now) c.nodes.invariant.starts;
       within = c.in_ok-expand.ensures.within c.nodes.invariant.within;
       passed = omega (arith, c.nodes-test.true, c.len.ensures, expanded-more edges old new c.nodes.next now);
     }
@@ -91,8 +93,8 @@ returns-clause-guide g c =
       nodes = subst (λ (l : List GuideNode). AreTargetSets names edges (sets_of l)) (sym nodes) (are-targets names edges found searched);
       steps = subst (λ (l : List GuideNode). All (HasItsSteps edges l) l) (sym nodes) (has-steps names edges found searched);
       entries = subst (λ (l : List GuideNode). AllZip (IsEntry l) names c.in_ok-entries.entries) (sym nodes)
-          (subst (λ (e : List (List ℕ × Node)). AllZip (IsEntry found) names e) (sym c.in_ok-entries.ensures)
-          (entries-start found c.in_ok-starts.starts.entries names c.nodes.invariant.starts));
+          (entries-are found names c.in_ok-starts.starts.items c.in_ok-entries.entries c.nodes.invariant.starts c.in_ok-entries.ensures.names
+          (c.in_ok-entries.ensures.nodes ∙ c.as_slice.ensures.value));
     }
 
 pub returns-clause-order : goal.returns-clause-order
@@ -111,3 +113,15 @@ returns-clause-steps g c =
     let few : length (sets_of found) ≤ c.nodes.next = omega (arith, c.nodes-test.false, c.len.ensures, length-map found (λ (n : GuideNode). n.set)) in
     c.nodes.invariant.steps ∙ ap (λ (l : List (List Oid)). c.args.steps.now + sum_by (reads_of edges) l) (take_all c.nodes.next (sets_of found) few)
     ∙ ap (λ (l : List GuideNode). c.args.steps.now + sum_by (reads_of edges) (sets_of l)) (sym c.found-in-nodes.view_is)
+
+pub returns-clause-few : goal.returns-clause-few
+returns-clause-few g c =
+    let names = c.args.names.now in
+    let edges = g.A.Adjacent.edges c.args.graph.now in
+    let found = c.nodes.found in
+    let done : c.nodes.next ≡ length found = omega (arith, c.nodes-test.false, c.len.ensures, c.nodes.invariant.passed) in
+    let searched = subst (IsSearched names edges found) done c.nodes.invariant.searched in
+    no-more c.args.limit names edges found (are-targets names edges found searched) c.nodes.invariant.within
+
+pub of-requires : goal.of-requires
+of-requires g c = ap length c.as_slice.ensures.value ∙ starts-as_many c.nodes.found c.args.names.now c.in_ok-starts.starts.items c.nodes.invariant.starts

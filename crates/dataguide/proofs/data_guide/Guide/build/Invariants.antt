@@ -1,8 +1,8 @@
-use Rattle.std.proofs.Common.{◌≡◌, ◌+◌, ◌-◌, ◌≤◌, ◌^◌, ◌∷◌, [], All, length, take}
+use Rattle.std.proofs.Common.{◌≡◌, ◌+◌, ◌-◌, ◌≤◌, ◌^◌, length, take}
 use Rattle.std.specs.List.{sum_by}
 use Rattle.dataguide.specs.LabelPaths.{reads_of}
-use Rattle.dataguide.specs.Guides.{sets_of, HasSet}
-use Rattle.dataguide.specs.inside.NodeTables.{start_at}
+use Rattle.dataguide.specs.Guides.{sets_of}
+use Rattle.dataguide.specs.inside.NodeTables.{AreStarts}
 use Rattle.dataguide.specs.inside.Trails.{IsSearched}
 use Rattle.dataguide.proofs.data_guide.Guide.build.Given as goal
 
@@ -12,7 +12,7 @@ invariant-nodes g l =
     record {
       searched : IsSearched l.names edges l.found l.next;
       steps : l.steps ≡ l.fn.steps + sum_by (reads_of edges) (take l.next (sets_of l.found));
-      starts : All (λ named. HasSet l.found (start_at l.starts.entries named.1) (named.1 ∷ [])) l.names;
+      starts : AreStarts l.found l.names l.starts.items;
       within : length l.found ≤ l.limit;
       passed : l.next ≤ length l.found;
     }

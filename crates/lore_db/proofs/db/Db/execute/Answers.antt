@@ -1,11 +1,15 @@
 use Rattle.std.proofs.Common.{sym, subst, IfOk}
+use Rattle.std.specs.Prelude.{ℤ}
+use Rattle.std.specs.Int.{w64, cast_signed, cast_unsigned}
+use Rattle.std.proofs.lemmas.Int.{to_z-of_z}
 use Rattle.lorel_trees.specs.declared.statements.Statement.{Statement}
-use Rattle.lorel_trees.specs.Trees.{load, bind, unname, select, literal_tree, rooted_tree, select_tree, statement_tree}
+use Rattle.lorel_trees.specs.Trees.{load, bind, unname, select, guide, set_nodes, literal_tree, rooted_tree, select_tree, statement_tree}
 use Rattle.lorel_trees.specs.Sound.{IsSound}
 use Rattle.lorel_trees.proofs.FormLaws.{sound_statement}
 use Rattle.lore_db.specs.Statements.{Executes}
 use Rattle.lore_db.proofs.ShallowLaws.{sound_shallow}
 use Rattle.lore_db.proofs.ExecutionLaws.{unchanged, replied}
+use Rattle.lore_db.proofs.GuideStatementLaws.{shown, shown_told, limited, limited_told}
 use Rattle.lore_db.proofs.db.Db.execute.Goals as goal
 
 pub load-requires-clause-name : goal.load-requires-clause-name
@@ -54,3 +58,27 @@ pub returns-in-Assign-clause-ok : goal.returns-in-Assign-clause-ok
 returns-in-Assign-clause-ok g c =
     replied c.args.self.now c.update.new.self (statement_tree c.args.statement.now) c.update.result c.reply_of-in-Assign.result
     c.reply_of-in-Assign.ensures c.update.ensures.ok c.update.ensures.same c.update.ensures.refused
+
+pub returns-in-Guide-clause-ok : goal.returns-in-Guide-clause-ok
+returns-in-Guide-clause-ok g c =
+    let db = c.args.self.now in
+    let done = c.show_guide.result in
+    subst (λ (s : Statement). IfOk c.reply_of-in-Guide.result (λ reply. Executes db (statement_tree s) reply db)) (sym c.in-Guide.is)
+    (replied db db guide done c.reply_of-in-Guide.result c.reply_of-in-Guide.ensures (shown db done c.show_guide.ensures.ok)
+    (unchanged done db) (shown_told db done c.show_guide.ensures.refused))
+
+-- the number is one of 64 bits, and so it is passed as it is
+pub returns-in-SetNodes-clause-ok : goal.returns-in-SetNodes-clause-ok
+returns-in-SetNodes-clause-ok g c =
+    let db = c.args.self.now in
+    let after = c.set_nodes.new.self in
+    let nodes = c.in-SetNodes.nodes in
+    let passed = cast_signed w64 (cast_unsigned w64 nodes) in
+    let done = c.set_nodes.result in
+    let sound = subst (λ (s : Statement). IsSound (statement_tree s)) c.in-SetNodes.is c.requires in
+    let same = to_z-of_z w64 nodes (sound_statement (set_nodes nodes) sound) in
+    subst (λ (s : Statement). IfOk c.reply_of-in-SetNodes.result (λ reply. Executes db (statement_tree s) reply after)) (sym c.in-SetNodes.is)
+    (subst (λ (n : ℤ). IfOk c.reply_of-in-SetNodes.result (λ reply. Executes db (set_nodes n) reply after)) same
+    (replied db after (set_nodes passed) done c.reply_of-in-SetNodes.result c.reply_of-in-SetNodes.ensures
+    (limited db after passed done c.set_nodes.ensures.ok c.set_nodes.ensures.limit) c.set_nodes.ensures.same
+    (limited_told db after passed done c.set_nodes.ensures.refused)))

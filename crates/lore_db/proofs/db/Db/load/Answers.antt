@@ -1,4 +1,4 @@
-use Rattle.std.proofs.Common.{◌≡◌, inl, [], refl, ap, subst, ◌∙◌}
+use Rattle.std.proofs.Common.{inl, [], refl, ap, subst, ◌∙◌}
 use Rattle.lore_base.specs.Databases.{OemGraph, Database, IsValid}
 use Rattle.lorel_trees.specs.Trees.{literal_tree, load}
 use Rattle.oem_text.specs.Faults.{text_refusal}
@@ -61,4 +61,5 @@ returns-clause-ok g c =
     let is = c.in_ok-changes.ensures ∙ part_loads db valid name literal c.labels.result.now c.next-next.result table number c.in_ok-part.part c.in_ok-part.ensures.part in
     let clear = part_clear db valid name literal c.labels.result.now c.next-next.result table number c.in_ok-part.ensures.ok in
     inl (changes_lead db (load name literal) [] refl c.in_ok-changes.changes (same_as (loading db name literal) c.in_ok-changes.changes is) clear
-    (load_its db name literal) c.apply.new.self c.counts.result c.in_ok-apply.ensures.clear c.in_ok-apply.ensures.ok c.counts.ensures)
+    (load_its db name literal) (λ outside. outside) c.apply.new.self c.counts.result c.in_ok-apply.ensures.clear c.in_ok-apply.ensures.ok
+    c.counts.ensures)

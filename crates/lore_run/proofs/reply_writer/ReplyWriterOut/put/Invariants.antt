@@ -1,4 +1,4 @@
-use Rattle.std.proofs.Common.{◌≡◌, ◌≤◌, ◌-◌, length, take}
+use Rattle.std.proofs.Common.{◌≤◌, ◌-◌, length, take}
 use Rattle.lore_base.specs.Pieces.{Takes}
 use Rattle.lore_run.specs.inside.Deliveries.{passing}
 use Rattle.lore_run.proofs.reply_writer.ReplyWriterOut.put.Given as goal

@@ -35,14 +35,14 @@ prepare-requires-2 g c =
     let fits = subst (λ (s : RoomyDatabase). FitsGraph s.db.graph changes) (sym c.self.view_is) c.requires.fits in
     let after = subst (λ (s : RoomyDatabase). IsGraphAfter s.db.graph changes (graph_then s.db.graph c.args.plan.now)) (sym c.self.view_is) c.requires.after in
     let sized = subst (λ (s : RoomyDatabase). IsClear (SizeCause (graph_then s.db.graph c.args.plan.now)) order) (sym c.self.view_is) c.requires.sized in
-    let rooted = rooted_graph (database_of c.self.inside.labels graph) c.self.invariant.valid in
+    let rooted = rooted_graph (database_of c.self.inside.labels graph c.self.inside.limit) c.self.invariant.valid in
     let rooted_then = rooted_after graph changes rooted.well_formed fits then after in
     let few : length then.edges ≤ EDGES = omega (arith, sized.1.1.0) in
     record {
       fits = fits_entries graph then rooted_then few c.self.inside.values.entries c.in_ok-entries.entries.gone c.in_ok-entries.entries.come c.self.invariant.values
           (found_changes graph changes then after c.self.inside.links.links c.in_ok-lost.field-0.lost c.in_ok-lost.field-0.fresh c.self.invariant.links c.in_ok-lost.ensures
           c.in_ok-entries.entries.gone c.in_ok-entries.entries.come rooted rooted_then
-          (λ old new objects edges is settled settled_then differ. c.in_ok-entries.ensures old new objects edges (is ∙ sym c.values_then-then.ensures) settled settled_then
+          (λ old new objects edges is settled settled_then differ. c.in_ok-entries.ensures old new objects edges (is ∙ sym c.then-then.ensures.objects) settled settled_then
           (rw (c.as_slice.ensures, c.as_slice-2.ensures, c.as_slice-3.ensures) differ)));
     }
 
@@ -53,11 +53,11 @@ returns g c =
     let then = graph_then graph c.args.plan.now in
     let fits = subst (λ (s : RoomyDatabase). FitsGraph s.db.graph changes) (sym c.self.view_is) c.requires.fits in
     let after = subst (λ (s : RoomyDatabase). IsGraphAfter s.db.graph changes (graph_then s.db.graph c.args.plan.now)) (sym c.self.view_is) c.requires.after in
-    let rooted = rooted_graph (database_of c.self.inside.labels graph) c.self.invariant.valid in
+    let rooted = rooted_graph (database_of c.self.inside.labels graph c.self.inside.limit) c.self.invariant.valid in
     let rooted_then = rooted_after graph changes rooted.well_formed fits then after in
     let found = found_changes graph changes then after c.self.inside.links.links c.in_ok-lost.field-0.lost c.in_ok-lost.field-0.fresh c.self.invariant.links c.in_ok-lost.ensures
     c.in_ok-entries.entries.gone c.in_ok-entries.entries.come rooted rooted_then
-    (λ old new objects edges is settled settled_then differ. c.in_ok-entries.ensures old new objects edges (is ∙ sym c.values_then-then.ensures) settled settled_then
+    (λ old new objects edges is settled settled_then differ. c.in_ok-entries.ensures old new objects edges (is ∙ sym c.then-then.ensures.objects) settled settled_then
     (rw (c.as_slice.ensures, c.as_slice-2.ensures, c.as_slice-3.ensures) differ)) in
     let entries : AreEntryChanges (state_of graph) (state_of then) c.in_ok-values.values.gone c.in_ok-values.values.come =
     rw (c.in_ok-values.ensures.gone, c.in_ok-values.ensures.come) found in

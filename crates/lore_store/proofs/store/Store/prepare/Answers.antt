@@ -6,7 +6,7 @@ use Rattle.oem_labels.specs.Labels.{first_uses, LeadsFrom}
 use Rattle.oem_graph.specs.Plans.{graph_then}
 use Rattle.lore_store.specs.Faults.{refusal_of}
 use Rattle.lore_store.specs.Stores.{RoomyDatabase, PlannedDatabase, database_of}
-use Rattle.lore_store.proofs.SizeLaws.{sized_clear, sized_told}
+use Rattle.lore_store.proofs.SizeLaws.{sized_clear, sized_told, guided_told}
 use Rattle.lore_store.proofs.PreparedLaws.{labels_fit, leads_after, leads_valid}
 use Rattle.lore_store.proofs.store.Store.prepare.Goals as goal
 
@@ -14,7 +14,7 @@ pub plan_new-requires : goal.plan_new-requires
 plan_new-requires g c =
     let changes = c.args.changes.now in
     let fits = subst (λ (store : RoomyDatabase). Fits store.db changes) (sym c.self.view_is) c.requires.fits in
-    record { few = labels_fit (database_of c.self.inside.labels c.self.inside.graph.graph) changes c.self.invariant.valid fits }
+    record { few = labels_fit (database_of c.self.inside.labels c.self.inside.graph.graph c.self.inside.limit) changes c.self.invariant.valid fits }
 
 pub returns-in_err-check_sizes-clause-err : goal.returns-in_err-check_sizes-clause-err
 returns-in_err-check_sizes-clause-err g c =
@@ -24,12 +24,12 @@ returns-in_err-check_sizes-clause-err g c =
     let after = subst (λ (store : RoomyDatabase). IsGraphAfter store.db.graph changes (graph_then store.db.graph plan)) c.self.view_is c.in_ok-graph.ensures.after in
     let answered = err_from_is_err_and c.from_residual-in_err-check_sizes.result c.from_residual-in_err-check_sizes.ensures.1 in
     rw (answered.1, answered.2)
-    (sized_told db.labels db.graph changes (graph_then db.graph plan) after (refusal_of c.in_err-check_sizes.field-0.0) c.in_err-check_sizes.ensures.err)
+    (sized_told db changes (graph_then db.graph plan) after (refusal_of c.in_err-check_sizes.field-0.0) c.in_err-check_sizes.ensures.err)
 
 pub returns-clause-after : goal.returns-clause-after
 returns-clause-after g c =
     let changes = c.args.changes.now in
-    let plan : PlannedDatabase = record { graph = c.in_ok-graph.graph; labels = c.in_ok-labels.labels; links = c.in_ok-links.links; values = c.in_ok-links.values } in
+    let plan : PlannedDatabase = record { graph = c.in_ok-graph.graph; labels = c.in_ok-labels.labels; links = c.in_ok-links.links; values = c.in_ok-links.values; guide = c.in_ok-guide.guide } in
     let valid = subst (λ (store : RoomyDatabase). IsValid store.db) c.self.view_is c.self.invariant.valid in
     let after = subst (λ (store : RoomyDatabase). IsGraphAfter store.db.graph changes (graph_then store.db.graph plan.graph)) c.self.view_is c.in_ok-graph.ensures.after in
     let labels = c.in_ok-labels.ensures.come ∙ ap (λ (store : RoomyDatabase). first_uses store.db.labels changes.labels) c.self.view_is in
@@ -38,14 +38,15 @@ returns-clause-after g c =
 pub returns-clause-leads : goal.returns-clause-leads
 returns-clause-leads g c =
     let changes = c.args.changes.now in
-    let plan : PlannedDatabase = record { graph = c.in_ok-graph.graph; labels = c.in_ok-labels.labels; links = c.in_ok-links.links; values = c.in_ok-links.values } in
+    let plan : PlannedDatabase = record { graph = c.in_ok-graph.graph; labels = c.in_ok-labels.labels; links = c.in_ok-links.links; values = c.in_ok-links.values; guide = c.in_ok-guide.guide } in
     let valid = subst (λ (store : RoomyDatabase). IsValid store.db) c.self.view_is c.self.invariant.valid in
     let after = subst (λ (store : RoomyDatabase). IsGraphAfter store.db.graph changes (graph_then store.db.graph plan.graph)) c.self.view_is c.in_ok-graph.ensures.after in
     let labels = c.in_ok-labels.ensures.come ∙ ap (λ (store : RoomyDatabase). first_uses store.db.labels changes.labels) c.self.view_is in
     record {
-      valid = leads_valid c.args.self.now.db changes valid c.requires.fits plan labels after c.in_ok-check_sizes.ensures.ok;
+      valid = leads_valid c.args.self.now.db changes valid c.requires.fits plan labels after c.in_ok-check_sizes.ensures.ok c.in_ok-guide.ensures.few;
       labels = subst (λ (store : RoomyDatabase). LeadsFrom store.db.labels plan.labels) c.self.view_is c.in_ok-labels.ensures.leads;
       indexes = c.in_ok-links.ensures;
+      guided = c.in_ok-guide.ensures.guided;
     }
 
 pub returns-clause-ok : goal.returns-clause-ok
@@ -54,4 +55,14 @@ returns-clause-ok g c =
     let changes = c.args.changes.now in
     let plan = c.in_ok-graph.graph in
     let after = subst (λ (store : RoomyDatabase). IsGraphAfter store.db.graph changes (graph_then store.db.graph plan)) c.self.view_is c.in_ok-graph.ensures.after in
-    sized_clear db.labels db.graph changes (graph_then db.graph plan) after c.in_ok-check_sizes.ensures.ok
+    sized_clear db changes (graph_then db.graph plan) after c.in_ok-check_sizes.ensures.ok c.in_ok-guide.ensures.few
+
+pub returns-in_err-guide-clause-err : goal.returns-in_err-guide-clause-err
+returns-in_err-guide-clause-err g c =
+    let db = c.args.self.now.db in
+    let changes = c.args.changes.now in
+    let plan = c.in_ok-graph.graph in
+    let after = subst (λ (store : RoomyDatabase). IsGraphAfter store.db.graph changes (graph_then store.db.graph plan)) c.self.view_is c.in_ok-graph.ensures.after in
+    let answered = err_from_is_err_and c.from_residual-in_err-guide.result c.from_residual-in_err-guide.ensures.1 in
+    rw (answered.1, answered.2)
+    (guided_told db changes (graph_then db.graph plan) after c.in_ok-check_sizes.ensures.ok (refusal_of c.in_err-guide.field-0.0) c.in_err-guide.ensures.err)

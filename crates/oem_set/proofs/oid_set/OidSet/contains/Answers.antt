@@ -1,4 +1,3 @@
-use Rattle.std.proofs.Common.{false, true, sym}
 use Rattle.std.proofs.lemmas.Bool.{false≢true}
 use Rattle.oem_set.proofs.MemberSearch.{none_found}
 use Rattle.oem_set.proofs.oid_set.OidSet.contains.Goals as goal

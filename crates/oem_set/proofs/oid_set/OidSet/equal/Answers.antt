@@ -1,4 +1,4 @@
-use Rattle.std.proofs.Common.{◌≡◌, sym, ap, ◌∙◌}
+use Rattle.std.proofs.Common.{sym, ◌∙◌}
 use Rattle.std.proofs.lemmas.Slice.Eq.{slice_eq-Decides}
 use Rattle.oem_set.proofs.MemberSearch.{Decides-same_oid}
 use Rattle.oem_set.proofs.oid_set.OidSet.equal.Goals as goal

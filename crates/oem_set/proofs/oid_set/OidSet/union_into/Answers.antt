@@ -1,4 +1,4 @@
-use Rattle.std.proofs.Common.{◌≡◌, List, [], ◌++◌, ◌⊎◌, Contains, inl, inr, subst, sym, ap, ◌∙◌}
+use Rattle.std.proofs.Common.{◌≡◌, List, ◌++◌, ◌⊎◌, Contains, inl, inr, ap, ◌∙◌}
 use Rattle.std.proofs.lemmas.List.Elements.{Contains-append_cases, Contains-append_left, Contains-append_right}
 use Rattle.oem_set.specs.Types.{Oid}
 use Rattle.oem_set.proofs.MemberSearch.{same_oid, IsSet-from_less, lists-sorted}

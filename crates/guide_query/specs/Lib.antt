@@ -1,0 +1,4 @@
+pub mod Types
+pub mod GuideLines
+pub mod LineLaws
+pub mod inside

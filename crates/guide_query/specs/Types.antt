@@ -1,0 +1,8 @@
+-- The declared types that the definitions of this crate cite, under one module.
+pub use Rattle.lore_base.specs.declared.edges.Oid.{Oid}
+pub use Rattle.lore_base.specs.declared.edges.Label.{Label}
+pub use Rattle.lore_base.specs.declared.edges.Edge.{Edge}
+pub use Rattle.dataguide.specs.declared.nodes.Node.{Node}
+pub use Rattle.dataguide.specs.declared.nodes.GuideNode.{GuideNode}
+pub use Rattle.guide_query.specs.declared.origins.Origin.{Origin}
+pub use Rattle.guide_query.specs.declared.origins.Origin.TheVariants.{Unmet, Named, Step}

@@ -1,0 +1,81 @@
+-- The new store: nothing is in it.
+use Rattle.std.proofs.Common.{◌≡◌, ◌≢◌, ℕ, ◌<◌, ◌≤◌, List, [], length, refl, sym, subst, arith}
+use Rattle.std.specs.List.{All, AllPairs, AllZip, Contains}
+use Rattle.std.specs.List.Sorted.{IsStrictlySortedBy}
+use Rattle.std.proofs.lemmas.List.Elements.{All-contains, Contains-get_or}
+use Rattle.lore_store.specs.Types.{NODES, Edge}
+use Rattle.lore_base.specs.declared.edges.Oid.{Oid}
+use Rattle.lore_base.specs.TargetSets.{AreMoreThan, IsLedTo}
+use Rattle.lore_base.specs.Databases.{OemGraph, IsValid, new_database, new_graph}
+use Rattle.lore_base.proofs.MemberLaws.{Contains-none}
+use Rattle.link_index.specs.Links.{RoomyLinks}
+use Rattle.value_index.specs.Values.{RoomyEntries}
+use Rattle.dataguide.specs.declared.nodes.GuideNode.{GuideNode}
+use Rattle.dataguide.specs.Guides.{GuideGraph, StandsFor, sets_of}
+use Rattle.dataguide.specs.LabelPaths.{AreInPathOrder, ComesBefore}
+use Rattle.index_traits.specs.declared.entries.ValueEntry.{ValueEntry}
+use Rattle.index_traits.specs.Entries.{AreLinks, AreValueEntries}
+use Rattle.lore_store.specs.Stores.{IsStored, database_of}
+
+-- without names no set is led to
+pub none_led : (edges : List Edge) → AreMoreThan NODES [] edges → ⊥
+none_led edges more =
+    let first : Contains more.sets _ = Contains-get_or more.sets 0 [] (omega (arith, more.many)) in
+    let led = All-contains (IsLedTo [] edges) more.sets _ more.led first in
+    Contains-none _ led.1.named
+
+none_below : {X : Type 0} (R : X → X → Type 0) → AllPairs R []
+none_below R = λ i j d low within. absurd (omega (arith, within))
+
+new_valid : IsValid new_database
+unfolding IsStrictlySortedBy
+new_valid = record {
+  labels_distinct = λ i j d low within. absurd (omega (arith, within));
+  labels_formed = λ k d low. absurd (omega (arith, low));
+  well_formed = record {
+    ordered = record {
+      names_ascend = tt;
+      objects_ascend = λ i j d low within. absurd (omega (arith, within));
+      objects_numbered = λ k d low. absurd (omega (arith, low));
+      edges_ascend = λ i j d low within. absurd (omega (arith, within));
+      next_numbered = (omega arith, omega arith);
+    };
+    names_formed = λ k d low. absurd (omega (arith, low));
+    names_live = λ k d low. absurd (omega (arith, low));
+    objects_sized = λ k d low. absurd (omega (arith, low));
+    edges_linked = λ k d low. absurd (omega (arith, low));
+  };
+  labelled = λ k d low. absurd (omega (arith, low));
+  reached = λ k d low. absurd (omega (arith, low));
+  few_labels = omega arith;
+  few_names = omega arith;
+  few_objects = omega arith;
+  few_edges = omega arith;
+  nodes_limited = (omega arith, omega arith);
+  few_sets = none_led [];
+}
+
+new_order : (nodes : List GuideNode) → nodes ≡ [] → AreInPathOrder [] [] (sets_of nodes)
+new_order nodes none = rw none (record { paths = []; least = tt; ascending = none_below ComesBefore })
+
+new_links : (links : List Edge) → links ≡ [] → AreLinks [] links
+new_links links none = rw none (record { ascend = λ i j d low within. absurd (omega (arith, within)); exact = λ edge. (λ at. at, λ at. at) })
+
+new_entries : (list : List ValueEntry) → list ≡ [] → AreValueEntries [] [] list
+new_entries list none = rw none (record {
+  ascend = λ i j d low within. absurd (omega (arith, within));
+  exact = λ entry. (λ at. absurd (Contains-none entry at), λ h. absurd (Contains-none _ h.live));
+})
+
+pub new_stored : (labels : List (List ℕ)) (graph : OemGraph) (link : RoomyLinks) (value : RoomyEntries) (guide : GuideGraph)
+    → labels ≡ [] → graph ≡ new_graph → link.links ≡ [] → value.entries ≡ [] → guide.nodes ≡ [] → StandsFor guide [] []
+    → IsStored (database_of labels graph NODES) link value guide
+new_stored labels graph link value guide no_label is links entries nodes stands =
+    subst (λ (l : List (List ℕ)). IsStored (database_of l graph NODES) link value guide) (sym no_label)
+    (subst (λ (g : OemGraph). IsStored (database_of [] g NODES) link value guide) (sym is)
+    (record {
+      valid = new_valid;
+      guided = record { stands = stands; order = new_order guide.nodes nodes };
+      links = new_links link.links links;
+      values = new_entries value.entries entries;
+    }))
