@@ -1,5 +1,6 @@
 -- An edge of a node, found by its label.
-use Rattle.std.proofs.Common.{◌≡◌, ◌≢◌, ℕ, ◌<◌, ◌≤◌, ltb, true, false, inl, inr, List, length, get_or, Option, Some, None, IfSome, IfNone, Contains, sym, ap, ◌∙◌, subst, arith}
+use Rattle.std.proofs.Common.{◌≡◌, ◌≢◌, ℕ, ◌<◌, ◌≤◌, ltb, true, false, inl, inr, List, length, get_or, Option, Some}
+use Rattle.std.proofs.Common.{None, IfSome, IfNone, Contains, sym, ap, ◌∙◌, subst, arith}
 use Rattle.std.specs.List.{slice_get, AllWithin}
 use Rattle.std.specs.List.Sorted.{IsNonDecreasingBy}
 use Rattle.std.proofs.lemmas.Bool.{cases_lt}
@@ -15,16 +16,19 @@ labels-rise row ascend i j d le lt = elim (cases_lt i j) [
   | inr ge ↦ let same : i ≡ j = omega arith in omega (arith, ap (λ k. (get_or row k d).0.0) same)
 ]
 
-pub edge-there : (row : List (Label × Node)) (place : ℕ) (edge : Label × Node) (label : Label) → slice_get row place ≡ Some edge → edge.0.0 ≡ label.0 → Contains row (label, edge.1)
+pub edge-there : (row : List (Label × Node)) (place : ℕ) (edge : Label × Node) (label : Label)
+    → slice_get row place ≡ Some edge → edge.0.0 ≡ label.0 → Contains row (label, edge.1)
 edge-there row place edge label at same =
     let is : edge.0 ≡ label = ap (λ (n : ℕ). record { 0 = n }) same in
     subst (λ (l : Label). Contains row (l, edge.1)) is (Contains-at row place edge at)
 
 module _ (row : List (Label × Node)) (label : Label) (place : ℕ) (ascend : AscendByLabel row)
-    (low : AllWithin (λ e. ltb e.0.0 label.0 ≡ true) row 0 place) (high : AllWithin (λ e. ltb e.0.0 label.0 ≡ false) row place (length row)) where
+    (low : AllWithin (λ e. ltb e.0.0 label.0 ≡ true) row 0 place)
+    (high : AllWithin (λ e. ltb e.0.0 label.0 ≡ false) row place (length row)) where
   not-before : (next : Node) (there : Contains row (label, next)) → there.0 < place → ⊥
   not-before next there before =
-      let less : ltb (get_or row there.0 (label, next)).0.0 label.0 ≡ true = low there.0 (label, next) (omega arith) before in
+      let less : ltb (get_or row there.0 (label, next)).0.0 label.0 ≡ true =
+      low there.0 (label, next) (omega arith) before in
       let same : (get_or row there.0 (label, next)).0.0 ≡ label.0 = ap (λ (e : Label × Node). e.0.0) there.2 in
       grind (arith, nat_tests)
 
@@ -32,11 +36,13 @@ module _ (row : List (Label × Node)) (label : Label) (place : ℕ) (ascend : As
   edge-past none next there = elim (cases_lt there.0 place) [
     | inl before ↦ not-before next there before
     | inr behind ↦ (
-        let some : Some (get_or row place (label, next)) ≡ None = sym (slice_get-get_or row place (label, next) (omega (arith, behind, there.1))) ∙ none in
+        let some : Some (get_or row place (label, next)) ≡ None =
+        sym (slice_get-get_or row place (label, next) (omega (arith, behind, there.1))) ∙ none in
         cc)
   ]
 
-  pub edge-apart : (edge : Label × Node) → slice_get row place ≡ Some edge → edge.0.0 ≢ label.0 → (next : Node) → Contains row (label, next) → ⊥
+  pub edge-apart : (edge : Label × Node) → slice_get row place ≡ Some edge → edge.0.0 ≢ label.0 → (next : Node)
+      → Contains row (label, next) → ⊥
   edge-apart edge at apart next there = elim (cases_lt there.0 place) [
     | inl before ↦ not-before next there before
     | inr behind ↦ (
@@ -45,8 +51,10 @@ module _ (row : List (Label × Node)) (label : Label) (place : ℕ) (ascend : As
         let here : (get_or row there.0 (label, next)).0.0 ≡ label.0 = ap (λ (e : Label × Node). e.0.0) there.2 in
         elim (cases_lt place there.0) [
           | inl later ↦ (
-              let up : ltb (get_or row place (label, next)).0.0 label.0 ≡ false = high place (label, next) (omega arith) (slice_get_within row place edge at) in
-              let rises : (get_or row place (label, next)).0.0 < (get_or row there.0 (label, next)).0.0 = ascend place there.0 (label, next) later there.1 in
+              let up : ltb (get_or row place (label, next)).0.0 label.0 ≡ false =
+              high place (label, next) (omega arith) (slice_get_within row place edge at) in
+              let rises : (get_or row place (label, next)).0.0 < (get_or row there.0 (label, next)).0.0 =
+              ascend place there.0 (label, next) later there.1 in
               let least : label.0 ≤ (get_or row place (label, next)).0.0 = grind (arith, nat_tests) in
               omega (arith, rises, here, least))
           | inr equal ↦ (
@@ -55,18 +63,22 @@ module _ (row : List (Label × Node)) (label : Label) (place : ℕ) (ascend : As
         ])
   ]
 
-pub child-found : (nodes : List GuideNode) (node : Node) (there : GuideNode) (label : Label) (found : Option Node) → slice_get nodes node.0 ≡ Some there
+pub child-found : (nodes : List GuideNode) (node : Node) (there : GuideNode) (label : Label) (found : Option Node)
+    → slice_get nodes node.0 ≡ Some there
     → IfSome found (λ next. Contains there.edges (label, next)) → IfSome found (λ next. HasEdge nodes node label next)
 child-found nodes node there label None at has = tt
 child-found nodes node there label (Some next) at has = (there, at, has)
 
-pub child-none : (nodes : List GuideNode) (node : Node) (there : GuideNode) (label : Label) (found : Option Node) → slice_get nodes node.0 ≡ Some there
-    → IfNone found ((next : Node) → ¬ Contains there.edges (label, next)) → IfNone found ((next : Node) → ¬ HasEdge nodes node label next)
+pub child-none : (nodes : List GuideNode) (node : Node) (there : GuideNode) (label : Label) (found : Option Node)
+    → slice_get nodes node.0 ≡ Some there
+    → IfNone found ((next : Node) → ¬ Contains there.edges (label, next))
+    → IfNone found ((next : Node) → ¬ HasEdge nodes node label next)
 child-none nodes node there label None at none = λ next has.
     let both : Some there ≡ Some has.0 = sym at ∙ has.1 in
     let same : there ≡ has.0 = cc in
     none next (subst (λ (n : GuideNode). Contains n.edges (label, next)) (sym same) has.2)
 child-none nodes node there label (Some next) at none = tt
 
-pub no-child : (nodes : List GuideNode) (node : Node) (label : Label) → slice_get nodes node.0 ≡ None → (next : Node) → HasEdge nodes node label next → ⊥
+pub no-child : (nodes : List GuideNode) (node : Node) (label : Label) → slice_get nodes node.0 ≡ None → (next : Node)
+    → HasEdge nodes node label next → ⊥
 no-child nodes node label none next has = let both : Some has.0 ≡ None = sym has.1 ∙ none in cc

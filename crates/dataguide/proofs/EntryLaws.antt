@@ -4,14 +4,14 @@ use Rattle.std.proofs.Common.{get_or, map, true, Some, None, Contains, refl, sym
 use Rattle.std.specs.List.{AllZip}
 use Rattle.std.specs.List.Sorted.{IsStrictlySortedBy, IsNonDecreasingBy, IsBinarySearchResult}
 use Rattle.std.specs.Map.{keys_of}
-use Rattle.std.specs.Ordering.{ordering_index, is_eq, eq_by_cmp}
+use Rattle.std.specs.Ordering.{ordering_index, eq_by_cmp}
 use Rattle.std.specs.declared.cmp.Ordering.{Ordering}
 use Rattle.std.proofs.lemmas.Bool.{cases_lt}
 use Rattle.std.proofs.lemmas.Cmp.{nat_list_cmp_total, eq_by_cmp_equiv, tied_itself}
 use Rattle.std.proofs.lemmas.Map.Keys.{IsDistinct-from_sorted}
 use Rattle.std.proofs.lemmas.Map.Lookups.{exact_bytes}
 use Rattle.std.proofs.lemmas.List.Elements.{Contains-get_or}
-use Rattle.std.proofs.lemmas.Map.Views.{Contains-from_lookup, lookup-from_Contains}
+use Rattle.std.proofs.lemmas.Map.Views.{Contains-from_lookup, lookup-from_Contains, tells_apart}
 use Rattle.lore_base.specs.Bytes.{bytes_cmp}
 use Rattle.dataguide.specs.Types.{Oid, Node, GuideNode}
 use Rattle.dataguide.specs.Guides.{HasSet, IsEntry, node_of}
@@ -19,10 +19,9 @@ use Rattle.dataguide.specs.inside.NodeTables.{AreAscendingEntries, AreStarts}
 use Rattle.dataguide.proofs.PlaceLaws.{AllZip-weaker}
 use Rattle.dataguide.proofs.StopLaws.{keys-ascend}
 
-is_equal : (o : Ordering) → is_eq o ≡ true → o ≡ Equal
-is_equal Less is = cc
-is_equal Equal is = refl
-is_equal Greater is = cc
+-- names that compare as equal are one
+same_name : (first second : List ℕ) → eq_by_cmp bytes_cmp first second ≡ true → first ≡ second
+same_name = tells_apart exact_bytes
 
 -- a lower name compares no higher
 compared-rises : (a b name : List ℕ) → bytes_cmp a b ≡ Less
@@ -89,9 +88,6 @@ module _ (entries : List (List ℕ × Node)) (name : List ℕ) (ascend : AreAsce
         | Some node ↦ λ is. absurd (gap-apart place gap node
             (Contains-from_lookup {eq = eq_by_cmp bytes_cmp} same_name name node entries is))
       ] refl
-    where
-      same_name : (first second : List ℕ) → eq_by_cmp bytes_cmp first second ≡ true → first ≡ second
-      same_name first second is = exact_bytes first second (is_equal (bytes_cmp first second) is)
 
 -- ---- entries of names
 pub entries-are : (nodes : List GuideNode) (names : List (List ℕ × Oid)) (starts : List Node)

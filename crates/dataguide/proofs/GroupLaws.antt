@@ -1,15 +1,17 @@
 -- Arcs in order are grouped by label: one group after another is cut from their front.
-use Rattle.std.proofs.Common.{◌≡◌, ◌≢◌, ℕ, ◌+◌, ◌<◌, ◌≤◌, Less, inl, inr, List, [], ◌∷◌, ◌++◌, length, get_or, take, drop, map, None, AllPairs, Contains, refl, sym, ap, ◌∙◌, subst, append_assoc, arith, length-drop}
+use Rattle.std.proofs.Common.{◌≡◌, ◌≢◌, ℕ, ◌+◌, ◌<◌, ◌≤◌, Less, inl, inr, List, [], ◌∷◌, ◌++◌, length, get_or, take}
+use Rattle.std.proofs.Common.{drop, map, None, AllPairs, Contains, refl, sym, ap, ◌∙◌, subst, append_assoc, arith}
+use Rattle.std.proofs.Common.{length-drop}
 use Rattle.std.specs.List.{AllWithin, HoldsAt, slice_get}
 use Rattle.std.proofs.lemmas.Bool.{cases_lt}
 use Rattle.std.proofs.lemmas.List.{append-nil, get_or-take, get_or-drop, length-take, length-map, take-append-drop}
-use Rattle.std.proofs.lemmas.List.Elements.{All-push, All-weaker, All-contains, Contains-get_or, Contains-push, Contains-append_left, Contains-append_right, Contains-append_cases}
-use Rattle.lore_base.specs.TargetSets.{ListsInOrder}
+use Rattle.std.proofs.lemmas.List.Elements.{All-push, All-weaker, All-contains, Contains-get_or, Contains-push}
+use Rattle.std.proofs.lemmas.List.Elements.{Contains-append_left, Contains-append_right, Contains-append_cases}
+use Rattle.lore_base.specs.TargetSets.{ListsInOrder, LeavesTo, IsStep}
 use Rattle.lore_base.proofs.ListLaws.{AllPairs-tail}
 use Rattle.lore_base.proofs.MemberLaws.{Contains-none}
 use Rattle.lore_base.proofs.TargetLaws.{ListsInOrder-same}
 use Rattle.dataguide.specs.Types.{Oid, Label, Edge}
-use Rattle.lore_base.specs.TargetSets.{LeavesTo, IsStep}
 use Rattle.dataguide.specs.inside.Arcs.{arc_cmp, AscendAsArcs, AreArcs, AreGroups, AreSteps}
 use Rattle.dataguide.proofs.PlaceLaws.{mapped, unmapped}
 use Rattle.dataguide.proofs.TrailLaws.{AllPairs-push}
@@ -41,9 +43,11 @@ grouping-start arcs = record {
   apart = λ a b there. absurd (Contains-none a there);
 }
 
-pub grouping-end : (arcs : List (Label × Oid)) (groups : List (Label × List Oid)) → IsGrouping arcs [] groups → AreGroups arcs groups
+pub grouping-end : (arcs : List (Label × Oid)) (groups : List (Label × List Oid)) → IsGrouping arcs [] groups
+    → AreGroups arcs groups
 grouping-end arcs groups grouping =
-    subst (λ (l : List (Label × Oid)). AreGroups l groups) (sym (grouping.is ∙ append-nil grouping.done)) grouping.grouped
+    subst (λ (l : List (Label × Oid)). AreGroups l groups) (sym (grouping.is ∙ append-nil grouping.done))
+    grouping.grouped
 
 abbrev pub child_of : Label × Oid → Oid
 child_of arc = arc.1
@@ -56,12 +60,14 @@ pub record IsGroup (rest : List (Label × Oid)) (label : Label) (len : ℕ) : Ty
   pub group : AllWithin (λ arc. arc.0.0 ≡ label.0) rest 0 len
   pub end : len < length rest → HoldsAt (λ arc. arc.0.0 ≢ label.0) rest len
 
-module _ (rest : List (Label × Oid)) (label : Label) (len : ℕ) (ascend : AscendAsArcs rest) (is : IsGroup rest label len) where
+module _ (rest : List (Label × Oid)) (label : Label) (len : ℕ) (ascend : AscendAsArcs rest)
+    (is : IsGroup rest label len) where
   pub group-ascends : AllPairs (λ a b. a.1.0 < b.1.0) (take len rest)
   group-ascends i j d less within =
       let at_j : j < len = omega (arith, within, length-take len rest) in
       let in_rest : j < length rest = omega (arith, within, length-take len rest) in
-      let labels : (get_or rest i d).0.0 ≡ (get_or rest j d).0.0 = is.group i d (omega arith) (omega (arith, less, at_j)) ∙ sym (is.group j d (omega arith) at_j) in
+      let labels : (get_or rest i d).0.0 ≡ (get_or rest j d).0.0 =
+      is.group i d (omega arith) (omega (arith, less, at_j)) ∙ sym (is.group j d (omega arith) at_j) in
       rw (get_or-take len rest i d (omega (arith, less, at_j)), get_or-take len rest j d at_j)
       (oids-rise (get_or rest i d) (get_or rest j d) (ascend i j d less in_rest) labels)
 
@@ -78,7 +84,9 @@ module _ (rest : List (Label × Oid)) (label : Label) (len : ℕ) (ascend : Asce
   in-group : (arc : Label × Oid) → Contains (take len rest) arc → arc.0 ≡ label
   in-group arc there =
       let at : there.0 < len = omega (arith, there.1, length-take len rest) in
-      let number : arc.0.0 ≡ label.0 = sym (ap (λ (a : Label × Oid). a.0.0) (sym (get_or-take len rest there.0 arc at) ∙ there.2)) ∙ is.group there.0 arc (omega arith) at in
+      let number : arc.0.0 ≡ label.0 =
+      sym (ap (λ (a : Label × Oid). a.0.0) (sym (get_or-take len rest there.0 arc at) ∙ there.2))
+      ∙ is.group there.0 arc (omega arith) at in
       ap (λ (n : ℕ). record { 0 = n }) number
 
   behind-group : (arc : Label × Oid) → Contains (drop len rest) arc → label.0 < arc.0.0
@@ -86,11 +94,14 @@ module _ (rest : List (Label × Oid)) (label : Label) (len : ℕ) (ascend : Asce
       let at : len + there.0 < length rest = omega (arith, there.1, length-drop len rest) in
       let read : get_or rest (len + there.0) arc ≡ arc = sym (get_or-drop len rest there.0 arc) ∙ there.2 in
       let begins : (get_or rest 0 arc).0.0 ≡ label.0 = ap (λ (l : Label). l.0) (is.first arc) in
-      let up : (get_or rest 0 arc).0.0 ≤ (get_or rest len arc).0.0 = labels-rise (get_or rest 0 arc) (get_or rest len arc) (ascend 0 len arc some-first (omega (arith, at))) in
+      let up : (get_or rest 0 arc).0.0 ≤ (get_or rest len arc).0.0 =
+      labels-rise (get_or rest 0 arc) (get_or rest len arc) (ascend 0 len arc some-first (omega (arith, at))) in
       let other : (get_or rest len arc).0.0 ≢ label.0 = is.end (omega (arith, at)) arc in
       let more : (get_or rest len arc).0.0 ≤ (get_or rest (len + there.0) arc).0.0 = (elim (cases_lt 0 there.0) [
-        | inl later ↦ labels-rise (get_or rest len arc) (get_or rest (len + there.0) arc) (ascend len (len + there.0) arc (omega (arith, later)) at)
-        | inr here ↦ (let same : len + there.0 ≡ len = omega (arith, here) in omega (arith, ap (λ (k : ℕ). (get_or rest k arc).0.0) same))
+        | inl later ↦ labels-rise (get_or rest len arc) (get_or rest (len + there.0) arc)
+            (ascend len (len + there.0) arc (omega (arith, later)) at)
+        | inr here ↦ (let same : len + there.0 ≡ len = omega (arith, here) in omega
+            (arith, ap (λ (k : ℕ). (get_or rest k arc).0.0) same))
       ]) in
       let last : (get_or rest (len + there.0) arc).0.0 ≡ arc.0.0 = ap (λ (a : Label × Oid). a.0.0) read in
       omega (arith, begins, up, other, more, last)
@@ -111,8 +122,12 @@ module _ (rest : List (Label × Oid)) (label : Label) (len : ℕ) (ascend : Asce
     -- what was grouped has lower labels
     grouped-below : (group : Label × List Oid) → Contains groups group → group.0.0 < label.0
     grouped-below group there =
-        let one = some-member group.1 (All-contains (λ (g : Label × List Oid). (g.1 ≡ []) → ⊥) groups group before.grouped.some there) in
-        let arc = ((All-contains (λ (g : Label × List Oid). ListsInOrder (λ oid. Contains before.done (g.0, oid)) g.1) groups group before.grouped.sets there).exact one.0).0 one.1 in
+        let one =
+        some-member group.1 (All-contains (λ (g : Label × List Oid). (g.1 ≡ []) → ⊥) groups group before.grouped.some
+        there) in
+        let arc =
+        ((All-contains (λ (g : Label × List Oid). ListsInOrder (λ oid. Contains before.done (g.0, oid)) g.1) groups
+        group before.grouped.sets there).exact one.0).0 one.1 in
         omega (arith, before.apart (group.0, one.0) first_arc arc first-there, first-label)
 
     done-below : (arc : Label × Oid) → Contains before.done arc → arc.0.0 < label.0
@@ -121,26 +136,36 @@ module _ (rest : List (Label × Oid)) (label : Label) (len : ℕ) (ascend : Asce
     old-set : (group : Label × List Oid) → Contains groups group
         → ListsInOrder (λ oid. Contains (before.done ++ take len rest) (group.0, oid)) group.1
     old-set group there =
-        ListsInOrder-same (λ oid. Contains before.done (group.0, oid)) (λ oid. Contains (before.done ++ take len rest) (group.0, oid)) group.1
+        ListsInOrder-same (λ oid. Contains before.done (group.0, oid))
+        (λ oid. Contains (before.done ++ take len rest) (group.0, oid)) group.1
         (λ oid. (
           λ at. Contains-append_left before.done (take len rest) (group.0, oid) at,
           λ at. elim (Contains-append_cases before.done (take len rest) (group.0, oid) at) [
             | inl old ↦ old
-            | inr new ↦ absurd (omega (arith, grouped-below group there, ap (λ (l : Label). l.0) (in-group (group.0, oid) new)))
+            | inr new ↦ absurd (omega (
+              arith,
+              grouped-below group there,
+              ap (λ (l : Label). l.0)
+                  (in-group (group.0, oid) new),
+            ))
           ],
         ))
-        (All-contains (λ (g : Label × List Oid). ListsInOrder (λ oid. Contains before.done (g.0, oid)) g.1) groups group before.grouped.sets there)
+        (All-contains (λ (g : Label × List Oid). ListsInOrder (λ oid. Contains before.done (g.0, oid)) g.1) groups
+        group before.grouped.sets there)
 
     new-set : ListsInOrder (λ oid. Contains (before.done ++ take len rest) (label, oid)) (map child_of (take len rest))
     new-set = record {
-      ascending = AllPairs-map child_of (λ (a b : Label × Oid). a.1.0 < b.1.0) (λ (a b : Oid). a.0 < b.0) (λ a b less. less) (take len rest) group-ascends;
+      ascending =
+          AllPairs-map child_of (λ (a b : Label × Oid). a.1.0 < b.1.0) (λ (a b : Oid). a.0 < b.0) (λ a b less. less)
+          (take len rest) group-ascends;
       exact = λ oid. (
         λ there. (
             let arc = unmapped child_of (take len rest) oid there in
             let labelled : arc.0.0 ≡ label = in-group arc.0 arc.1 in
             let child : arc.0.1 ≡ oid = arc.2 in
             let same : arc.0 ≡ (label, oid) = λ i. (labelled i, child i) in
-            Contains-append_right before.done (take len rest) (label, oid) (subst (λ (a : Label × Oid). Contains (take len rest) a) same arc.1)),
+            Contains-append_right before.done (take len rest) (label, oid)
+            (subst (λ (a : Label × Oid). Contains (take len rest) a) same arc.1)),
         λ there. elim (Contains-append_cases before.done (take len rest) (label, oid) there) [
           | inl old ↦ absurd (omega (arith, done-below (label, oid) old))
           | inr new ↦ mapped child_of (take len rest) (label, oid) new
@@ -158,15 +183,22 @@ module _ (rest : List (Label × Oid)) (label : Label) (len : ℕ) (ascend : Asce
 
     groups-more : AreGroups (before.done ++ take len rest) (groups ++ group_now ∷ [])
     groups-more = record {
-      ascend = AllPairs-push (λ (a b : Label × List Oid). a.0.0 < b.0.0) groups group_now before.grouped.ascend grouped-below;
-      sets = All-push (λ (g : Label × List Oid). ListsInOrder (λ oid. Contains (before.done ++ take len rest) (g.0, oid)) g.1) groups group_now
-          (All-by (λ (g : Label × List Oid). ListsInOrder (λ oid. Contains (before.done ++ take len rest) (g.0, oid)) g.1) groups old-set) new-set;
+      ascend =
+          AllPairs-push (λ (a b : Label × List Oid). a.0.0 < b.0.0) groups group_now before.grouped.ascend
+          grouped-below;
+      sets =
+          All-push (λ (g : Label × List Oid). ListsInOrder (λ oid. Contains (before.done ++ take len rest) (g.0, oid))
+          g.1) groups group_now
+          (All-by (λ (g : Label × List Oid). ListsInOrder (λ oid. Contains (before.done ++ take len rest) (g.0, oid))
+          g.1) groups old-set) new-set;
       some = All-push (λ (g : Label × List Oid). (g.1 ≡ []) → ⊥) groups group_now before.grouped.some some-children;
       all = λ l oid there. elim (Contains-append_cases before.done (take len rest) (l, oid) there) [
-        | inl old ↦ (let from = before.grouped.all l oid old in (from.0, Contains-append_left groups (group_now ∷ []) (l, from.0) from.1))
+        | inl old ↦ (let from = before.grouped.all l oid old in
+            (from.0, Contains-append_left groups (group_now ∷ []) (l, from.0) from.1))
         | inr new ↦ (
           map child_of (take len rest),
-          subst (λ (m : Label). Contains (groups ++ group_now ∷ []) (m, map child_of (take len rest))) (sym (in-group (l, oid) new)) (Contains-push groups group_now),
+          subst (λ (m : Label). Contains (groups ++ group_now ∷ []) (m, map child_of (take len rest)))
+              (sym (in-group (l, oid) new)) (Contains-push groups group_now),
         )
       ];
     }
@@ -174,24 +206,33 @@ module _ (rest : List (Label × Oid)) (label : Label) (len : ℕ) (ascend : Asce
     pub grouping-more : IsGrouping arcs (drop len rest) (groups ++ group_now ∷ [])
     grouping-more = record {
       done = before.done ++ take len rest;
-      is = before.is ∙ ap (λ (l : List (Label × Oid)). before.done ++ l) parts ∙ sym (append_assoc before.done (take len rest) (drop len rest));
+      is =
+          before.is ∙ ap (λ (l : List (Label × Oid)). before.done ++ l) parts
+          ∙ sym (append_assoc before.done (take len rest) (drop len rest));
       grouped = groups-more;
       apart = λ a b there behind. elim (Contains-append_cases before.done (take len rest) a there) [
-        | inl old ↦ before.apart a b old (subst (λ (l : List (Label × Oid)). Contains l b) (sym parts) (Contains-append_right (take len rest) (drop len rest) b behind))
+        | inl old ↦ before.apart a b old (subst (λ (l : List (Label × Oid)). Contains l b) (sym parts)
+            (Contains-append_right (take len rest) (drop len rest) b behind))
         | inr new ↦ omega (arith, ap (λ (l : Label). l.0) (in-group a new), behind-group b behind)
       ];
     }
 
-pub rest-ascends : (arcs rest : List (Label × Oid)) (groups : List (Label × List Oid)) → AscendAsArcs arcs → IsGrouping arcs rest groups → AscendAsArcs rest
+pub rest-ascends : (arcs rest : List (Label × Oid)) (groups : List (Label × List Oid)) → AscendAsArcs arcs
+    → IsGrouping arcs rest groups → AscendAsArcs rest
 rest-ascends arcs rest groups ascend grouping =
-    AllPairs-back (λ (a b : Label × Oid). arc_cmp a b ≡ Less) grouping.done rest (subst (λ (l : List (Label × Oid)). AscendAsArcs l) grouping.is ascend)
+    AllPairs-back (λ (a b : Label × Oid). arc_cmp a b ≡ Less) grouping.done rest
+    (subst (λ (l : List (Label × Oid)). AscendAsArcs l) grouping.is ascend)
 
 -- the groups of a set's arcs are its steps
-pub steps-from : (edges : List Edge) (set : List Oid) (arcs : List (Label × Oid)) (groups : List (Label × List Oid)) → AreArcs edges set arcs → AreGroups arcs groups → AreSteps edges set groups
+pub steps-from : (edges : List Edge) (set : List Oid) (arcs : List (Label × Oid)) (groups : List (Label × List Oid))
+    → AreArcs edges set arcs → AreGroups arcs groups → AreSteps edges set groups
 steps-from edges set arcs groups are grouped = record {
   ascend = grouped.ascend;
-  sets = All-weaker (λ (g : Label × List Oid). ListsInOrder (λ oid. Contains arcs (g.0, oid)) g.1) (λ (g : Label × List Oid). IsStep edges set g.0 g.1)
-      (λ g lists. ListsInOrder-same (λ oid. Contains arcs (g.0, oid)) (LeavesTo edges set g.0) g.1 (are.exact g.0) lists) groups grouped.sets;
+  sets =
+      All-weaker (λ (g : Label × List Oid). ListsInOrder (λ oid. Contains arcs (g.0, oid)) g.1)
+      (λ (g : Label × List Oid). IsStep edges set g.0 g.1)
+      (λ g lists. ListsInOrder-same (λ oid. Contains arcs (g.0, oid)) (LeavesTo edges set g.0) g.1 (are.exact g.0)
+      lists) groups grouped.sets;
   some = grouped.some;
   all = λ label oid leaves. grouped.all label oid ((are.exact label oid).1 leaves);
 }

@@ -1,5 +1,6 @@
 -- The order of label paths: strict, and kept where both get one label more.
-use Rattle.std.proofs.Common.{◌≡◌, ℕ, ◌<◌, ◌⊎◌, inl, inr, Less, Equal, Greater, List, [], ◌∷◌, ◌++◌, length, refl, sym, ap, ◌∙◌, subst, arith, length-append}
+use Rattle.std.proofs.Common.{◌≡◌, ℕ, ◌<◌, ◌⊎◌, inl, inr, Less, Equal, Greater, List, [], ◌∷◌, ◌++◌, length, refl, sym}
+use Rattle.std.proofs.Common.{ap, ◌∙◌, subst, arith, length-append}
 use Rattle.std.specs.Ordering.{nat_cmp, ordering_then}
 use Rattle.std.specs.Cmp.{IsTotalOrder}
 use Rattle.std.proofs.lemmas.Bool.Decides.{nat_tests}
@@ -7,7 +8,7 @@ use Rattle.std.proofs.lemmas.Cmp.{nat_cmp_total, on_total, lists_total, nat_list
 use Rattle.lore_base.specs.Bytes.{bytes_cmp}
 use Rattle.dataguide.specs.Types.{Label}
 use Rattle.lore_base.specs.TargetSets.{LabelPath}
-use Rattle.dataguide.specs.LabelPaths.{word_cmp, ComesBefore}
+use Rattle.dataguide.specs.PathOrder.{word_cmp, ComesBefore}
 use Rattle.dataguide.specs.inside.Trails.{longer, ComesUpTo}
 
 word_total : IsTotalOrder word_cmp
@@ -20,12 +21,14 @@ cmp_self : (a : ℕ) → nat_cmp a a ≡ Equal
 cmp_self a = grind (arith, nat_tests)
 
 -- words in order stay so with one label more
-word_push : (v w : List Label) (a b : Label) → length v ≡ length w → word_cmp v w ≡ Less → word_cmp (v ++ a ∷ []) (w ++ b ∷ []) ≡ Less
+word_push : (v w : List Label) (a b : Label) → length v ≡ length w → word_cmp v w ≡ Less
+    → word_cmp (v ++ a ∷ []) (w ++ b ∷ []) ≡ Less
 word_push [] [] a b len less = cc
 word_push [] (y ∷ w) a b len less = absurd (omega arith)
 word_push (x ∷ v) [] a b len less = absurd (omega arith)
 word_push (x ∷ v) (y ∷ w) a b len less =
-    elim (nat_cmp x.0 y.0) as (λ o. ordering_then o (word_cmp v w) ≡ Less → ordering_then o (word_cmp (v ++ a ∷ []) (w ++ b ∷ [])) ≡ Less) [
+    elim (nat_cmp x.0 y.0) as (λ o. ordering_then o (word_cmp v w) ≡ Less → ordering_then o
+    (word_cmp (v ++ a ∷ []) (w ++ b ∷ [])) ≡ Less) [
       | Less ↦ λ h. refl
       | Equal ↦ λ h. word_push v w a b (omega arith) h
       | Greater ↦ λ h. h
@@ -36,7 +39,8 @@ word_push_same : (w : List Label) (a b : Label) → a.0 < b.0 → word_cmp (w ++
 word_push_same [] a b less = rw (cmp_less a.0 b.0 less) refl
 word_push_same (x ∷ w) a b less = rw (cmp_self x.0) (word_push_same w a b less)
 
-pub before-longer : (path other : LabelPath) (a b : Label) → ComesBefore path other → ComesBefore (longer path a) (longer other b)
+pub before-longer : (path other : LabelPath) (a b : Label) → ComesBefore path other
+    → ComesBefore (longer path a) (longer other b)
 before-longer path other a b h = elim h [
   | inl shorter ↦ inl (omega (arith, length-append path.word (a ∷ []), length-append other.word (b ∷ [])))
   | inr same ↦ inr (
@@ -49,7 +53,11 @@ before-longer path other a b h = elim h [
 ]
 
 pub before-label : (path : LabelPath) (a b : Label) → a.0 < b.0 → ComesBefore (longer path a) (longer path b)
-before-label path a b less = inr (omega (arith, length-append path.word (a ∷ []), length-append path.word (b ∷ [])), inr (refl, word_push_same path.word a b less))
+before-label path a b less =
+    inr (
+      omega (arith, length-append path.word (a ∷ []), length-append path.word (b ∷ [])),
+      inr (refl, word_push_same path.word a b less),
+    )
 
 -- a path comes before each that is longer than one that it comes up to
 pub before-end : (path other : LabelPath) (label : Label) → ComesUpTo path other → ComesBefore path (longer other label)
@@ -61,7 +69,8 @@ before-end path other label h = elim h [
   ]
 ]
 
-names-trans : (a b c : LabelPath) → (bytes_cmp a.name b.name ≡ Less) ⊎ ((a.name ≡ b.name) × (word_cmp a.word b.word ≡ Less))
+names-trans : (a b c : LabelPath)
+    → (bytes_cmp a.name b.name ≡ Less) ⊎ ((a.name ≡ b.name) × (word_cmp a.word b.word ≡ Less))
     → (bytes_cmp b.name c.name ≡ Less) ⊎ ((b.name ≡ c.name) × (word_cmp b.word c.word ≡ Less))
     → (bytes_cmp a.name c.name ≡ Less) ⊎ ((a.name ≡ c.name) × (word_cmp a.word c.word ≡ Less))
 names-trans a b c first second = elim first [
@@ -99,7 +108,8 @@ before-itself a h = elim h [
 pub before-not_back : (a b : LabelPath) → ComesBefore a b → ComesBefore b a → ⊥
 before-not_back a b first second = before-itself a (before-trans a b a first second)
 
-pub upto-longer : (path other : LabelPath) (label : Label) → ComesUpTo path other → ComesUpTo (longer path label) (longer other label)
+pub upto-longer : (path other : LabelPath) (label : Label) → ComesUpTo path other
+    → ComesUpTo (longer path label) (longer other label)
 upto-longer path other label h = elim h [
   | inl same ↦ inl (ap (λ (p : LabelPath). longer p label) same)
   | inr before ↦ inr (before-longer path other label label before)

@@ -1,5 +1,6 @@
 -- Items at places of lists, and of lists that were mapped or grew.
-use Rattle.std.proofs.Common.{◌≡◌, ℕ, ◌<◌, inl, inr, List, [], ◌∷◌, ◌++◌, length, map, Some, zero, suc, AllPairs, Contains, refl, ap, ◌∙◌, subst, arith}
+use Rattle.std.proofs.Common.{◌≡◌, ℕ, ◌<◌, inl, inr, List, [], ◌∷◌, ◌++◌, length, map, Some, zero, suc, AllPairs}
+use Rattle.std.proofs.Common.{Contains, refl, ap, ◌∙◌, subst, arith}
 use Rattle.std.specs.List.{slice_get, AllZip}
 use Rattle.std.proofs.lemmas.Bool.{cases_lt}
 use Rattle.std.proofs.lemmas.Option.{slice_get-get_or, slice_get_within, get_or_from_slice_get}
@@ -12,12 +13,14 @@ pub at-Contains : {X : Type 0} (xs : List X) (x : X) → Contains xs x → (k : 
 at-Contains xs x there = (there.0, slice_get-get_or xs there.0 x there.1 ∙ ap Some there.2)
 
 -- what is at a place of the front is at that place of the whole
-pub at-append : {X : Type 0} (xs ys : List X) (k : ℕ) (x : X) → slice_get xs k ≡ Some x → slice_get (xs ++ ys) k ≡ Some x
+pub at-append : {X : Type 0} (xs ys : List X) (k : ℕ) (x : X) → slice_get xs k ≡ Some x
+    → slice_get (xs ++ ys) k ≡ Some x
 at-append [] ys k x at = cc
 at-append (y ∷ xs) ys zero x at = at
 at-append (y ∷ xs) ys (suc k) x at = at-append xs ys k x at
 
-pub at-grown : {X : Type 0} (xs more new : List X) (k : ℕ) (x : X) → new ≡ xs ++ more → slice_get xs k ≡ Some x → slice_get new k ≡ Some x
+pub at-grown : {X : Type 0} (xs more new : List X) (k : ℕ) (x : X) → new ≡ xs ++ more → slice_get xs k ≡ Some x
+    → slice_get new k ≡ Some x
 at-grown xs more new k x is at = rw is (at-append xs more k x at)
 
 pub at-push : {X : Type 0} (xs : List X) (x : X) → slice_get (xs ++ x ∷ []) (length xs) ≡ Some x
@@ -25,17 +28,20 @@ at-push [] x = refl
 at-push (y ∷ xs) x = at-push xs x
 
 -- within the front both have the same item
-pub at-front : {X : Type 0} (xs ys : List X) (k : ℕ) (x : X) → k < length xs → slice_get (xs ++ ys) k ≡ Some x → slice_get xs k ≡ Some x
+pub at-front : {X : Type 0} (xs ys : List X) (k : ℕ) (x : X) → k < length xs → slice_get (xs ++ ys) k ≡ Some x
+    → slice_get xs k ≡ Some x
 at-front [] ys k x less at = absurd (omega arith)
 at-front (y ∷ xs) ys zero x less at = at
 at-front (y ∷ xs) ys (suc k) x less at = at-front xs ys k x (omega (arith, less)) at
 
-pub at-map : {X Y : Type 0} (f : X → Y) (xs : List X) (k : ℕ) (x : X) → slice_get xs k ≡ Some x → slice_get (map f xs) k ≡ Some (f x)
+pub at-map : {X Y : Type 0} (f : X → Y) (xs : List X) (k : ℕ) (x : X) → slice_get xs k ≡ Some x
+    → slice_get (map f xs) k ≡ Some (f x)
 at-map f [] k x at = cc
 at-map f (y ∷ xs) zero x at = let same : y ≡ x = cc in ap (λ z. Some (f z)) same
 at-map f (y ∷ xs) (suc k) x at = at-map f xs k x at
 
-pub at-unmap : {X Y : Type 0} (f : X → Y) (xs : List X) (k : ℕ) (y : Y) → slice_get (map f xs) k ≡ Some y → (x : X) × (slice_get xs k ≡ Some x) × (f x ≡ y)
+pub at-unmap : {X Y : Type 0} (f : X → Y) (xs : List X) (k : ℕ) (y : Y) → slice_get (map f xs) k ≡ Some y
+    → (x : X) × (slice_get xs k ≡ Some x) × (f x ≡ y)
 at-unmap f [] k y at = cc
 at-unmap f (x ∷ xs) zero y at = (x, refl, let same : f x ≡ y = cc in same)
 at-unmap f (x ∷ xs) (suc k) y at = at-unmap f xs k y at
@@ -43,7 +49,8 @@ at-unmap f (x ∷ xs) (suc k) y at = at-unmap f xs k y at
 pub mapped : {X Y : Type 0} (f : X → Y) (xs : List X) (x : X) → Contains xs x → Contains (map f xs) (f x)
 mapped f xs x there = let at = at-Contains xs x there in Contains-at (map f xs) at.0 (f x) (at-map f xs at.0 x at.1)
 
-pub unmapped : {X Y : Type 0} (f : X → Y) (xs : List X) (y : Y) → Contains (map f xs) y → (x : X) × Contains xs x × (f x ≡ y)
+pub unmapped : {X Y : Type 0} (f : X → Y) (xs : List X) (y : Y) → Contains (map f xs) y
+    → (x : X) × Contains xs x × (f x ≡ y)
 unmapped f xs y there =
     let at = at-Contains (map f xs) y there in
     let from = at-unmap f xs at.0 y at.1 in
@@ -54,7 +61,8 @@ map-map f g [] = refl
 map-map f g (x ∷ xs) = ap (λ l. g (f x) ∷ l) (map-map f g xs)
 
 -- what all pairs have, the items at two places have
-pub pair-at : {X : Type 0} (R : X → X → Type 0) (xs : List X) (i j : ℕ) (x y : X) → AllPairs R xs → i < j → slice_get xs i ≡ Some x → slice_get xs j ≡ Some y → R x y
+pub pair-at : {X : Type 0} (R : X → X → Type 0) (xs : List X) (i j : ℕ) (x y : X) → AllPairs R xs → i < j
+    → slice_get xs i ≡ Some x → slice_get xs j ≡ Some y → R x y
 pair-at R xs i j x y pairs less first second =
     let within = slice_get_within xs j y second in
     let one = get_or_from_slice_get xs i x x first in
@@ -62,7 +70,8 @@ pair-at R xs i j x y pairs less first second =
     rw (one, two) at (pairs i j x less within)
 
 -- of items that are all apart no two places have the same
-pub one-place : {X : Type 0} (xs : List X) → AllPairs (λ a b. (a ≡ b) → ⊥) xs → (i j : ℕ) (x : X) → slice_get xs i ≡ Some x → slice_get xs j ≡ Some x → i ≡ j
+pub one-place : {X : Type 0} (xs : List X) → AllPairs (λ a b. (a ≡ b) → ⊥) xs → (i j : ℕ) (x : X)
+    → slice_get xs i ≡ Some x → slice_get xs j ≡ Some x → i ≡ j
 one-place xs apart i j x first second = elim (cases_lt i j) [
   | inl before ↦ absurd (pair-at (λ a b. (a ≡ b) → ⊥) xs i j x x apart before first second refl)
   | inr behind ↦ elim (cases_lt j i) [
@@ -72,7 +81,8 @@ one-place xs apart i j x first second = elim (cases_lt i j) [
 ]
 
 -- pairs of items at the same places
-pub zip-left : {X Y : Type 0} (R : X → Y → Type 0) (xs : List X) (ys : List Y) (x : X) → AllZip R xs ys → Contains xs x → (y : Y) × Contains ys y × R x y
+pub zip-left : {X Y : Type 0} (R : X → Y → Type 0) (xs : List X) (ys : List Y) (x : X) → AllZip R xs ys → Contains xs x
+    → (y : Y) × Contains ys y × R x y
 zip-left R [] [] x zip there = absurd (Contains-none x there)
 zip-left R [] (y ∷ ys) x zip there = absurd zip
 zip-left R (first ∷ xs) [] x zip there = absurd zip
@@ -81,7 +91,8 @@ zip-left {Y = Y} R (first ∷ xs) (y ∷ ys) x zip there = elim (Contains-cases 
   | inr later ↦ (let rest = zip-left R xs ys x zip.1 later in (rest.0, Contains-tail y ys rest.0 rest.1, rest.2))
 ]
 
-pub zip-right : {X Y : Type 0} (R : X → Y → Type 0) (xs : List X) (ys : List Y) (y : Y) → AllZip R xs ys → Contains ys y → (x : X) × Contains xs x × R x y
+pub zip-right : {X Y : Type 0} (R : X → Y → Type 0) (xs : List X) (ys : List Y) (y : Y) → AllZip R xs ys
+    → Contains ys y → (x : X) × Contains xs x × R x y
 zip-right R [] [] y zip there = absurd (Contains-none y there)
 zip-right R [] (first ∷ ys) y zip there = absurd zip
 zip-right R (x ∷ xs) [] y zip there = absurd zip
@@ -90,13 +101,15 @@ zip-right R (x ∷ xs) (first ∷ ys) y zip there = elim (Contains-cases first y
   | inr later ↦ (let rest = zip-right R xs ys y zip.1 later in (rest.0, Contains-tail x xs rest.0 rest.1, rest.2))
 ]
 
-pub AllZip-then : {X Y : Type 0} (R : X → Y → Type 0) (xs : List X) (ys : List Y) (x : X) (y : Y) → AllZip R xs ys → R x y → AllZip R (xs ++ x ∷ []) (ys ++ y ∷ [])
+pub AllZip-then : {X Y : Type 0} (R : X → Y → Type 0) (xs : List X) (ys : List Y) (x : X) (y : Y) → AllZip R xs ys
+    → R x y → AllZip R (xs ++ x ∷ []) (ys ++ y ∷ [])
 AllZip-then R [] [] x y zip last = (last, tt)
 AllZip-then R [] (first ∷ ys) x y zip last = absurd zip
 AllZip-then R (first ∷ xs) [] x y zip last = absurd zip
 AllZip-then R (first ∷ xs) (second ∷ ys) x y zip last = (zip.0, AllZip-then R xs ys x y zip.1 last)
 
-pub AllZip-weaker : {X Y : Type 0} (R S : X → Y → Type 0) → ((x : X) (y : Y) → R x y → S x y) → (xs : List X) (ys : List Y) → AllZip R xs ys → AllZip S xs ys
+pub AllZip-weaker : {X Y : Type 0} (R S : X → Y → Type 0) → ((x : X) (y : Y) → R x y → S x y)
+    → (xs : List X) (ys : List Y) → AllZip R xs ys → AllZip S xs ys
 AllZip-weaker R S weaker [] [] zip = tt
 AllZip-weaker R S weaker [] (y ∷ ys) zip = zip
 AllZip-weaker R S weaker (x ∷ xs) [] zip = zip

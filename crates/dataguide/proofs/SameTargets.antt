@@ -5,10 +5,9 @@ use Rattle.lore_base.specs.Walks.{Walk, edge_of}
 use Rattle.lore_base.specs.Databases.{IsReached}
 use Rattle.lore_base.proofs.WalkLaws.{Walk-push}
 use Rattle.lore_base.proofs.TargetLaws.{ListsInOrder-same}
-use Rattle.lore_base.specs.TargetSets.{LabelPath, LeadsTo, IsLedTo, LeavesTo, AreTargetSets}
-use Rattle.lore_base.specs.TargetSets.{AreMoreThan}
+use Rattle.lore_base.specs.TargetSets.{LabelPath, LeadsTo, IsLedTo, LeavesTo, AreTargetSets, AreMoreThan}
 use Rattle.dataguide.specs.Types.{Oid, Label, Edge, GuideNode}
-use Rattle.dataguide.specs.LabelPaths.{IsLeastPath, AreInPathOrder}
+use Rattle.dataguide.specs.PathOrder.{IsLeastPath, AreInPathOrder}
 use Rattle.dataguide.specs.Guides.{GuideGraph, StandsFor, sets_of, HasItsSteps}
 use Rattle.dataguide.specs.GuideLaws.{AgreeWhereReached, ReachedEdgesDecide}
 use Rattle.dataguide.proofs.PlaceLaws.{AllZip-weaker, mapped}

@@ -1,5 +1,6 @@
 -- The stops that names and the steps of a stop lead to, in the order of their paths.
-use Rattle.std.proofs.Common.{◌≡◌, ◌≢◌, ◌<◌, ℕ, Less, inl, inr, List, [], ◌∷◌, get_or, map, All, AllPairs, Contains, refl, sym, subst, arith}
+use Rattle.std.proofs.Common.{◌≡◌, ◌≢◌, ◌<◌, ℕ, Less, inl, inr, List, [], ◌∷◌, get_or, map, All, AllPairs, Contains}
+use Rattle.std.proofs.Common.{refl, sym, subst, arith}
 use Rattle.std.specs.List.Sorted.{IsStrictlySortedBy}
 use Rattle.std.specs.Map.{keys_of}
 use Rattle.std.specs.List.{AllByRecursion, AllZip}
@@ -12,7 +13,7 @@ use Rattle.lore_base.proofs.MemberLaws.{Contains-none, Contains-head, Contains-c
 use Rattle.dataguide.specs.Types.{Oid, Label, Edge, Node}
 use Rattle.dataguide.specs.Guides.{AscendByLabel}
 use Rattle.lore_base.specs.TargetSets.{LabelPath, IsTargetSet, IsStep, LeadsTo}
-use Rattle.dataguide.specs.LabelPaths.{ComesBefore}
+use Rattle.dataguide.specs.PathOrder.{ComesBefore}
 use Rattle.dataguide.specs.inside.Arcs.{AreSteps}
 use Rattle.dataguide.specs.inside.Trails.{Stop, start_path, longer}
 use Rattle.dataguide.proofs.PathOrder.{before-label}
@@ -22,12 +23,14 @@ use Rattle.dataguide.proofs.TargetSteps.{step-target}
 pub All-by : {X : Type 0} (P : X → Type 0) (xs : List X) → ((x : X) → Contains xs x → P x) → All P xs
 All-by P xs each k d within = each (get_or xs k d) (Contains-get_or xs k d within)
 
-pub AllPairs-map : {X Y : Type 0} (f : X → Y) (S : X → X → Type 0) (R : Y → Y → Type 0) → ((a b : X) → S a b → R (f a) (f b))
+pub AllPairs-map : {X Y : Type 0} (f : X → Y) (S : X → X → Type 0) (R : Y → Y → Type 0)
+    → ((a b : X) → S a b → R (f a) (f b))
     → (xs : List X) → AllPairs S xs → AllPairs R (map f xs)
 AllPairs-map f S R keeps [] pairs = λ i j d less within. absurd (omega (arith, within))
 AllPairs-map f S R keeps (x ∷ xs) pairs =
     AllPairs-cons R (f x) (map f xs)
-    (All-map (R (f x)) f xs (All-by (λ y. R (f x) (f y)) xs (λ y there. keeps x y (AllPairs-head S x xs pairs y there))))
+    (All-map (R (f x)) f xs (All-by (λ y. R (f x) (f y)) xs
+    (λ y there. keeps x y (AllPairs-head S x xs pairs y there))))
     (AllPairs-map f S R keeps xs (AllPairs-tail S x xs pairs))
 
 -- the stop that a step leads to, and the one of a name
@@ -56,8 +59,10 @@ leads-start names edges named there = record {
   some = λ none. cc;
 }
 
-pub leads-step : (names : List (List ℕ × Oid)) (edges : List Edge) (path : LabelPath) (set : List Oid) (label : Label) (next : List Oid)
-    → LeadsTo names edges path set → IsStep edges set label next → next ≢ [] → LeadsTo names edges (longer path label) next
+pub leads-step : (names : List (List ℕ × Oid)) (edges : List Edge) (path : LabelPath) (set : List Oid) (label : Label)
+    (next : List Oid)
+    → LeadsTo names edges path set → IsStep edges set label next → next ≢ []
+    → LeadsTo names edges (longer path label) next
 leads-step names edges path set label next leads step some = record {
   start = leads.start;
   named = leads.named;
@@ -65,8 +70,10 @@ leads-step names edges path set label next leads step some = record {
   some = some;
 }
 
-pub stops-lead : (names : List (List ℕ × Oid)) (edges : List Edge) (path : LabelPath) (set : List Oid) (steps : List (Label × List Oid))
-    → LeadsTo names edges path set → AreSteps edges set steps → All (λ stop. LeadsTo names edges stop.path stop.set) (map (stop_of path) steps)
+pub stops-lead : (names : List (List ℕ × Oid)) (edges : List Edge) (path : LabelPath) (set : List Oid)
+    (steps : List (Label × List Oid))
+    → LeadsTo names edges path set → AreSteps edges set steps
+    → All (λ stop. LeadsTo names edges stop.path stop.set) (map (stop_of path) steps)
 stops-lead names edges path set steps leads are =
     All-map (λ (stop : Stop). LeadsTo names edges stop.path stop.set) (stop_of path) steps
     (All-by (λ (step : Label × List Oid). LeadsTo names edges (longer path step.0) step.1) steps
@@ -74,16 +81,19 @@ stops-lead names edges path set steps leads are =
     (All-contains (λ (s : Label × List Oid). IsStep edges set s.0 s.1) steps step are.sets there)
     (All-contains (λ (s : Label × List Oid). (s.1 ≡ []) → ⊥) steps step are.some there)))
 
-pub stops-ascend : (edges : List Edge) (path : LabelPath) (set : List Oid) (steps : List (Label × List Oid)) → AreSteps edges set steps
+pub stops-ascend : (edges : List Edge) (path : LabelPath) (set : List Oid) (steps : List (Label × List Oid))
+    → AreSteps edges set steps
     → AllPairs (λ a b. ComesBefore a.path b.path) (map (stop_of path) steps)
 stops-ascend edges path set steps are =
     AllPairs-map (stop_of path) (λ (a b : Label × List Oid). a.0.0 < b.0.0) (λ (a b : Stop). ComesBefore a.path b.path)
     (λ a b less. before-label path a.0 b.0 less) steps are.ascend
 
-pub names-lead : (names : List (List ℕ × Oid)) (edges : List Edge) → All (λ stop. LeadsTo names edges stop.path stop.set) (map named_stop names)
+pub names-lead : (names : List (List ℕ × Oid)) (edges : List Edge)
+    → All (λ stop. LeadsTo names edges stop.path stop.set) (map named_stop names)
 names-lead names edges =
     All-map (λ (stop : Stop). LeadsTo names edges stop.path stop.set) named_stop names
-    (All-by (λ (named : List ℕ × Oid). LeadsTo names edges (start_path named.0) (named.1 ∷ [])) names (λ named there. leads-start names edges named there))
+    (All-by (λ (named : List ℕ × Oid). LeadsTo names edges (start_path named.0) (named.1 ∷ [])) names
+    (λ named there. leads-start names edges named there))
 
 pub keys-ascend : {X : Type 0} (names : List (List ℕ × X)) → IsStrictlySortedBy bytes_cmp (keys_of names)
     → AllPairs (λ a b. bytes_cmp a.0 b.0 ≡ Less) names
@@ -93,19 +103,25 @@ keys-ascend {X} (first ∷ names) table =
     AllPairs-cons (λ (a b : List ℕ × X). bytes_cmp a.0 b.0 ≡ Less) first names
     (below first names table.0) (keys-ascend names table.1)
   where
-    below : (first : List ℕ × X) (names : List (List ℕ × X)) → AllByRecursion (λ name. bytes_cmp first.0 name ≡ Less) (keys_of names)
+    below : (first : List ℕ × X) (names : List (List ℕ × X))
+        → AllByRecursion (λ name. bytes_cmp first.0 name ≡ Less) (keys_of names)
         → All (λ named. bytes_cmp first.0 named.0 ≡ Less) names
     below first [] all = λ k d within. absurd (omega (arith, within))
-    below first (named ∷ names) all = All-cons (λ (n : List ℕ × X). bytes_cmp first.0 n.0 ≡ Less) named names all.0 (below first names all.1)
+    below first (named ∷ names) all =
+        All-cons (λ (n : List ℕ × X). bytes_cmp first.0 n.0 ≡ Less) named names all.0 (below first names all.1)
 
-pub names-ascend : (names : List (List ℕ × Oid)) → IsNameTable names → AllPairs (λ a b. ComesBefore a.path b.path) (map named_stop names)
+pub names-ascend : (names : List (List ℕ × Oid)) → IsNameTable names
+    → AllPairs (λ a b. ComesBefore a.path b.path) (map named_stop names)
 names-ascend names table =
-    AllPairs-map named_stop (λ (a b : List ℕ × Oid). bytes_cmp a.0 b.0 ≡ Less) (λ (a b : Stop). ComesBefore a.path b.path)
+    AllPairs-map named_stop (λ (a b : List ℕ × Oid). bytes_cmp a.0 b.0 ≡ Less)
+    (λ (a b : Stop). ComesBefore a.path b.path)
     (λ a b less. inr (refl, inl less)) names (keys-ascend names table)
 
 -- edges that have the labels of steps ascend as these do
-pub row-ascends : (R : Label × List Oid → Label × Node → Type 0) → ((step : Label × List Oid) (edge : Label × Node) → R step edge → edge.0 ≡ step.0)
-    → (steps : List (Label × List Oid)) (row : List (Label × Node)) → AllZip R steps row → AllPairs (λ a b. a.0.0 < b.0.0) steps → AscendByLabel row
+pub row-ascends : (R : Label × List Oid → Label × Node → Type 0)
+    → ((step : Label × List Oid) (edge : Label × Node) → R step edge → edge.0 ≡ step.0)
+    → (steps : List (Label × List Oid)) (row : List (Label × Node)) → AllZip R steps row
+    → AllPairs (λ a b. a.0.0 < b.0.0) steps → AscendByLabel row
 row-ascends R labelled [] [] zip ascend = λ i j d less within. absurd (omega (arith, within))
 row-ascends R labelled [] (edge ∷ row) zip ascend = absurd zip
 row-ascends R labelled (step ∷ steps) [] zip ascend = absurd zip
@@ -113,6 +129,9 @@ row-ascends R labelled (step ∷ steps) (edge ∷ row) zip ascend =
     AllPairs-cons (λ (a b : Label × Node). a.0.0 < b.0.0) edge row
     (All-by (λ (b : Label × Node). edge.0.0 < b.0.0) row (λ b there.
     let from = zip-right R steps row b zip.1 there in
-    let rises : step.0.0 < from.0.0.0 = AllPairs-head (λ (a b : Label × List Oid). a.0.0 < b.0.0) step steps ascend from.0 from.1 in
-    subst (λ (l : Label). l.0 < b.0.0) (sym (labelled step edge zip.0)) (subst (λ (l : Label). step.0.0 < l.0) (sym (labelled from.0 b from.2)) rises)))
-    (row-ascends R labelled steps row zip.1 (AllPairs-tail (λ (a b : Label × List Oid). a.0.0 < b.0.0) step steps ascend))
+    let rises : step.0.0 < from.0.0.0 =
+    AllPairs-head (λ (a b : Label × List Oid). a.0.0 < b.0.0) step steps ascend from.0 from.1 in
+    subst (λ (l : Label). l.0 < b.0.0) (sym (labelled step edge zip.0))
+    (subst (λ (l : Label). step.0.0 < l.0) (sym (labelled from.0 b from.2)) rises)))
+    (row-ascends R labelled steps row zip.1 (AllPairs-tail (λ (a b : Label × List Oid). a.0.0 < b.0.0) step steps
+    ascend))

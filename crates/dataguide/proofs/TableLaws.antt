@@ -1,5 +1,7 @@
 -- Nodes under their hashes, and the nodes of names.
-use Rattle.std.proofs.Common.{◌≡◌, ℕ, ◌<◌, true, false, cond, inl, inr, List, [], ◌∷◌, ◌++◌, length, get_or, zero, suc, Option, Some, None, unwrap_or, IfNone, All, Contains, refl, sym, ap, ◌∙◌, subst, arith, length-append}
+use Rattle.std.proofs.Common.{◌≡◌, ℕ, ◌<◌, true, false, cond, inl, inr, List, [], ◌∷◌, ◌++◌, length, get_or, zero, suc}
+use Rattle.std.proofs.Common.{Option, Some, None, unwrap_or, IfNone, All, Contains, refl, sym, ap, ◌∙◌, subst, arith}
+use Rattle.std.proofs.Common.{length-append}
 use Rattle.std.specs.List.{slice_get}
 use Rattle.std.specs.Prelude.{slice_set}
 use Rattle.std.proofs.lemmas.List.{length-set}
@@ -12,24 +14,29 @@ use Rattle.std.proofs.lemmas.Option.{slice_get_within, slice_get-get_or}
 use Rattle.std.proofs.lemmas.List.Elements.{All-push, All-set, All-contains, Contains-append_left, Contains-push}
 use Rattle.oem_set.specs.Sets.{hash_of}
 use Rattle.dataguide.specs.Types.{Oid, Label, Node, GuideNode}
-use Rattle.dataguide.specs.Guides.{sets_of, HasSet, AscendByLabel}
-use Rattle.dataguide.specs.inside.NodeTables.{listed, node_number, IsNodeTable}
+use Rattle.dataguide.specs.Guides.{sets_of, HasSet, AscendByLabel, node_number}
+use Rattle.dataguide.specs.inside.NodeTables.{listed, IsNodeTable}
 use Rattle.dataguide.proofs.PlaceLaws.{at-Contains, at-front, at-push, at-map, at-unmap}
 
 same_key : (a b : ℕ) → is_at (nat_cmp a) b ≡ true → a ≡ b
 same_key a b h = grind (arith, nat_tests)
 
 -- ---- a node is put under a hash
-module _ (old new : List (ℕ × List Node)) (hash : ℕ) (list : List Node) (node : Node) (is : list ≡ listed old hash ++ node ∷ [])
-    (put : (q : ℕ) → lookup (is_at (nat_cmp q)) new ≡ cond (is_at (nat_cmp hash) q) (Some list) (lookup (is_at (nat_cmp q)) old)) where
+module _ (old new : List (ℕ × List Node)) (hash : ℕ) (list : List Node) (node : Node)
+    (is : list ≡ listed old hash ++ node ∷ [])
+    (put : (q : ℕ) → lookup (is_at (nat_cmp q)) new ≡ cond (is_at (nat_cmp hash) q) (Some list)
+    (lookup (is_at (nat_cmp q)) old)) where
   pub listed-kept : (other : ℕ) (there : Node) → Contains (listed old other) there → Contains (listed new other) there
   listed-kept other there at =
-      elim (is_at (nat_cmp hash) other) as (λ b. is_at (nat_cmp hash) other ≡ b → lookup (is_at (nat_cmp other)) new ≡ cond b (Some list) (lookup (is_at (nat_cmp other)) old)
+      elim (is_at (nat_cmp hash) other) as (λ b. is_at (nat_cmp hash) other ≡ b → lookup (is_at (nat_cmp other))
+      new ≡ cond b (Some list) (lookup (is_at (nat_cmp other)) old)
       → Contains (listed new other) there) [
         | true ↦ λ same found. (
             let key : hash ≡ other = same_key hash other same in
-            let here : listed new other ≡ listed old other ++ node ∷ [] = ap (λ (o : Option (List Node)). unwrap_or o []) found ∙ is ∙ ap (λ h. listed old h ++ node ∷ []) key in
-            subst (λ (l : List Node). Contains l there) (sym here) (Contains-append_left (listed old other) (node ∷ []) there at))
+            let here : listed new other ≡ listed old other ++ node ∷ [] =
+            ap (λ (o : Option (List Node)). unwrap_or o []) found ∙ is ∙ ap (λ h. listed old h ++ node ∷ []) key in
+            subst (λ (l : List Node). Contains l there) (sym here)
+            (Contains-append_left (listed old other) (node ∷ []) there at))
         | false ↦ λ apart found. (
             let here : listed new other ≡ listed old other = ap (λ (o : Option (List Node)). unwrap_or o []) found in
             subst (λ (l : List Node). Contains l there) (sym here) at)
@@ -37,13 +44,15 @@ module _ (old new : List (ℕ × List Node)) (hash : ℕ) (list : List Node) (no
 
   pub listed-added : lookup (is_at (nat_cmp hash)) new ≡ Some list → Contains (listed new hash) node
   listed-added found =
-      let here : listed new hash ≡ listed old hash ++ node ∷ [] = ap (λ (o : Option (List Node)). unwrap_or o []) found ∙ is in
+      let here : listed new hash ≡ listed old hash ++ node ∷ [] =
+      ap (λ (o : Option (List Node)). unwrap_or o []) found ∙ is in
       subst (λ (l : List Node). Contains l node) (sym here) (Contains-push (listed old hash) node)
 
 -- ---- tables of nodes
 -- more may stand under a hash
 pub table-wider : (lists wider : List (ℕ × List Node)) (nodes : List GuideNode)
-    → ((hash : ℕ) (node : Node) → Contains (listed lists hash) node → Contains (listed wider hash) node) → IsNodeTable lists nodes → IsNodeTable wider nodes
+    → ((hash : ℕ) (node : Node) → Contains (listed lists hash) node → Contains (listed wider hash) node)
+    → IsNodeTable lists nodes → IsNodeTable wider nodes
 table-wider lists wider nodes more table = record {
   hashed = λ place node at. more (hash_of node.set) (node_number place) (table.hashed place node at);
   ascend = table.ascend;
@@ -51,21 +60,25 @@ table-wider lists wider nodes more table = record {
 }
 
 -- a node without edges is put behind
-pub table-push : (lists : List (ℕ × List Node)) (nodes : List GuideNode) (node : GuideNode) → node.edges ≡ [] → length nodes < 4_294_967_295
-    → Contains (listed lists (hash_of node.set)) (node_number (length nodes)) → IsNodeTable lists nodes → IsNodeTable lists (nodes ++ node ∷ [])
+pub table-push : (lists : List (ℕ × List Node)) (nodes : List GuideNode) (node : GuideNode) → node.edges ≡ []
+    → length nodes < 4_294_967_295
+    → Contains (listed lists (hash_of node.set)) (node_number (length nodes)) → IsNodeTable lists nodes
+    → IsNodeTable lists (nodes ++ node ∷ [])
 table-push lists nodes node none few there table = record {
   hashed = λ place other at. elim (cases_lt place (length nodes)) [
     | inl early ↦ table.hashed place other (at-front nodes (node ∷ []) place other early at)
     | inr late ↦ (
         let within = slice_get_within (nodes ++ node ∷ []) place other at in
         let here : place ≡ length nodes = omega (arith, late, within, length-append nodes (node ∷ [])) in
-        let both : Some node ≡ Some other = sym (at-push nodes node) ∙ sym (ap (slice_get (nodes ++ node ∷ [])) here) ∙ at in
+        let both : Some node ≡ Some other =
+        sym (at-push nodes node) ∙ sym (ap (slice_get (nodes ++ node ∷ [])) here) ∙ at in
         let same : node ≡ other = cc in
         subst (λ (k : ℕ). Contains (listed lists (hash_of other.set)) (node_number k)) (sym here)
         (subst (λ (n : GuideNode). Contains (listed lists (hash_of n.set)) (node_number (length nodes))) same there))
   ];
   ascend = All-push (λ (n : GuideNode). AscendByLabel n.edges) nodes node table.ascend
-      (subst (λ (l : List (Label × Node)). AscendByLabel l) (sym none) (λ i j d less within. absurd (omega (arith, within))));
+      (subst (λ (l : List (Label × Node)). AscendByLabel l) (sym none)
+      (λ i j d less within. absurd (omega (arith, within))));
   few = omega (arith, few, length-append nodes (node ∷ []));
 }
 
@@ -75,50 +88,66 @@ pub not-found : (lists : List (ℕ × List Node)) (nodes : List GuideNode) (set 
 not-found lists nodes set table none there =
     let at = at-Contains (sets_of nodes) set there in
     let from = at-unmap (λ (n : GuideNode). n.set) nodes at.0 set at.1 in
-    let under = subst (λ (s : List Oid). Contains (listed lists (hash_of s)) (node_number at.0)) from.2 (table.hashed at.0 from.0 from.1) in
-    All-contains (λ (node : Node). ¬ HasSet nodes node set) (listed lists (hash_of set)) (node_number at.0) none under at.1
+    let under =
+    subst (λ (s : List Oid). Contains (listed lists (hash_of s)) (node_number at.0)) from.2
+    (table.hashed at.0 from.0 from.1) in
+    All-contains (λ (node : Node). ¬ HasSet nodes node set) (listed lists (hash_of set)) (node_number at.0) none under
+    at.1
 
 -- ---- a node gets edges
-put-sets : (nodes : List GuideNode) (place : ℕ) (new old : GuideNode) → slice_get nodes place ≡ Some old → new.set ≡ old.set → sets_of (slice_set nodes place new) ≡ sets_of nodes
+put-sets : (nodes : List GuideNode) (place : ℕ) (new old : GuideNode) → slice_get nodes place ≡ Some old
+    → new.set ≡ old.set → sets_of (slice_set nodes place new) ≡ sets_of nodes
 put-sets [] place new old at same = refl
 put-sets (first ∷ nodes) zero new old at same =
     let is : first ≡ old = cc in
     ap (λ (s : List Oid). s ∷ sets_of nodes) (same ∙ ap (λ (n : GuideNode). n.set) (sym is))
-put-sets (first ∷ nodes) (suc place) new old at same = ap (λ (l : List (List Oid)). first.set ∷ l) (put-sets nodes place new old at same)
+put-sets (first ∷ nodes) (suc place) new old at same =
+    ap (λ (l : List (List Oid)). first.set ∷ l) (put-sets nodes place new old at same)
 
-put-at : (nodes : List GuideNode) (place : ℕ) (new node : GuideNode) → slice_get (slice_set nodes place new) place ≡ Some node → node ≡ new
+put-at : (nodes : List GuideNode) (place : ℕ) (new node : GuideNode)
+    → slice_get (slice_set nodes place new) place ≡ Some node → node ≡ new
 put-at [] place new node at = cc
 put-at (first ∷ nodes) zero new node at = cc
 put-at (first ∷ nodes) (suc place) new node at = put-at nodes place new node at
 
-put-other : (nodes : List GuideNode) (place : ℕ) (new : GuideNode) (other : ℕ) → (other ≡ place → ⊥) → slice_get (slice_set nodes place new) other ≡ slice_get nodes other
+put-other : (nodes : List GuideNode) (place : ℕ) (new : GuideNode) (other : ℕ) → (other ≡ place → ⊥)
+    → slice_get (slice_set nodes place new) other ≡ slice_get nodes other
 put-other [] place new other apart = refl
 put-other (first ∷ nodes) zero new zero apart = absurd (apart refl)
 put-other (first ∷ nodes) zero new (suc other) apart = refl
 put-other (first ∷ nodes) (suc place) new zero apart = refl
-put-other (first ∷ nodes) (suc place) new (suc other) apart = put-other nodes place new other (λ same. apart (ap suc same))
+put-other (first ∷ nodes) (suc place) new (suc other) apart =
+    put-other nodes place new other (λ same. apart (ap suc same))
 
-module _ (nodes : List GuideNode) (place : ℕ) (new old : GuideNode) (within : place < length nodes) (read : old ≡ get_or nodes place old) (same : new.set ≡ old.set) where
+module _ (nodes : List GuideNode) (place : ℕ) (new old : GuideNode) (within : place < length nodes)
+    (read : old ≡ get_or nodes place old) (same : new.set ≡ old.set) where
   there : slice_get nodes place ≡ Some old
   there = slice_get-get_or nodes place old within ∙ ap Some (sym read)
 
   pub put-edges-sets : sets_of (slice_set nodes place new) ≡ sets_of nodes
   put-edges-sets = put-sets nodes place new old there same
 
-  pub put-edges-table : (lists : List (ℕ × List Node)) → AscendByLabel new.edges → IsNodeTable lists nodes → IsNodeTable lists (slice_set nodes place new)
+  pub put-edges-table : (lists : List (ℕ × List Node)) → AscendByLabel new.edges → IsNodeTable lists nodes
+      → IsNodeTable lists (slice_set nodes place new)
   put-edges-table lists ascend table = record {
     hashed = λ k node at. (
-        let now : slice_get (sets_of (slice_set nodes place new)) k ≡ Some node.set = at-map (λ (n : GuideNode). n.set) (slice_set nodes place new) k node at in
-        let before = at-unmap (λ (n : GuideNode). n.set) nodes k node.set (subst (λ (l : List (List Oid)). slice_get l k ≡ Some node.set) put-edges-sets now) in
-        subst (λ (s : List Oid). Contains (listed lists (hash_of s)) (node_number k)) before.2 (table.hashed k before.0 before.1));
+        let now : slice_get (sets_of (slice_set nodes place new)) k ≡ Some node.set =
+        at-map (λ (n : GuideNode). n.set) (slice_set nodes place new) k node at in
+        let before =
+        at-unmap (λ (n : GuideNode). n.set) nodes k node.set
+        (subst (λ (l : List (List Oid)). slice_get l k ≡ Some node.set) put-edges-sets now) in
+        subst (λ (s : List Oid). Contains (listed lists (hash_of s)) (node_number k)) before.2
+        (table.hashed k before.0 before.1));
     ascend = All-set (λ (n : GuideNode). AscendByLabel n.edges) nodes place new ascend table.ascend;
     few = rw length-set table.few;
   }
 
-pub put-edges-at : (nodes : List GuideNode) (place : ℕ) (new node : GuideNode) → slice_get (slice_set nodes place new) place ≡ Some node → node.edges ≡ new.edges
+pub put-edges-at : (nodes : List GuideNode) (place : ℕ) (new node : GuideNode)
+    → slice_get (slice_set nodes place new) place ≡ Some node → node.edges ≡ new.edges
 put-edges-at nodes place new node at = ap (λ (n : GuideNode). n.edges) (put-at nodes place new node at)
 
-pub put-edges-other : (nodes : List GuideNode) (place : ℕ) (new : GuideNode) (other : ℕ) → (other ≡ place → ⊥) → slice_get (slice_set nodes place new) other ≡ slice_get nodes other
+pub put-edges-other : (nodes : List GuideNode) (place : ℕ) (new : GuideNode) (other : ℕ) → (other ≡ place → ⊥)
+    → slice_get (slice_set nodes place new) other ≡ slice_get nodes other
 put-edges-other = put-other
 
 -- what a test says of nothing found

@@ -9,7 +9,8 @@ use Rattle.lore_base.specs.TargetSets.{IsTargetSet, IsStep, LeavesTo}
 use Rattle.dataguide.specs.GuideLaws.{LongerWordsStep}
 
 -- a walk along a longer word is an edge from the shorter word's target set
-pub walks-leave : (edges : List Edge) (start : Oid) (word : List Label) (label : Label) (set : List Oid) → IsTargetSet edges start word set
+pub walks-leave : (edges : List Edge) (start : Oid) (word : List Label) (label : Label) (set : List Oid)
+    → IsTargetSet edges start word set
     → (oid : Oid) → Walk edges start (word ++ label ∷ []) oid ↔ LeavesTo edges set label oid
 walks-leave edges start word label set target oid = (
   λ walked. (
@@ -22,7 +23,8 @@ walks-leave edges start word label set target oid = (
   λ leaves. Walk-push edges start word leaves.from label oid ((target.exact leaves.from).0 leaves.member) leaves.edge,
 )
 
-pub step-target : (edges : List Edge) (start : Oid) (word : List Label) (label : Label) (set next : List Oid) → IsTargetSet edges start word set
+pub step-target : (edges : List Edge) (start : Oid) (word : List Label) (label : Label) (set next : List Oid)
+    → IsTargetSet edges start word set
     → IsStep edges set label next → IsTargetSet edges start (word ++ label ∷ []) next
 step-target edges start word label set next target step =
     ListsInOrder-same (LeavesTo edges set label) (Walk edges start (word ++ label ∷ [])) next
@@ -30,6 +32,7 @@ step-target edges start word label set next target step =
 
 pub longer_words_step : LongerWordsStep
 longer_words_step edges start word label set next target = (
-  ListsInOrder-same (Walk edges start (word ++ label ∷ [])) (LeavesTo edges set label) next (walks-leave edges start word label set target),
+  ListsInOrder-same (Walk edges start (word ++ label ∷ [])) (LeavesTo edges set label) next
+      (walks-leave edges start word label set target),
   step-target edges start word label set next target,
 )

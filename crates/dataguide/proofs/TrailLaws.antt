@@ -1,13 +1,15 @@
 -- A trail grows: stops in the order of their paths are entered behind those that come before them.
-use Rattle.std.proofs.Common.{◌≡◌, ◌⊎◌, ℕ, inl, inr, List, [], ◌∷◌, ◌++◌, get_or, map, All, AllPairs, Contains, refl, sym, ap, ◌∙◌, subst, append_assoc, arith}
+use Rattle.std.proofs.Common.{◌≡◌, ◌⊎◌, ℕ, inl, inr, List, [], ◌∷◌, ◌++◌, get_or, map, All, AllPairs, Contains, refl}
+use Rattle.std.proofs.Common.{sym, ap, ◌∙◌, subst, append_assoc, arith}
 use Rattle.std.proofs.lemmas.List.{append-nil, map_push}
-use Rattle.std.proofs.lemmas.List.Elements.{All-head, All-tail, All-push, Contains-get_or, Contains-append_left, Contains-push, Contains-push_cases}
+use Rattle.std.proofs.lemmas.List.Elements.{All-head, All-tail, All-push, Contains-get_or, Contains-append_left}
+use Rattle.std.proofs.lemmas.List.Elements.{Contains-push, Contains-push_cases}
 use Rattle.lore_base.specs.Lists.{Extends}
 use Rattle.lore_base.proofs.ListLaws.{AllPairs-append, AllPairs-tail, AllPairs-head}
 use Rattle.lore_base.proofs.MemberLaws.{Contains-none, Contains-head, Contains-tail, Contains-cases}
 use Rattle.dataguide.specs.Types.{Oid, Edge}
 use Rattle.lore_base.specs.TargetSets.{LeadsTo}
-use Rattle.dataguide.specs.LabelPaths.{ComesBefore}
+use Rattle.dataguide.specs.PathOrder.{ComesBefore}
 use Rattle.dataguide.specs.inside.Entering.{AreEntered}
 use Rattle.dataguide.specs.inside.Trails.{Stop, IsMet, IsTrail}
 use Rattle.dataguide.proofs.PlaceLaws.{unmapped}
@@ -16,7 +18,8 @@ abbrev pub set_of : Stop → List Oid
 set_of stop = stop.set
 
 -- one item more at the end, that all others pass with
-pub AllPairs-push : {X : Type 0} (R : X → X → Type 0) (xs : List X) (x : X) → AllPairs R xs → ((y : X) → Contains xs y → R y x) → AllPairs R (xs ++ x ∷ [])
+pub AllPairs-push : {X : Type 0} (R : X → X → Type 0) (xs : List X) (x : X) → AllPairs R xs
+    → ((y : X) → Contains xs y → R y x) → AllPairs R (xs ++ x ∷ [])
 AllPairs-push R xs x pairs last =
     AllPairs-append R xs (x ∷ []) pairs (λ i j d less within. absurd (omega (arith, less, within)))
     (λ i j d first second.
@@ -24,7 +27,8 @@ AllPairs-push R xs x pairs last =
     rw here (last (get_or xs i d) (Contains-get_or xs i d first)))
 
 -- a trail that has grown by some stops, each of which is met
-pub record IsGrown (names : List (List ℕ × Oid)) (edges : List Edge) (trail stops : List Stop) (sets : List (List Oid)) : Type 0 where
+pub record IsGrown (names : List (List ℕ × Oid)) (edges : List Edge) (trail stops : List Stop)
+    (sets : List (List Oid)) : Type 0 where
   pub grown : List Stop
   pub extends : Extends trail grown
   pub is : IsTrail names edges grown sets
@@ -45,21 +49,26 @@ stays trail grown stop extends there =
     subst (λ (l : List Stop). Contains l stop) (sym extends.1) (Contains-append_left trail extends.0 stop there)
 
 module _ (names : List (List ℕ × Oid)) (edges : List Edge) where
-  push-trail : (trail : List Stop) (sets : List (List Oid)) (stop : Stop) → IsTrail names edges trail sets → LeadsTo names edges stop.path stop.set
+  push-trail : (trail : List Stop) (sets : List (List Oid)) (stop : Stop) → IsTrail names edges trail sets
+      → LeadsTo names edges stop.path stop.set
       → ((earlier : Stop) → Contains trail earlier → ComesBefore earlier.path stop.path) → (¬ Contains sets stop.set)
       → IsTrail names edges (trail ++ stop ∷ []) (sets ++ stop.set ∷ [])
   push-trail trail sets stop is leads before fresh = record {
     found = map_push set_of trail stop ∙ ap (λ (l : List (List Oid)). l ++ stop.set ∷ []) is.found;
     leads = All-push (λ (s : Stop). LeadsTo names edges s.path s.set) trail stop is.leads leads;
     ascending = AllPairs-push (λ (a b : Stop). ComesBefore a.path b.path) trail stop is.ascending before;
-    apart = AllPairs-push (λ (a b : List Oid). (a ≡ b) → ⊥) sets stop.set is.apart (λ set there same. fresh (subst (λ (s : List Oid). Contains sets s) same there));
+    apart =
+        AllPairs-push (λ (a b : List Oid). (a ≡ b) → ⊥) sets stop.set is.apart
+        (λ set there same. fresh (subst (λ (s : List Oid). Contains sets s) same there));
   }
 
   -- a set that was found is met by what comes later
-  met-there : (trail : List Stop) (sets : List (List Oid)) (stop : Stop) → map set_of trail ≡ sets → Contains sets stop.set
+  met-there : (trail : List Stop) (sets : List (List Oid)) (stop : Stop) → map set_of trail ≡ sets
+      → Contains sets stop.set
       → ((earlier : Stop) → Contains trail earlier → ComesBefore earlier.path stop.path) → IsMet trail stop
   met-there trail sets stop found there before =
-      let from = unmapped set_of trail stop.set (subst (λ (l : List (List Oid)). Contains l stop.set) (sym found) there) in
+      let from =
+      unmapped set_of trail stop.set (subst (λ (l : List (List Oid)). Contains l stop.set) (sym found) there) in
       record {
         by = from.0.path;
         found = subst (λ (s : List Oid). Contains trail (record { path = from.0.path; set = s })) from.2 from.1;
@@ -89,21 +98,29 @@ module _ (names : List (List ℕ × Oid)) (edges : List Edge) where
               grown = rest.grown;
               extends = rest.extends;
               is = rest.is;
-              from = λ stop at. elim (rest.from stop at) [ inl old ↦ inl old | inr late ↦ inr (Contains-tail first stops stop late) ];
+              from = λ stop at. elim (rest.from stop at) [
+                | inl old ↦ inl old
+                | inr late ↦ inr (Contains-tail first stops stop late)
+              ];
               met = λ stop at. elim (Contains-cases first stops stop at) [
                 | inl same ↦ subst (λ (s : Stop). IsMet rest.grown s) same
                     (met-extends trail rest.grown first rest.extends
-                    (met-there trail sets first is.found there.0 (λ earlier in_trail. before earlier first in_trail (Contains-head first stops))))
+                    (met-there trail sets first is.found there.0 (λ earlier in_trail. before earlier first in_trail
+                    (Contains-head first stops))))
                 | inr late ↦ rest.met stop late
               ];
             }
         | inr fresh ↦
-            let pushed = push-trail trail sets first is (All-head (λ (stop : Stop). LeadsTo names edges stop.path stop.set) first stops leads)
+            let pushed =
+            push-trail trail sets first is (All-head (λ (stop : Stop). LeadsTo names edges stop.path stop.set) first
+            stops leads)
             (λ earlier at. before earlier first at (Contains-head first stops)) fresh.0 in
-            let rest = trail-entered stops (trail ++ first ∷ []) (sets ++ first.set ∷ []) new pushed later_leads later_ascend
+            let rest =
+            trail-entered stops (trail ++ first ∷ []) (sets ++ first.set ∷ []) new pushed later_leads later_ascend
             (λ earlier later at in_stops. elim (Contains-push_cases trail first earlier at) [
               | inl old ↦ before earlier later old (Contains-tail first stops later in_stops)
-              | inr same ↦ subst (λ (s : Stop). ComesBefore s.path later.path) same (AllPairs-head (λ (a b : Stop). ComesBefore a.path b.path) first stops ascending later in_stops)
+              | inr same ↦ subst (λ (s : Stop). ComesBefore s.path later.path) same
+                  (AllPairs-head (λ (a b : Stop). ComesBefore a.path b.path) first stops ascending later in_stops)
             ])
             (subst (λ (l : List (List Oid)). AreEntered l (map set_of stops) new) fresh.1 entered.2) in
             record {

@@ -5,8 +5,8 @@ use Rattle.lore_base.specs.Databases.{OemGraph, IsReached}
 use Rattle.lore_base.specs.ChangeSets.{IsGraphAfter}
 use Rattle.lore_base.specs.TargetSets.{LabelPath, IsTargetSet, IsStep, LeadsTo, AreMoreThan}
 use Rattle.dataguide.specs.Types.{Oid, Label, Edge, Node}
-use Rattle.dataguide.specs.LabelPaths.{AreInPathOrder}
-use Rattle.dataguide.specs.Guides.{GuideGraph, StandsFor, sets_of, HasSet, HasEdge}
+use Rattle.dataguide.specs.PathOrder.{AreInPathOrder}
+use Rattle.dataguide.specs.Guides.{GuideGraph, StandsFor, IsOrderedGuide, sets_of, HasSet, HasEdge}
 
 -- the target set of a longer word is the step of the shorter word's
 abbrev pub LongerWordsStep : Type 0
@@ -15,12 +15,7 @@ LongerWordsStep =
     → IsTargetSet edges start word set
     → IsTargetSet edges start (word ++ label ∷ []) next ↔ IsStep edges set label next
 
--- the guide stands for the database, and its nodes stand in the order of their least paths
-pub record IsOrderedGuide (guide : GuideGraph) (names : List (List ℕ × Oid)) (edges : List Edge) : Type 0 where
-  pub stands : StandsFor guide names edges
-  pub order : AreInPathOrder names edges (sets_of guide.nodes)
-
--- a database has one such guide
+-- a database has one guide whose nodes stand in the order of their least paths
 abbrev pub HasOneOrderedGuide : Type 0
 HasOneOrderedGuide =
     (names : List (List ℕ × Oid)) (edges : List Edge) (guide other : GuideGraph)

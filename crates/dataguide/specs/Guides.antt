@@ -6,13 +6,18 @@ use Rattle.std.specs.List.{AllZip}
 use Rattle.std.specs.Map.{lookup}
 use Rattle.std.specs.BTreeMap.{is_at}
 use Rattle.lore_base.specs.Bytes.{bytes_cmp}
-use Rattle.dataguide.specs.Types.{Oid, Label, Edge, Node, GuideNode}
 use Rattle.lore_base.specs.TargetSets.{AreTargetSets, IsStep}
+use Rattle.dataguide.specs.Types.{Oid, Label, Edge, Node, GuideNode}
+use Rattle.dataguide.specs.PathOrder.{AreInPathOrder}
 
 -- a guide: its nodes in the order of their numbers, and the nodes of the names
 pub record GuideGraph : Type 0 where
   pub nodes : List GuideNode
   pub entries : List (List ℕ × Node)
+
+-- the node with a number
+abbrev pub node_number : ℕ → Node
+node_number number = record { 0 = number }
 
 abbrev pub sets_of : List GuideNode → List (List Oid)
 sets_of nodes = map (λ node. node.set) nodes
@@ -41,6 +46,11 @@ pub record StandsFor (guide : GuideGraph) (names : List (List ℕ × Oid)) (edge
   pub nodes : AreTargetSets names edges (sets_of guide.nodes)
   pub steps : All (HasItsSteps edges guide.nodes) guide.nodes
   pub entries : AllZip (IsEntry guide.nodes) names guide.entries
+
+-- the guide stands for the database, and its nodes stand in the order of their least paths
+pub record IsOrderedGuide (guide : GuideGraph) (names : List (List ℕ × Oid)) (edges : List Edge) : Type 0 where
+  pub stands : StandsFor guide names edges
+  pub order : AreInPathOrder names edges (sets_of guide.nodes)
 
 -- How a guide is read.
 

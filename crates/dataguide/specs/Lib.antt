@@ -1,5 +1,6 @@
 pub mod Types
-pub mod LabelPaths
+pub mod PathOrder
+pub mod ReadCosts
 pub mod Guides
 pub mod GuideLaws
 pub mod inside

@@ -3,7 +3,7 @@ ghost use Rattle.std.specs.Prelude.{IfOk, OnOk};
 ghost use Rattle.std.specs.declared.cmp.Ordering.TheVariants.{Less};
 ghost use Rattle.std.specs.Bool.{OnTrue};
 ghost use Rattle.dataguide.specs.Types.{Label as TheLabel, Oid as TheOid};
-ghost use Rattle.dataguide.specs.LabelPaths.{reads_of};
+ghost use Rattle.dataguide.specs.ReadCosts.{reads_of};
 ghost use Rattle.dataguide.specs.inside.Arcs.{AreArcs, AscendAsArcs, arc_cmp, leaving, arcs_of};
 
 use index_traits::Adjacent;

@@ -6,7 +6,8 @@ ghost use Rattle.lore_base.specs.Names.{IsNameTable};
 ghost use Rattle.dataguide.specs.Types.{Oid as TheOid, Edge as TheEdge, Node as TheNode};
 ghost use Rattle.dataguide.specs.declared.faults.GuideFault.TheVariants as faults;
 ghost use Rattle.lore_base.specs.TargetSets.{AreMoreThan};
-ghost use Rattle.dataguide.specs.LabelPaths.{ReadsAtMost, AreInPathOrder, reads_of};
+ghost use Rattle.dataguide.specs.PathOrder.{AreInPathOrder};
+ghost use Rattle.dataguide.specs.ReadCosts.{ReadsAtMost, reads_of};
 ghost use Rattle.dataguide.specs.Guides.{StandsFor, sets_of, node_of, edge_at, HasSet, HasEdge};
 ghost use Rattle.dataguide.specs.Guides.{AscendByLabel};
 ghost use Rattle.dataguide.specs.inside.Entering.{AreEntered, AreTooMany};
@@ -126,10 +127,30 @@ impl Guide {
     pub fn set(&self, node: Node) -> Option<&OidSet>
         ensures { option_copied result ≡ slice_get (sets_of self.now.nodes) node.0 }
     {
-        match self.nodes.as_slice().get(node.0 as usize) {
-            Some(there) => Some(&there.set),
-            None => None,
-        }
+        self.nodes
+            .as_slice()
+            .get(node.0 as usize)
+            .map(|there| &there.set)
+    }
+
+    /// The nodes, in the order of their numbers. Takes no memory.
+    pub fn nodes(&self) -> &[GuideNode]
+        ensures { result.now ≡ self.now.nodes }
+    {
+        self.nodes.as_slice()
+    }
+
+    /// The names with their nodes, in the order of the names' bytes. Takes no memory.
+    pub fn entries(&self) -> &[(OemText, Node)]
+        ensures { result.now ≡ self.now.entries }
+    {
+        self.entries.as_slice()
+    }
+
+    /// The allocator that the guide takes its memory from. Contracts see of a guide its nodes and
+    /// entries alone, so no clause can say which it is; it decides no answer but want of memory.
+    pub fn allocator(&self) -> Global {
+        *self.nodes.allocator()
     }
 
     /// The number of nodes.

@@ -63,6 +63,13 @@ impl Entries {
         Ok(Entries { list })
     }
 
+    // The names with their nodes.
+    pub(crate) fn as_slice(&self) -> &[(OemText, Node)]
+        ensures { result.now ≡ self.now }
+    {
+        self.list.as_slice()
+    }
+
     // The node of the name; None exactly where the name isn't there. Takes no memory.
     pub(crate) fn find(&self, name: &OemText) -> Option<Node>
         ensures { result ≡ node_of self.now name.now }

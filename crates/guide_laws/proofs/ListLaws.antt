@@ -5,8 +5,7 @@ use Rattle.std.specs.List.{AllPairs, Contains, filter}
 use Rattle.std.proofs.lemmas.Bool.{cases_lt}
 use Rattle.std.proofs.lemmas.List.Elements.{Contains-append_left, Contains-append_right}
 use Rattle.std.proofs.lemmas.List.Kept.{AllPairs-cons}
-use Rattle.lore_base.proofs.MemberLaws.{Contains-head, Contains-tail, Contains-cases}
-use Rattle.lore_base.proofs.MemberLaws.{Contains-same}
+use Rattle.lore_base.proofs.MemberLaws.{Contains-head, Contains-tail, Contains-cases, Contains-same}
 use Rattle.oem_changes.proofs.ToldLaws.{IsTold, told_member}
 use Rattle.oem_changes.proofs.AscentLaws.{IsEither, IsOrder, AllPairs-nil}
 use Rattle.oem_changes.proofs.ClosureLaws.{Contains-mapped}

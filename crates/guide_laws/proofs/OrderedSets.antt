@@ -4,14 +4,13 @@ use Rattle.std.specs.List.{AllZip, Contains}
 use Rattle.lore_base.specs.Names.{IsNameTable}
 use Rattle.lore_base.specs.Walks.{Walk}
 use Rattle.lore_base.specs.TargetSets.{LabelPath, IsTargetSet, LeadsTo, IsLedTo, AreTargetSets}
-use Rattle.lore_base.proofs.MemberLaws.{Contains-none, Contains-head, Contains-tail, Contains-cases}
-use Rattle.lore_base.proofs.MemberLaws.{Contains-same}
+use Rattle.lore_base.proofs.MemberLaws.{Contains-none, Contains-head, Contains-tail, Contains-cases, Contains-same}
 use Rattle.lore_base.proofs.TargetLaws.{ListsInOrder-unique}
 use Rattle.oem_changes.proofs.TableLaws.{one_entry}
 use Rattle.oem_changes.proofs.AscentLaws.{IsEither, IsSetOf, AllPairs-within, some_ordered_among}
 use Rattle.oem_changes.proofs.ClosureLaws.{Contains-mapped, mapped_from}
 use Rattle.dataguide.specs.Types.{Oid, Edge}
-use Rattle.dataguide.specs.LabelPaths.{ComesBefore, IsLeastPath, AreInPathOrder}
+use Rattle.dataguide.specs.PathOrder.{ComesBefore, IsLeastPath, AreInPathOrder}
 use Rattle.dataguide.specs.inside.Trails.{Stop}
 use Rattle.dataguide.proofs.PathOrder.{before-trans, before-itself, before-not_back}
 use Rattle.dataguide.proofs.StopLaws.{AllPairs-map}
@@ -29,7 +28,8 @@ module _ (names : List (List ℕ × Oid)) (edges : List Edge) where
   -- each set with its least path
   record AreStops (sets : List (List Oid)) (stops : List Stop) : Type 0 where
     pub each : (stop : Stop) → Contains stops stop → Contains sets stop.set × IsLeast stop
-    pub all : (set : List Oid) → Contains sets set → (path : LabelPath) × Contains stops (record { path = path; set = set })
+    pub all : (set : List Oid) → Contains sets set
+        → (path : LabelPath) × Contains stops (record { path = path; set = set })
 
   some_stops : (sets : List (List Oid)) → ((set : List Oid) → Contains sets set → IsLedTo names edges set)
       → (stops : List Stop) × AreStops sets stops

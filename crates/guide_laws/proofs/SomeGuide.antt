@@ -1,13 +1,11 @@
 -- Some guide stands for each database: a node for each target set, an edge for each label that leaves it.
-use Rattle.std.proofs.Common.{◌≡◌, ◌≢◌, ◌↔◌, ℕ, ◌<◌, inl, inr, List, [], ◌∷◌, map, Some}
-use Rattle.std.proofs.Common.{refl, sym, ap, ◌∙◌, subst}
+use Rattle.std.proofs.Common.{◌≡◌, ◌≢◌, ◌↔◌, ℕ, ◌<◌, inl, inr, List, [], ◌∷◌, map, Some, refl, sym, ap, ◌∙◌, subst}
 use Rattle.std.specs.List.{AllPairs, AllZip, Contains, slice_get}
 use Rattle.std.proofs.lemmas.List.Elements.{All-map}
 use Rattle.std.proofs.lemmas.List.Kept.{AllPairs-cons}
 use Rattle.lore_base.specs.Walks.{edge_of}
 use Rattle.lore_base.proofs.ListLaws.{AllPairs-head, AllPairs-tail}
-use Rattle.lore_base.proofs.MemberLaws.{Contains-none, Contains-head, Contains-tail, Contains-cases}
-use Rattle.lore_base.proofs.MemberLaws.{Contains-same}
+use Rattle.lore_base.proofs.MemberLaws.{Contains-none, Contains-head, Contains-tail, Contains-cases, Contains-same}
 use Rattle.lore_base.proofs.TargetLaws.{ListsInOrder-unique}
 use Rattle.oem_changes.proofs.ToldLaws.{told_member}
 use Rattle.oem_changes.proofs.AscentLaws.{IsSetOf, AllPairs-nil, some_ordered}
@@ -21,7 +19,7 @@ use Rattle.dataguide.specs.inside.Trails.{start_path}
 use Rattle.dataguide.proofs.PlaceLaws.{Contains-at, at-Contains, one-place}
 use Rattle.dataguide.proofs.StopLaws.{All-by, leads-start}
 use Rattle.dataguide.proofs.DoneLaws.{some-member}
-use Rattle.dataguide.specs.LabelPaths.{AreInPathOrder}
+use Rattle.dataguide.specs.PathOrder.{AreInPathOrder}
 use Rattle.guide_laws.specs.Laws.{GuidesExist, OrderedGuidesExist}
 use Rattle.guide_laws.proofs.ListLaws.{numbers_ordered}
 use Rattle.guide_laws.proofs.StepLaws.{step_of, step_is}

@@ -2,17 +2,15 @@
 use Rattle.std.proofs.Common.{◌≡◌, ◌≢◌, ◌↔◌, ℕ, ◌<◌, inl, inr, List, [], ◌∷◌, ◌++◌, length, map}
 use Rattle.std.proofs.Common.{refl, sym, ap, subst, arith}
 use Rattle.std.specs.List.{Contains}
-use Rattle.std.proofs.lemmas.List.Elements.{Contains-append_left, Contains-append_right}
-use Rattle.std.proofs.lemmas.List.Elements.{Contains-append_cases}
+use Rattle.std.proofs.lemmas.List.Elements.{Contains-append_left, Contains-append_right, Contains-append_cases}
 use Rattle.lore_base.specs.Walks.{Walk, edge_of}
-use Rattle.lore_base.specs.TargetSets.{ListsInOrder}
+use Rattle.lore_base.specs.TargetSets.{ListsInOrder, LabelPath, IsTargetSet, IsLedTo, AreTargetSets}
 use Rattle.lore_base.proofs.ListLaws.{AllPairs-unique}
 use Rattle.lore_base.proofs.MemberLaws.{Contains-none, Contains-cases, Contains-same}
 use Rattle.lore_base.proofs.TargetLaws.{ListsInOrder-same}
 use Rattle.oem_changes.proofs.ToldLaws.{IsTold, told_oid, told_below, told_same, passing, members_passing}
 use Rattle.oem_changes.proofs.ClosureLaws.{Contains-mapped, mapped_from}
 use Rattle.dataguide.specs.Types.{Oid, Label, Edge}
-use Rattle.lore_base.specs.TargetSets.{LabelPath, IsTargetSet, IsLedTo, AreTargetSets}
 use Rattle.dataguide.proofs.TargetSteps.{step-target}
 use Rattle.dataguide.proofs.StopLaws.{target-none}
 use Rattle.dataguide.proofs.DoneLaws.{some-member}

@@ -3,9 +3,8 @@ use Rattle.std.specs.Prelude.{◌⊎◌, ◌↔◌, ℕ, ◌<◌, List, length}
 use Rattle.lore_base.specs.Names.{IsNameTable}
 use Rattle.dataguide.specs.Types.{Oid, Edge}
 use Rattle.lore_base.specs.TargetSets.{AreTargetSets, AreMoreThan}
-use Rattle.dataguide.specs.LabelPaths.{AreInPathOrder}
-use Rattle.dataguide.specs.Guides.{GuideGraph, StandsFor}
-use Rattle.dataguide.specs.GuideLaws.{IsOrderedGuide}
+use Rattle.dataguide.specs.PathOrder.{AreInPathOrder}
+use Rattle.dataguide.specs.Guides.{GuideGraph, StandsFor, IsOrderedGuide}
 
 -- there is a list of all sets that label paths lead to
 abbrev pub TargetSetsExist : Type 0

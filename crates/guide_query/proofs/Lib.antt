@@ -5,3 +5,5 @@ pub mod FirstLaws
 pub mod LineLaws
 pub mod OneListOfLines
 pub mod SomeLines
+pub mod GuideWalkLaws
+pub mod TellsLaws

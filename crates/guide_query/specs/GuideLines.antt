@@ -3,11 +3,9 @@ use Rattle.std.specs.Prelude.{◌≡◌, ℕ, ◌<◌, if◌then◌else◌, List
 use Rattle.std.specs.List.{AllZip, flat_map}
 use Rattle.lore_base.specs.Names.{is_identifier, IsNameTable}
 use Rattle.lore_base.specs.Quotes.{in_quotes}
-use Rattle.lore_base.specs.TargetSets.{HasTexts}
-use Rattle.lore_base.specs.TargetSets.{LabelPath, AreTargetSets}
-use Rattle.dataguide.specs.LabelPaths.{IsLeastPath, AreInPathOrder}
-use Rattle.dataguide.specs.Guides.{GuideGraph}
-use Rattle.dataguide.specs.GuideLaws.{IsOrderedGuide}
+use Rattle.lore_base.specs.TargetSets.{LabelPath, HasTexts, AreTargetSets}
+use Rattle.dataguide.specs.PathOrder.{IsLeastPath, AreInPathOrder}
+use Rattle.dataguide.specs.Guides.{GuideGraph, IsOrderedGuide}
 use Rattle.guide_query.specs.Types.{Oid, Edge}
 
 -- Printing.

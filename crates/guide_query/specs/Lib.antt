@@ -1,4 +1,5 @@
 pub mod Types
 pub mod GuideLines
+pub mod GuideReaches
 pub mod LineLaws
 pub mod inside

@@ -1,4 +1,4 @@
 -- Definitions that no public contract cites.
 pub mod Origins
 pub mod Written
-pub mod Texts
+pub mod GuideWalks

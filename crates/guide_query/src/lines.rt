@@ -13,18 +13,17 @@ use std::alloc::Global;
 /// The lines of a guide, without line ends: for each node its least label path, a space and how
 /// many objects its set has, in the order of these paths; then `nodes` and the number of nodes.
 ///
-/// `names` are the names that the guide was built from. A path is its name and each label behind a
-/// dot, bare where it is an identifier (a reserved word too), and else in single quotes with
-/// escapes.
+/// `names` are the names that the guide was built from: its entries have them, so that only the
+/// clause reads them here. A path is its name and each label behind a dot, bare where it is an
+/// identifier (a reserved word too), and else in single quotes with escapes.
 pub fn guide_lines(guide: &Guide, names: &Names, labels: &LabelTable) -> Result<TextList, NoMemory>
     ensures { IfOk result (λ lines. (edges : List TheEdge)
         → IsLabelledGuide guide.now labels.now names.now edges
         → AreGuideLines names.now edges labels.now lines) }
 {
-    let texts = names.texts()?;
-    let alloc = texts.allocator();
-    let origins = origins_of(alloc, guide, texts.as_slice(), labels.len())?;
-    let mut lines = node_lines(alloc, guide, texts.as_slice(), labels, origins.as_slice())?;
+    let alloc = guide.allocator();
+    let origins = origins_of(alloc, guide)?;
+    let mut lines = node_lines(alloc, guide, labels, origins.as_slice())?;
     lines.push(last_line(alloc, guide.len())?)?;
     Ok(lines)
 }

@@ -1,5 +1,5 @@
 ghost use Rattle.std.specs.Prelude.{◌≡◌, ◌++◌, [], length, slice_get, unwrap_or, IfOk, OnOk};
-ghost use Rattle.guide_query.specs.inside.Written.{size_at, origin_at, path_in, step_text};
+ghost use Rattle.guide_query.specs.inside.Written.{size_at, origin_at, path_in, name_text, step_text};
 ghost use Rattle.guide_query.specs.inside.Written.{origin_text, node_line, AreWritten};
 
 use crate::label_writer::{put, put_size, put_step};
@@ -33,17 +33,28 @@ fn origin_at(origins: &[Origin], place: usize) -> Origin
     }
 }
 
-// The text at a place, empty where there are not so many.
-fn text_at(texts: &[OemText], place: usize) -> &[u8]
-    ensures { result.now ≡ unwrap_or (slice_get texts.now place) [] }
+// The name of the entry at a place, empty where there are not so many.
+fn name_at(entries: &[(OemText, Node)], place: usize) -> &[u8]
+    ensures { result.now ≡ name_text (slice_get entries.now place) }
 {
-    match texts.get(place) {
-        Some(text) => text.as_bytes(),
+    match entries.get(place) {
+        Some(entry) => entry.0.as_bytes(),
         None => &[],
     }
 }
 
-// The text of the path in a line, before the size.
+// The line at a place, empty where there are not so many.
+fn line_at(lines: &[OemText], place: usize) -> &[u8]
+    ensures { result.now ≡ unwrap_or (slice_get lines.now place) [] }
+{
+    match lines.get(place) {
+        Some(line) => line.as_bytes(),
+        None => &[],
+    }
+}
+
+// The text of the path in a line, before the size. What the size takes is found by printing it,
+// which is cheaper than a list of the lengths of paths.
 fn path_in(line: &[u8], size: usize) -> &[u8]
     ensures { result.now ≡ path_in line.now size }
 {
@@ -77,19 +88,18 @@ fn put_label(line: &mut Vec<u8>, labels: &LabelTable, label: Label) -> Result<()
 fn put_path(
     line: &mut Vec<u8>,
     guide: &Guide,
-    names: &[OemText],
     labels: &LabelTable,
     lines: &[OemText],
     origin: Origin,
 ) -> Result<(), NoMemory>
     ensures { OnOk result (line.new.items ≡ line.old.items
-        ++ origin_text names.now labels.now guide.now.nodes lines.now origin) }
+        ++ origin_text guide.now labels.now lines.now origin) }
 {
     match origin {
         Origin::Unmet => Ok(()),
-        Origin::Named(place) => put(line, text_at(names, place)),
+        Origin::Named(place) => put(line, name_at(guide.entries(), place)),
         Origin::Step(from, label) => {
-            let parent = text_at(lines, from.0 as usize);
+            let parent = line_at(lines, from.0 as usize);
             let room = parent.len().saturating_add(text_len(labels, label));
             line.reserve(room.saturating_add(BEHIND_LABEL))?;
             put(line, path_in(parent, size_at(guide, from)))?;
@@ -102,17 +112,16 @@ fn put_path(
 fn node_line(
     alloc: Global,
     guide: &Guide,
-    names: &[OemText],
     labels: &LabelTable,
     lines: &[OemText],
     origin: Origin,
     size: usize,
 ) -> Result<OemText, NoMemory>
     ensures { IfOk result (λ line.
-        line ≡ node_line names.now labels.now guide.now.nodes lines.now origin size) }
+        line ≡ node_line guide.now labels.now lines.now origin size) }
 {
     let mut line = Vec::new(alloc);
-    put_path(&mut line, guide, names, labels, lines, origin)?;
+    put_path(&mut line, guide, labels, lines, origin)?;
     put_size(&mut line, size)?;
     OemText::from_vec(alloc, line)
 }
@@ -121,18 +130,17 @@ fn node_line(
 pub(crate) fn node_lines(
     alloc: Global,
     guide: &Guide,
-    names: &[OemText],
     labels: &LabelTable,
     origins: &[Origin],
 ) -> Result<TextList, NoMemory>
-    ensures { IfOk result (AreWritten names.now labels.now guide.now.nodes origins.now
+    ensures { IfOk result (AreWritten guide.now labels.now origins.now
         (length guide.now.nodes)) }
 {
     let mut lines = TextList::with_capacity(alloc, origins.len().saturating_add(1))?;
     'nodes: for place in 0..guide.len() {
         let origin = origin_at(origins, place as usize);
         let size = size_at(guide, Node(place));
-        let line = node_line(alloc, guide, names, labels, lines.as_slice(), origin, size)?;
+        let line = node_line(alloc, guide, labels, lines.as_slice(), origin, size)?;
         lines.push(line)?;
     }
     Ok(lines)

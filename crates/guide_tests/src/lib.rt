@@ -1,5 +1,5 @@
-//! Tests of sets of objects, of guides and of their lines: each public call with ample memory, with
-//! values from outside the program.
+//! Tests of sets of objects, of guides, of their lines and of the paths that they tell: each public
+//! call with ample memory, with values from outside the program.
 #![tactic(auto)]
 
 #[cfg(test)]
@@ -10,6 +10,8 @@ mod guides;
 mod lines;
 #[cfg(test)]
 mod lists;
+#[cfg(test)]
+mod paths;
 #[cfg(test)]
 mod sets;
 #[cfg(test)]

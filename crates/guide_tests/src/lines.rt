@@ -39,7 +39,7 @@ fn put(alloc: Global, table: &mut LabelTable, text: &str) -> Result<(), NoMemory
 }
 
 // The table with these texts.
-fn table_of(alloc: Global, texts: &[&str]) -> Result<LabelTable, NoMemory> {
+pub(crate) fn table_of(alloc: Global, texts: &[&str]) -> Result<LabelTable, NoMemory> {
     let mut table = LabelTable::new(alloc);
     for text in texts {
         put(alloc, &mut table, text)?;

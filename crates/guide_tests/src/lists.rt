@@ -24,3 +24,11 @@ pub(crate) fn numbers_of(alloc: Global, set: &OidSet) -> Result<Vec<u32>, NoMemo
     }
     Ok(numbers)
 }
+
+pub(crate) fn listed(alloc: Global, oids: &OidBuf) -> Result<Vec<u32>, NoMemory> {
+    let mut numbers = Vec::new(alloc);
+    for oid in oids.as_slice() {
+        numbers.push(oid.0)?;
+    }
+    Ok(numbers)
+}

@@ -1,5 +1,5 @@
 -- Causes of refusals by the forms of statements: those that a form can't have, and those of its changes over its rows.
-use Rattle.std.proofs.Common.{◌≡◌, ◌≢◌, ◌↔◌, inl, inr, ℕ, ◌+◌, ◌<◌, ◌≤◌, true≢false, List, [], ◌∷◌, ◌++◌, length, map, Option, Some, None, refl, sym, ap, subst, ◌∙◌, arith}
+use Rattle.std.proofs.Common.{◌≡◌, ◌≢◌, ◌↔◌, inl, inr, ℕ, ◌+◌, ◌<◌, ◌≤◌, true, true≢false, List, [], ◌∷◌, ◌++◌, length, map, Option, Some, None, refl, sym, ap, subst, ◌∙◌, arith}
 use Rattle.std.specs.Prelude.{MatchOption}
 use Rattle.std.proofs.lemmas.List.Elements.{All-contains}
 use Rattle.lore_base.specs.Databases.{Database, IsValid}
@@ -21,7 +21,7 @@ use Rattle.updates.specs.Causes.{IsUpdate}
 use Rattle.updates.proofs.RowLaws.{map_found}
 use Rattle.lore_db.specs.Types.{Oid, Edge, Value, Changes, Refusal, LABELS, NEXT_NUMBER}
 use Rattle.lore_db.specs.Types.refusals
-use Rattle.lore_db.specs.Built.{reads, path_select, is_read, is_built}
+use Rattle.lore_db.specs.Built.{reads, path_select, makes_changes, is_read, is_built}
 use Rattle.lore_db.specs.Statements.{pair_of, AreRowsOf, loading, naming, effects, IsUnbound, IsOutOfRange, ChangesCause, Cause, order}
 use Rattle.lore_db.specs.inside.Stages.{bind_order, found_order, fit_order}
 use Rattle.lore_db.proofs.LiteralLaws.{length-objects_of}
@@ -64,15 +64,14 @@ module _ (db : Database) (statement : StatementTree) (rows : List (List Oid)) (a
     λ h. subst (λ (l : List (List Oid)). DatabaseCause db (effects db statement l) refusal) (one_rows db statement h.0 rows h.1 are) h.2,
   )
 
-  -- where the causes of the changes are the statement's, so are those of changes that are the same
+  -- the causes of a statement's changes are its own, and so are those of changes that are the same
   module _ (changes : Changes) (same : AreSame (effects db statement rows) changes)
-      (its : (refusal : Refusal) → OverRows db statement refusal ↔ ChangesCause db statement refusal) where
+      (changing : makes_changes statement ≡ true) where
     given : (refusal : Refusal) → DatabaseCause db changes refusal ↔ ChangesCause db statement refusal
     given refusal =
         let first = cause_same db (effects db statement rows) changes same refusal in
         let second = over_rows refusal in
-        let third = its refusal in
-        (λ h. third.0 (second.0 (first.1 h)), λ h. first.0 (second.1 (third.1 h)))
+        (λ h. (changing, second.0 (first.1 h)), λ h. first.0 (second.1 h.1))
 
     sizes_alike : AreAlike (DatabaseCause db changes) (Cause db statement) sizes
     sizes_alike = (
@@ -119,7 +118,7 @@ module _ (db : Database) (valid : IsValid db) (name : List ℕ) (literal : Liter
   )
 
   load_between : IsClear (Cause db load_tree) (refusals.TooManyRows ∷ refusals.NotOne ∷ refusals.AtomicParent ∷ refusals.HasChildren ∷ [])
-  load_between = (λ h. h, (λ h. h, (λ h. made_anew h.2, (λ h. no_value h.2, tt))))
+  load_between = (λ h. h, (λ h. h, (λ h. made_anew h.1.2, (λ h. no_value h.1.2, tt))))
 
   load_alike : AreAlike (text.Cause db.labels db.graph.next literal) (Cause db load_tree) text.order
   load_alike =
@@ -128,8 +127,8 @@ module _ (db : Database) (valid : IsValid db) (name : List ℕ) (literal : Liter
         (
           (λ h. h, λ h. h),
           (
-            (λ h. ([], refl, omega (arith, h, count)), λ h. (let over = h.2 in omega (arith, over, count))),
-            ((λ h. ([], refl, h), λ h. h.2), tt),
+            (λ h. (refl, ([], refl, omega (arith, h, count))), λ h. (let over = h.1.2 in omega (arith, over, count))),
+            ((λ h. (refl, ([], refl, h)), λ h. h.1.2), tt),
           ),
         ),
       )
@@ -150,10 +149,6 @@ module _ (db : Database) (valid : IsValid db) (name : List ℕ) (literal : Liter
       clear_both (Cause db load_tree) bind_order (locals ++ (middle ++ back)) load_binds
       (clear_between (Cause db load_tree) locals middle back load_between
       (clear_alike (text.Cause db.labels db.graph.next literal) (Cause db load_tree) text.order load_alike h))
-
-pub load_its : (db : Database) (name : List ℕ) (literal : LiteralTree) (refusal : Refusal)
-    → OverRows db (t.load name literal) refusal ↔ ChangesCause db (t.load name literal) refusal
-load_its db name literal refusal = (λ h. h, λ h. h)
 
 -- ---- names
 module _ (db : Database) (valid : IsValid db) where
@@ -179,10 +174,10 @@ module _ (db : Database) (valid : IsValid db) where
   -- binding a name has no cause of its own before the changes are made
   pub name_early : (name : List ℕ) (path : RootedTree) → IsClear (Cause db (t.bind name path)) early
   name_early name path = (
-    λ h. named_atom name (map pair_of h.0) h.2,
+    λ h. named_atom name (map pair_of h.1.0) h.1.2,
     (
-      λ h. named_value name (map pair_of h.0) h.2,
-      (λ h. named_number name (map pair_of h.0) h.2, (λ h. named_label name (map pair_of h.0) h.2, tt)),
+      λ h. named_value name (map pair_of h.1.0) h.1.2,
+      (λ h. named_number name (map pair_of h.1.0) h.1.2, (λ h. named_label name (map pair_of h.1.0) h.1.2, tt)),
     ),
   )
 
@@ -191,10 +186,10 @@ module _ (db : Database) (valid : IsValid db) where
 
   unnamed_early : (name : List ℕ) → IsClear (Cause db (t.unname name)) early
   unnamed_early name = (
-    λ h. (let adds = h.2 in Contains-none adds.edge adds.added),
+    λ h. (let adds = h.1.2 in Contains-none adds.edge adds.added),
     (
-      λ h. (let hides = h.2 in Contains-none (hides.oid, hides.value) hides.valued),
-      (λ h. (let over = h.2 in omega (arith, over, unspent)), (λ h. (let over = h.2 in omega (arith, over, valid.few_labels)), tt)),
+      λ h. (let hides = h.1.2 in Contains-none (hides.oid, hides.value) hides.valued),
+      (λ h. (let over = h.1.2 in omega (arith, over, unspent)), (λ h. (let over = h.1.2 in omega (arith, over, valid.few_labels)), tt)),
     ),
   )
 
@@ -226,21 +221,13 @@ module _ (db : Database) (valid : IsValid db) where
       told_right (Cause db (t.bind name path)) found_order (refusals.NotOne ∷ (early ++ (sizes ++ range))) (Some refusals.NotOne) clear
       (inl ((rows, answer, several), refl))
 
-pub name_its : (db : Database) (name : List ℕ) (path : RootedTree) (refusal : Refusal)
-    → OverRows db (t.bind name path) refusal ↔ ChangesCause db (t.bind name path) refusal
-name_its db name path refusal = (λ h. h, λ h. h)
-
-pub unname_its : (db : Database) (name : List ℕ) (refusal : Refusal) → OverRows db (t.unname name) refusal ↔ ChangesCause db (t.unname name) refusal
-unname_its db name refusal = (λ h. h, λ h. h)
-
 -- ---- updates
-pub update_its : (db : Database) (statement : StatementTree) → IsUpdate statement → (refusal : Refusal)
-    → OverRows db statement refusal ↔ ChangesCause db statement refusal
-update_its db (t.assign target value tail) update refusal = (λ h. h, λ h. h)
-update_its db (t.add_new target label literal tail) update refusal = (λ h. h, λ h. h)
-update_its db (t.add_link target label right tail) update refusal = (λ h. h, λ h. h)
-update_its db (t.remove target label right tail) update refusal = (λ h. h, λ h. h)
-update_its db _ update refusal = absurd (update refl)
+pub update_changes : (statement : StatementTree) → IsUpdate statement → makes_changes statement ≡ true
+update_changes (t.assign target value tail) update = refl
+update_changes (t.add_new target label literal tail) update = refl
+update_changes (t.add_link target label right tail) update = refl
+update_changes (t.remove target label right tail) update = refl
+update_changes _ update = absurd (update refl)
 
 -- an update reads a select, is built where that is, and takes no name away
 pub update_reads : (statement : StatementTree) → IsUpdate statement → (query : SelectTree) → reads statement ≡ Some query

@@ -53,7 +53,7 @@ module _ (db : Database) (valid : IsValid db) where
   effects_fit (t.load name literal) formed rows are
       (syntax, (known, (ranged, (twice, (many, (double, (undefined, (flood, (single, (atomic, (hidden, (spent, (full, end))))))))))))) =
       load_fits db valid name literal formed.0 formed.1 undefined
-      (λ over. (let count = length-objects_of db.graph.next literal in spent (rows, are, omega (arith, over, count)))) (λ over. full (rows, are, over))
+      (λ over. (let count = length-objects_of db.graph.next literal in spent (refl, (rows, are, omega (arith, over, count))))) (λ over. full (refl, (rows, are, over)))
   effects_fit (t.bind name path) formed rows are
       (syntax, (known, (ranged, (twice, (many, (double, (undefined, (flood, (single, (atomic, (hidden, (spent, (full, end))))))))))))) =
       name_fits db valid name (map pair_of rows) formed.0
@@ -66,18 +66,18 @@ module _ (db : Database) (valid : IsValid db) where
       let cells = one_celled target tail (row ∷ rows) are (λ h. known (inr h)) ranged in
       assign_fits db valid value (targets (map pair_of (row ∷ rows))) formed.1
       (live_targets db (map pair_of (row ∷ rows)) (one_targets db (row ∷ rows) cells))
-      (targets_once db (row ∷ rows) are.ascending cells) (λ hides. hidden (row ∷ rows, are, hides))
+      (targets_once db (row ∷ rows) are.ascending cells) (λ hides. hidden (refl, (row ∷ rows, are, hides)))
   effects_fit (t.add_new target label literal tail) formed (row ∷ rows) are
       (syntax, (known, (ranged, (twice, (many, (double, (undefined, (flood, (single, (atomic, (hidden, (spent, (full, end))))))))))))) =
       let cells = one_celled target tail (row ∷ rows) are (λ h. known (inr h)) ranged in
       copy_fits db valid literal label (targets (map pair_of (row ∷ rows))) formed.1 formed.2 undefined
       (live_targets db (map pair_of (row ∷ rows)) (one_targets db (row ∷ rows) cells))
-      (λ adds. atomic (row ∷ rows, are, adds)) (λ over. spent (row ∷ rows, are, over)) (λ over. full (row ∷ rows, are, over))
+      (λ adds. atomic (refl, (row ∷ rows, are, adds))) (λ over. spent (refl, (row ∷ rows, are, over))) (λ over. full (refl, (row ∷ rows, are, over)))
   effects_fit (t.add_link target label right tail) formed (row ∷ rows) are
       (syntax, (known, (ranged, (twice, (many, (double, (undefined, (flood, (single, (atomic, (hidden, (spent, (full, end))))))))))))) =
       let cells = two_celled target tail (row ∷ rows) right are (λ h. known (inr h)) ranged in
       link_fits db valid label (map pair_of (row ∷ rows)) formed.1 (two_targets db (row ∷ rows) cells) (two_rights db (row ∷ rows) cells)
-      (λ adds. atomic (row ∷ rows, are, adds)) (λ over. full (row ∷ rows, are, over))
+      (λ adds. atomic (refl, (row ∷ rows, are, adds))) (λ over. full (refl, (row ∷ rows, are, over)))
   effects_fit (t.remove target label right tail) formed (row ∷ rows) are
       (syntax, (known, (ranged, (twice, (many, (double, (undefined, (flood, (single, (atomic, (hidden, (spent, (full, end))))))))))))) =
       let cells = two_celled target tail (row ∷ rows) right are (λ h. known (inr h)) ranged in

@@ -1,5 +1,5 @@
 -- Executions of statements: a select that answers, and changes that are made.
-use Rattle.std.proofs.Common.{◌≡◌, ◌↔◌, inl, inr, List, [], ◌∷◌, Option, Result, Ok, Err, IfOk, refl, sym, subst}
+use Rattle.std.proofs.Common.{◌≡◌, inl, inr, true, List, [], ◌∷◌, ◌++◌, Option, Result, Ok, Err, IfOk, refl, sym, subst}
 use Rattle.std.specs.Prelude.{IfErr, OnErr}
 use Rattle.lore_base.specs.Databases.{Database, IsValid}
 use Rattle.lore_base.specs.ChangeSets.{Fits, IsAfter, AreSame}
@@ -15,38 +15,38 @@ use Rattle.lorel_bind.specs.Answers.{IsAnswer}
 use Rattle.updates.specs.Causes.{IsUpdate}
 use Rattle.lore_db.specs.Types.{Oid, Changes, Refusal, Reply, Rows}
 use Rattle.lore_db.specs.Types.refusals
-use Rattle.lore_db.specs.Statements.{AreRowsOf, effects, IsOutOfRange, ChangesCause, Cause, order, Counts, LeadsOn, Performs, Executes}
+use Rattle.lore_db.specs.Built.{makes_changes}
+use Rattle.lore_db.specs.Statements.{AreRowsOf, effects, IsOutOfRange, Cause, order, Counts, LeadsOn, Performs, Executes}
 use Rattle.lore_db.specs.inside.Stages.{ReadCause, read_order, found_order, change_order, fit_order}
 use Rattle.lore_db.specs.inside.Stops.{told, IsRepliedTo}
 use Rattle.lore_db.specs.declared.stops.Stop.{Stop}
 use Rattle.lore_db.specs.declared.stops.Stop.TheVariants as stop
 use Rattle.lore_db.proofs.OrderLaws.{told_left}
 use Rattle.lore_db.proofs.ReadLaws.{read_found, read_clear}
-use Rattle.lore_db.proofs.CauseLaws.{OverRows, sizes, sizes_told, sizes_clear}
+use Rattle.lore_db.proofs.CauseLaws.{early, sizes, range, sizes_told, sizes_clear}
+use Rattle.lore_db.proofs.QuietLaws.{no_locals, no_changes}
 use Rattle.lore_db.proofs.EffectLaws.{effects_fit}
 
 -- ---- selects
 module _ (db : Database) (query : SelectTree) where
-  no_locals : IsClear (Cause db (t.select query)) (refusals.DuplicateLocal ∷ refusals.UndefinedLocal ∷ [])
-  no_locals = (λ h. h, (λ h. h, tt))
-
-  no_changes : IsClear (Cause db (t.select query)) change_order
-  no_changes =
-      (λ h. h, (λ h. h, (λ h. h, (λ h. h, (λ h. h, (λ h. h, (λ h. h, (λ h. h, (λ h. h, (λ h. h, tt))))))))))
+  select_behind : IsClear (Cause db (t.select query)) change_order
+  select_behind =
+      clear_both (Cause db (t.select query)) (refusals.NotOne ∷ (early ++ sizes)) range
+      (no_changes db (t.select query) refl) (λ h. h, tt)
 
   pub select_performs : (rows : List (List Oid)) → IsClear (ReadCause db query) read_order → IsAnswer db query rows
       → Executes db (t.select query) (Rows rows) db
   select_performs rows clear answer =
       inl (
         clear_both (Cause db (t.select query)) found_order change_order
-            (read_clear db (t.select query) query refl refl (λ h. h) no_locals clear) no_changes,
+            (read_clear db (t.select query) query refl refl (λ h. h) (no_locals db (t.select query) refl) clear) select_behind,
         (refl, (rows, refl, answer)),
       )
 
   pub select_told : (told : Option Refusal) → IsToldBy (ReadCause db query) read_order told → IsToldBy (Cause db (t.select query)) order told
   select_told told h =
       told_left (Cause db (t.select query)) found_order change_order told
-      (read_found db (t.select query) query refl refl (λ h. h) no_locals told h)
+      (read_found db (t.select query) query refl refl (λ h. h) (no_locals db (t.select query) refl) told h)
 
 -- ---- changes
 -- changes that are equal list the same
@@ -66,15 +66,15 @@ module _ (db : Database) (statement : StatementTree) (rows : List (List Oid)) (a
   pub changes_fit : IsValid db → IsFormedStatement statement → Fits db changes
   changes_fit valid formed = Fits-same (effects db statement rows) changes same db (effects_fit db valid statement formed rows are clear)
 
-  module _ (its : (refusal : Refusal) → OverRows db statement refusal ↔ ChangesCause db statement refusal) where
+  module _ (changing : makes_changes statement ≡ true) where
     -- what refuses the changes refuses the statement
     pub changes_told : (told : Option Refusal) → IsToldBy (DatabaseCause db changes) sizes told → IsToldBy (Cause db statement) order told
-    changes_told told h = sizes_told db statement rows are changes same its told clear h
+    changes_told told h = sizes_told db statement rows are changes same changing told clear h
 
     pub changes_lead : (IsOutOfRange db statement → ⊥) → (after : Database) (reply : Reply) → IsClear (DatabaseCause db changes) sizes
         → IsAfter db changes after → Counts after reply → IsClear (Cause db statement) order × LeadsOn db statement reply after
     changes_lead within after reply left is counts = (
-      sizes_clear db statement rows are changes same its within clear left,
+      sizes_clear db statement rows are changes same changing within clear left,
       ((rows, are, IsAfter-same changes (effects db statement rows) (same-back (effects db statement rows) changes same) db after is), counts),
     )
 

@@ -1,68 +1,39 @@
 -- The guide as a statement, and its limit: neither is refused for what other statements are; what a store's guide tells;
 -- and what is told of a limit.
-use Rattle.std.proofs.Common.{◌≡◌, ◌⊎◌, inl, inr, ℕ, ◌<◌, ◌≤◌, true≢false, List, [], ◌∷◌, ◌++◌, Some, None}
+use Rattle.std.proofs.Common.{◌≡◌, inl, inr, ℕ, List, ◌++◌, Some, None}
 use Rattle.std.proofs.Common.{Result, Ok, Err, IfOk, refl, sym, ap, subst, ◌∙◌, length, arith}
 use Rattle.std.specs.Prelude.{ℤ, pos, negsuc, IfErr, OnOk}
-use Rattle.std.proofs.lemmas.Bool.{cases_lt}
-use Rattle.std.proofs.lemmas.Int.{ints}
 use Rattle.std.proofs.lemmas.List.{length-map}
 use Rattle.lore_base.specs.Databases.{Database, IsValid}
-use Rattle.lore_base.specs.TargetSets.{AreMoreThan}
 use Rattle.lore_base.specs.Verdicts.{IsClear, IsToldBy}
 use Rattle.lore_base.proofs.VerdictLaws.{clear_both}
 use Rattle.lorel_trees.specs.Trees as t
-use Rattle.oem_changes.proofs.ToldLaws.{IsTold, told_same, told_either, told_below}
+use Rattle.oem_changes.proofs.ToldLaws.{IsTold, told_below}
 use Rattle.guide_laws.proofs.TargetSetLaws.{more_sets_are_told}
 use Rattle.dataguide.specs.declared.nodes.GuideNode.{GuideNode}
 use Rattle.dataguide.specs.Guides.{GuideGraph, sets_of}
 use Rattle.guide_query.specs.GuideLines.{IsLabelledGuide, AreGuideLines}
-use Rattle.lore_store.specs.Stores.{IsGuided}
-use Rattle.lore_db.specs.Types.{Oid, Edge, Refusal, NODES, Reply, Changed}
+use Rattle.lore_store.specs.Stores.{IsGuided, IsLimit}
+use Rattle.lore_store.proofs.LimitLaws.{valid_limited}
+use Rattle.lore_db.specs.Types.{Oid, Edge, NODES, Reply, Changed}
 use Rattle.lore_db.specs.Types.refusals
 use Rattle.lore_db.specs.Statements.{IsNoLimit, Cause, order, Counts, Shows, Limits, Executes}
 use Rattle.lore_db.specs.KeptDatabases.{IsKept}
-use Rattle.lore_db.specs.inside.Stages.{found_order, fit_order}
+use Rattle.lore_db.specs.inside.Stages.{fit_order}
 use Rattle.lore_db.specs.inside.Stops.{told}
 use Rattle.lore_db.specs.declared.stops.Stop.{Stop}
 use Rattle.lore_db.proofs.OrderLaws.{told_right}
-use Rattle.lore_db.proofs.CauseLaws.{early, sizes, range}
+use Rattle.lore_db.proofs.CauseLaws.{sizes, range}
+use Rattle.lore_db.proofs.QuietLaws.{nothing_before}
 
 -- ---- what refuses them
--- what is told of what a statement reads, and of its rows
-abbrev front : List Refusal
-front = found_order ++ refusals.NotOne ∷ []
-
 module _ (db : Database) where
-  guide_front : IsClear (Cause db t.guide) front
-  guide_front = (
-    λ none. true≢false none,
-    (
-      λ h. elim h [ inl unbound ↦ unbound | inr unknown ↦ unknown ],
-      (λ h. h, (λ h. h, (λ h. h, (λ h. h, (λ h. h, (λ h. h, (λ h. h, tt))))))),
-    ),
-  )
-
-  guide_behind : IsClear (Cause db t.guide) (early ++ (sizes ++ range))
-  guide_behind = (λ h. h, (λ h. h, (λ h. h, (λ h. h, (λ h. h, (λ h. h, (λ h. h, (λ h. h, (λ h. h, tt)))))))))
-
   pub guide_clear : IsClear (Cause db t.guide) order
-  guide_clear = clear_both (Cause db t.guide) front (early ++ (sizes ++ range)) guide_front guide_behind
+  guide_clear = clear_both (Cause db t.guide) (fit_order ++ sizes) range (nothing_before db t.guide refl refl refl) (λ h. h, tt)
 
 module _ (db : Database) (nodes : ℤ) where
-  nodes_front : IsClear (Cause db (t.set_nodes nodes)) front
-  nodes_front = (
-    λ none. true≢false none,
-    (
-      λ h. elim h [ inl unbound ↦ unbound | inr unknown ↦ unknown ],
-      (λ h. h, (λ h. h, (λ h. h, (λ h. h, (λ h. h, (λ h. h, (λ h. h, tt))))))),
-    ),
-  )
-
-  nodes_behind : IsClear (Cause db (t.set_nodes nodes)) (early ++ sizes)
-  nodes_behind = (λ h. h, (λ h. h, (λ h. h, (λ h. h, (λ h. h, (λ h. h, (λ h. h, (λ h. h, tt))))))))
-
   nodes_before : IsClear (Cause db (t.set_nodes nodes)) (fit_order ++ sizes)
-  nodes_before = clear_both (Cause db (t.set_nodes nodes)) front (early ++ sizes) nodes_front nodes_behind
+  nodes_before = nothing_before db (t.set_nodes nodes) refl refl refl
 
   pub nodes_clear : (IsNoLimit db nodes → ⊥) → IsClear (Cause db (t.set_nodes nodes)) order
   nodes_clear limit = clear_both (Cause db (t.set_nodes nodes)) (fit_order ++ sizes) range nodes_before (limit, tt)
@@ -120,60 +91,52 @@ module _ (db : Database) (valid : IsValid db) (guide : GuideGraph) (guided : IsG
       (subst (λ (l : List (List ℕ)). Given l names) texts (gives db.graph.edges)) shown_guide
 
 -- ---- what is told of a limit
-abbrev IsBeyond : Database → ℕ → Type 0
-IsBeyond db limit = (limit < 1) ⊎ ((NODES < limit) ⊎ AreMoreThan limit db.graph.names db.graph.edges)
+told_limit : (db : Database) (limit : ℕ) → IsTold (IsLimit db limit)
+told_limit db limit = elim (told_below limit 1) [
+  | inl low ↦ inr (λ is. omega (arith, low, is.low))
+  | inr low ↦ elim (told_below NODES limit) [
+    | inl high ↦ inr (λ is. omega (arith, high, is.high))
+    | inr high ↦ elim (more_sets_are_told limit db.graph.names db.graph.edges) [
+      | inl more ↦ inr (λ is. is.few more)
+      | inr few ↦ inl (record { low = omega (arith, low); high = omega (arith, high); few = few })
+    ]
+  ]
+]
 
--- a number that isn't negative
-beyond_none : (db : Database) (limit : ℕ) → IsBeyond db limit → IsNoLimit db (pos limit)
-beyond_none db limit (inl low) = inl (omega (arith, ints, low))
-beyond_none db limit (inr high) = inr (limit, refl, high)
+-- a negative number is none
+abbrev IsNegative : ℤ → Type 0
+IsNegative (pos limit) = ⊥
+IsNegative (negsuc number) = Unit {0}
 
-none_beyond : (db : Database) (limit : ℕ) → IsNoLimit db (pos limit) → IsBeyond db limit
-none_beyond db limit (inl low) = inl (omega (arith, ints, low))
-none_beyond db limit (inr (other, is, high)) =
+no_count : (number limit : ℕ) → negsuc number ≡ pos limit → ⊥
+no_count number limit is = subst IsNegative is tt
+
+-- any other is one limit, or none
+pub no_limit : (db : Database) (limit : ℕ) → (IsLimit db limit → ⊥) → IsNoLimit db (pos limit)
+no_limit db limit none other is =
     let same : limit ≡ other = cc in
-    inr (subst (λ (n : ℕ). (NODES < n) ⊎ AreMoreThan n db.graph.names db.graph.edges) (sym same) high)
+    subst (λ (n : ℕ). IsLimit db n → ⊥) same none
 
 pub told_no_limit : (db : Database) (nodes : ℤ) → IsTold (IsNoLimit db nodes)
-told_no_limit db (pos limit) =
-    told_same (beyond_none db limit) (none_beyond db limit)
-    (told_either (told_below limit 1)
-    (told_either (told_below NODES limit) (more_sets_are_told limit db.graph.names db.graph.edges)))
-told_no_limit db (negsuc number) = inl (inl (omega (arith, ints)))
+told_no_limit db (pos limit) = elim (told_limit db limit) [
+  | inl is ↦ inr (λ none. none limit refl is)
+  | inr none ↦ inl (no_limit db limit none)
+]
+told_no_limit db (negsuc number) = inl (λ limit is. absurd (no_count number limit is))
 
--- a limit on the nodes of the guide
-pub record IsLimit (db : Database) (nodes : ℤ) : Type 0 where
+-- the limit that a number is
+pub record GivesLimit (db : Database) (nodes : ℤ) : Type 0 where
   pub limit : ℕ
   pub is : nodes ≡ pos limit
-  pub low : 1 ≤ limit
-  pub high : limit ≤ NODES
-  pub few : AreMoreThan limit db.graph.names db.graph.edges → ⊥
+  pub within : IsLimit db limit
 
-pub some_limit : (db : Database) (nodes : ℤ) → (IsNoLimit db nodes → ⊥) → IsLimit db nodes
-some_limit db (pos limit) within = record {
-  limit = limit;
-  is = refl;
-  low = elim (cases_lt limit 1) [ inl low ↦ absurd (within (beyond_none db limit (inl low))) | inr low ↦ low ];
-  high = elim (cases_lt NODES limit) [ inl high ↦ absurd (within (beyond_none db limit (inr (inl high)))) | inr high ↦ high ];
-  few = λ more. within (beyond_none db limit (inr (inr more)));
-}
-some_limit db (negsuc number) within = absurd (within (inl (omega (arith, ints))))
+pub some_limit : (db : Database) (nodes : ℤ) → (IsNoLimit db nodes → ⊥) → GivesLimit db nodes
+some_limit db (pos limit) within = elim (told_limit db limit) [
+  | inl is ↦ record { limit = limit; is = refl; within = is }
+  | inr none ↦ absurd (within (no_limit db limit none))
+]
+some_limit db (negsuc number) within = absurd (within (λ limit is. absurd (no_count number limit is)))
 
 -- the database with it
-valid_limited : (db : Database) → IsValid db → (nodes : ℤ) (is : IsLimit db nodes) → IsValid (record db { nodes = is.limit })
-valid_limited db valid nodes is = record {
-  labels_distinct = valid.labels_distinct;
-  labels_formed = valid.labels_formed;
-  well_formed = valid.well_formed;
-  labelled = valid.labelled;
-  reached = valid.reached;
-  few_labels = valid.few_labels;
-  few_names = valid.few_names;
-  few_objects = valid.few_objects;
-  few_edges = valid.few_edges;
-  nodes_limited = (is.low, is.high);
-  few_sets = is.few;
-}
-
-pub kept_limited : (db : Database) → IsKept db → (nodes : ℤ) (is : IsLimit db nodes) → IsKept (record db { nodes = is.limit })
-kept_limited db kept nodes is = record { valid = valid_limited db kept.valid nodes is; mode = kept.mode }
+pub kept_limited : (db : Database) → IsKept db → (limit : ℕ) → IsLimit db limit → IsKept (record db { nodes = limit })
+kept_limited db kept limit is = record { valid = valid_limited db kept.valid limit is; mode = kept.mode }

@@ -16,6 +16,7 @@ pub mod OrderLaws
 pub mod ChangedCauseLaws
 pub mod ReadLaws
 pub mod CauseLaws
+pub mod QuietLaws
 pub mod LoadLaws
 pub mod EffectLaws
 pub mod UpdateLaws

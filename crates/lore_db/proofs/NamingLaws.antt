@@ -21,7 +21,7 @@ use Rattle.lore_db.proofs.OrderLaws.{told_left}
 use Rattle.lore_db.proofs.FitLaws.{name_fits, unname_fits}
 use Rattle.lore_db.proofs.LiveRowLaws.{starts_somewhere, IsOneCell, one_cell, one_targets}
 use Rattle.lore_db.proofs.ReadLaws.{read_found, read_clear}
-use Rattle.lore_db.proofs.CauseLaws.{sizes, name_locals, name_clear, name_told, name_its, unname_clear, unname_told, unname_its}
+use Rattle.lore_db.proofs.CauseLaws.{sizes, name_locals, name_clear, name_told, unname_clear, unname_told}
 use Rattle.lore_db.proofs.ExecutionLaws.{same_as, changes_told, changes_lead}
 
 -- ---- bound names
@@ -81,12 +81,12 @@ module _ (db : Database) (valid : IsValid db) (name : List ℕ) (path : RootedTr
 
       pub named_stop : (told : Option Refusal) → IsToldBy (DatabaseCause db changes) sizes told → IsToldBy (Cause db naming_tree) order told
       named_stop told h =
-          changes_told db naming_tree rows answer changes (same_as (effects db naming_tree rows) changes lists) fit_clear (name_its db name path) told h
+          changes_told db naming_tree rows answer changes (same_as (effects db naming_tree rows) changes lists) fit_clear refl told h
 
       pub named_executes : (after : Database) (reply : Reply) → IsClear (DatabaseCause db changes) sizes → IsAfter db changes after
           → Counts after reply → Executes db naming_tree reply after
       named_executes after reply left leads counts =
-          inl (changes_lead db naming_tree rows answer changes (same_as (effects db naming_tree rows) changes lists) fit_clear (name_its db name path)
+          inl (changes_lead db naming_tree rows answer changes (same_as (effects db naming_tree rows) changes lists) fit_clear refl
           (λ outside. outside) after reply left leads counts)
 
 -- ---- a name taken away
@@ -105,10 +105,10 @@ module _ (db : Database) (valid : IsValid db) (name : List ℕ) where
     unnamed_fit = subst (λ (c : Changes). Fits db c) (sym is) (unname_fits db valid name bound)
 
     pub unnamed_stop : (told : Option Refusal) → IsToldBy (DatabaseCause db changes) sizes told → IsToldBy (Cause db unnaming_tree) order told
-    unnamed_stop told h = changes_told db unnaming_tree [] refl changes (same_as (unnaming name) changes is) bound_clear (unname_its db name) told h
+    unnamed_stop told h = changes_told db unnaming_tree [] refl changes (same_as (unnaming name) changes is) bound_clear refl told h
 
     pub unnamed_executes : (after : Database) (reply : Reply) → IsClear (DatabaseCause db changes) sizes → IsAfter db changes after
         → Counts after reply → Executes db unnaming_tree reply after
     unnamed_executes after reply left leads counts =
-        inl (changes_lead db unnaming_tree [] refl changes (same_as (unnaming name) changes is) bound_clear (unname_its db name) (λ outside. outside)
+        inl (changes_lead db unnaming_tree [] refl changes (same_as (unnaming name) changes is) bound_clear refl (λ outside. outside)
         after reply left leads counts)

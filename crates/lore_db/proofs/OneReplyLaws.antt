@@ -1,6 +1,6 @@
 -- A statement has one reply, and leaves one database.
-use Rattle.std.proofs.Common.{◌≡◌, ℕ, List, [], length, Some, None, inl, inr, sym, ap, subst, ◌∙◌}
-use Rattle.std.specs.Prelude.{ℤ, pos, MatchOption}
+use Rattle.std.proofs.Common.{◌≡◌, ℕ, List, length, inl, inr, sym, ap, subst, ◌∙◌}
+use Rattle.std.specs.Prelude.{ℤ, pos}
 use Rattle.lore_base.specs.Databases.{Database}
 use Rattle.lore_base.specs.ChangeSets.{IsAfter}
 use Rattle.lore_base.proofs.VerdictLaws.{one_first, first_unclear}
@@ -8,22 +8,11 @@ use Rattle.oem_changes.proofs.CountLaws.{distinct_as_long}
 use Rattle.oem_changes.proofs.DeterminedLaws.{one_database_after}
 use Rattle.guide_query.proofs.OneListOfLines.{one_list_of_lines}
 use Rattle.lorel_trees.specs.Trees.{StatementTree, select, guide, set_nodes}
-use Rattle.lorel_bind.specs.Answers.{IsAnswer}
 use Rattle.lorel_bind.proofs.AnswerLaws.{has_one_answer}
 use Rattle.lore_db.specs.Types.{Oid, Refusal, Reply, Changed, Rows, Lines, Refused}
-use Rattle.lore_db.specs.Built.{reads}
-use Rattle.lore_db.specs.Statements.{AreRowsOf, effects, Cause, order, Counts, LeadsOn, Shows, Limits, Performs, Refuses}
+use Rattle.lore_db.specs.Statements.{effects, Cause, order, Counts, LeadsOn, Shows, Limits, Performs, Refuses}
 use Rattle.lore_db.specs.StatementLaws.{ExecutesOnce}
-
--- a statement is executed over one list of rows
-pub one_rows : (db : Database) (statement : StatementTree) (rows other : List (List Oid)) → AreRowsOf db statement rows
-    → AreRowsOf db statement other → rows ≡ other
-one_rows db statement rows other =
-    elim (reads statement) as (λ read. MatchOption read (rows ≡ []) (λ query. IsAnswer db query rows)
-    → MatchOption read (other ≡ []) (λ query. IsAnswer db query other) → rows ≡ other) [
-      | None ↦ λ here there. here ∙ sym there
-      | Some query ↦ has_one_answer db query rows other
-    ]
+use Rattle.lore_db.proofs.CauseLaws.{one_rows}
 
 -- a database is counted by one reply
 one_counted : (db : Database) (reply other : Reply) → Counts db reply → Counts db other → reply ≡ other

@@ -1,8 +1,7 @@
 -- From each database that a `Db` can be, a sound statement has a reply, and leaves such a database.
 use Rattle.std.proofs.Common.{◌≡◌, ◌≢◌, ℕ, ◌+◌, ◌<◌, ◌≤◌, inl, inr, Bool, true, false, true≢false, List, [], ◌∷◌, ◌++◌}
-use Rattle.std.proofs.Common.{length, Option, Some, None, refl, subst, ◌∙◌, arith}
+use Rattle.std.proofs.Common.{length, Option, Some, None, refl, sym, subst, ◌∙◌, arith}
 use Rattle.std.specs.Prelude.{ℤ, MatchOption}
-use Rattle.std.specs.List.Sorted.{IsStrictlySortedBy}
 use Rattle.std.proofs.lemmas.Bool.{cases_eq, cases_lt}
 use Rattle.lore_base.specs.Databases.{OemGraph, Database, new_database}
 use Rattle.lore_base.specs.TargetSets.{AreMoreThan}
@@ -10,15 +9,16 @@ use Rattle.lore_base.specs.ChangeSets.{Fits, IsGraphAfter}
 use Rattle.lore_base.specs.ChangeCauses.{Outgrows, LeadsToMore, DatabaseCause}
 use Rattle.lore_base.specs.Verdicts.{IsClear}
 use Rattle.lore_base.proofs.VerdictLaws.{clear_left, clear_right, clear_both}
-use Rattle.oem_changes.proofs.ToldLaws.{IsTold, told_same, told_not, told_either, told_paired, told_bytes, told_below}
+use Rattle.oem_changes.proofs.ToldLaws.{IsTold, told_same, told_not, told_both, told_either, told_paired, told_bytes, told_below}
 use Rattle.oem_changes.proofs.ToldCauseLaws.{told_adds_to_atom, told_hides_children, told_outgrows}
 use Rattle.oem_changes.proofs.DeterminedLaws.{one_after}
 use Rattle.oem_changes.proofs.SomeAfterLaws.{some_database_after}
 use Rattle.oem_changes.proofs.ValidLaws.{valid_after}
 use Rattle.guide_laws.proofs.TargetSetLaws.{target_sets_exist, more_sets_are_told}
 use Rattle.guide_query.proofs.SomeLines.{lines_exist}
-use Rattle.lore_store.proofs.NewLaws.{none_led}
-use Rattle.lorel_trees.specs.Trees.{LiteralTree, SelectTree, StatementTree, bind, unname, select, guide, set_nodes}
+use Rattle.lore_store.proofs.NewLaws.{new_valid}
+use Rattle.lorel_trees.specs.Trees.{LiteralTree, SelectTree, StatementTree, load, bind, unname, assign, add_new, add_link}
+use Rattle.lorel_trees.specs.Trees.{remove, select, guide, set_nodes}
 use Rattle.lorel_trees.specs.Formed.{IsFormedStatement}
 use Rattle.lorel_trees.proofs.FormLaws.{sound_statement}
 use Rattle.lorel_bind.specs.Answers.{IsAnswer}
@@ -31,7 +31,7 @@ use Rattle.oem_text.specs.Literals.{HasDouble, HasUndefined}
 use Rattle.lore_db.specs.Types.{Oid, Changes, Refusal, LABELS, NAMES, OBJECTS, EDGES, NEXT_NUMBER, ROWS, Reply, Changed}
 use Rattle.lore_db.specs.Types.{Rows, Lines, Refused}
 use Rattle.lore_db.specs.Types.refusals
-use Rattle.lore_db.specs.Built.{reads, makes, path_select, is_built}
+use Rattle.lore_db.specs.Built.{reads, makes, path_select, makes_changes, is_built}
 use Rattle.lore_db.specs.Statements.{AreRowsOf, effects, IsUnbound, HasTooManyRows, IsNotOne, IsOutOfRange, ChangesCause, OfReads}
 use Rattle.lore_db.specs.Statements.{Cause, order, LeadsOn, Performs, Executes}
 use Rattle.lorel_trees.specs.Sound.{IsSound}
@@ -40,11 +40,10 @@ use Rattle.lore_db.specs.StatementLaws.{ExecutesAlways}
 use Rattle.lore_db.specs.inside.Stages.{fit_order}
 use Rattle.lore_db.proofs.TurnLaws.{AreTold, some_verdict, told_from_verdict, told_of_none, told_append}
 use Rattle.lore_db.proofs.LocalToldLaws.{told_double, told_undefined}
-use Rattle.lore_db.proofs.OneReplyLaws.{one_rows}
 use Rattle.lore_db.proofs.LiveRowLaws.{starts_somewhere}
 use Rattle.lore_db.proofs.EffectLaws.{effects_fit}
-use Rattle.lore_db.proofs.CauseLaws.{sizes, range}
-use Rattle.lore_db.proofs.GuideStatementLaws.{IsLimit, told_no_limit, some_limit, kept_limited}
+use Rattle.lore_db.proofs.CauseLaws.{sizes, range, over_rows}
+use Rattle.lore_db.proofs.GuideStatementLaws.{GivesLimit, told_no_limit, some_limit, kept_limited}
 
 -- the order in stages: what is told of the text, where the last are told of a select and of a literal; of rows and the
 -- changes over them; and of what these leave
@@ -70,6 +69,10 @@ limit_order =
 told_false : (test : Bool) → IsTold (test ≡ false)
 told_false true = inr (λ is. true≢false is)
 told_false false = inl refl
+
+told_true : (test : Bool) → IsTold (test ≡ true)
+told_true true = inl refl
+told_true false = inr (λ is. true≢false (sym is))
 
 told_unbound : (db : Database) (statement : StatementTree) → IsTold (IsUnbound db statement)
 told_unbound db (unname name) = told_not (told_paired told_bytes db.graph.names name)
@@ -127,12 +130,9 @@ told_changes : (db : Database) (statement : StatementTree) (rows : List (List Oi
     → (refusal : Refusal)
     → IsTold (DatabaseCause db (effects db statement rows) refusal)
     → IsTold (ChangesCause db statement refusal)
-told_changes db (select query) rows are refusal told = inr (λ h. h)
-told_changes db guide rows are refusal told = inr (λ h. h)
-told_changes db (set_nodes nodes) rows are refusal told = inr (λ h. h)
 told_changes db statement rows are refusal told =
-    let Has = λ (l : List (List Oid)). DatabaseCause db (effects db statement l) refusal in
-    told_same (λ h. (rows, are, h)) (λ h. subst Has (one_rows db statement h.0 rows h.1 are) h.2) told
+    let over = over_rows db statement rows are refusal in
+    told_both (told_true (makes_changes statement)) (told_same over.0 over.1 told)
 
 -- where changes leave a graph, it is told whether more sets are led to than a limit
 told_leads_to_more : (graph : OemGraph) (changes : Changes) (limit : ℕ) (after : OemGraph) → IsGraphAfter graph changes after
@@ -256,15 +256,29 @@ module _ (db : Database) (kept : IsKept db) (statement : StatementTree) (formed 
       )
 
 -- a limit is set
-some_limited : (db : Database) → IsKept db → (nodes : ℤ) → IsLimit db nodes
+some_limited : (db : Database) → IsKept db → (nodes : ℤ) → GivesLimit db nodes
     → (reply : Reply) × (after : Database) × Performs db (set_nodes nodes) reply after × IsKept after
 some_limited db kept nodes is =
     let all = target_sets_exist db.graph.names db.graph.edges in (
       Changed (length db.graph.objects) (length db.graph.edges) (length all.0),
       record db { nodes = is.limit },
       ((is.limit, is.is, refl), (all.0, all.1, refl)),
-      kept_limited db kept nodes is,
+      kept_limited db kept is.limit is.within,
     )
+
+-- changes are made
+some_changed : (db : Database) → IsKept db → (statement : StatementTree) → IsFormedStatement statement
+    → makes_changes statement ≡ true → IsClear (Cause db statement) order
+    → (reply : Reply) × (after : Database) × LeadsOn db statement reply after × IsKept after
+some_changed db kept statement formed changing clear =
+    let found = some_rows db statement clear.1.0 clear.1.1.0 in
+    let limits = clear_right (Cause db statement) fit_order limit_order clear in
+    let fits = effects_fit db kept.valid statement formed found.0 found.1
+    (clear_left (Cause db statement) fit_order limit_order clear) in
+    some_led db kept statement formed found.0 found.1 fits (λ many. limits.0 (changing, (found.0, found.1, many)))
+    (λ many. limits.1.0 (changing, (found.0, found.1, many)))
+    (λ many. limits.1.1.0 (changing, (found.0, found.1, many)))
+    (λ many. limits.1.1.1.0 (changing, (found.0, found.1, many)))
 
 some_performed : (db : Database) → IsKept db → (statement : StatementTree) → IsFormedStatement statement
     → IsClear (Cause db statement) order
@@ -279,14 +293,18 @@ some_performed db kept guide formed clear =
 some_performed db kept (set_nodes nodes) formed clear =
     let within = clear_right (Cause db (set_nodes nodes)) (fit_order ++ sizes) range clear in
     some_limited db kept nodes (some_limit db nodes within.0)
-some_performed db kept statement formed clear =
-    let found = some_rows db statement clear.1.0 clear.1.1.0 in
-    let limits = clear_right (Cause db statement) fit_order limit_order clear in
-    let fits = effects_fit db kept.valid statement formed found.0 found.1
-    (clear_left (Cause db statement) fit_order limit_order clear) in
-    some_led db kept statement formed found.0 found.1 fits (λ many. limits.0 (found.0, found.1, many))
-    (λ many. limits.1.0 (found.0, found.1, many)) (λ many. limits.1.1.0 (found.0, found.1, many))
-    (λ many. limits.1.1.1.0 (found.0, found.1, many))
+some_performed db kept (load name literal) formed clear = some_changed db kept (load name literal) formed refl clear
+some_performed db kept (bind name path) formed clear = some_changed db kept (bind name path) formed refl clear
+some_performed db kept (unname name) formed clear = some_changed db kept (unname name) formed refl clear
+some_performed db kept (assign target value tail) formed clear =
+    some_changed db kept (assign target value tail) formed refl clear
+some_performed db kept (add_new target label literal tail) formed clear =
+    some_changed db kept (add_new target label literal tail) formed refl clear
+some_performed db kept (add_link target label right tail) formed clear =
+    some_changed db kept (add_link target label right tail) formed refl clear
+some_performed db kept (remove target label right tail) formed clear =
+    some_changed db kept (remove target label right tail) formed refl clear
+some_performed db kept statement formed clear = absurd (clear.0 refl)
 
 pub executes_always : ExecutesAlways
 executes_always db statement kept sound =
@@ -304,35 +322,7 @@ executes_always db statement kept sound =
     ]
 
 pub begins_kept : IsKept new_database
-unfolding IsStrictlySortedBy
-begins_kept = record {
-  valid = record {
-    labels_distinct = λ i j d low within. absurd (omega (arith, within));
-    labels_formed = λ k d low. absurd (omega (arith, low));
-    well_formed = record {
-      ordered = record {
-        names_ascend = tt;
-        objects_ascend = λ i j d low within. absurd (omega (arith, within));
-        objects_numbered = λ k d low. absurd (omega (arith, low));
-        edges_ascend = λ i j d low within. absurd (omega (arith, within));
-        next_numbered = (omega arith, omega arith);
-      };
-      names_formed = λ k d low. absurd (omega (arith, low));
-      names_live = λ k d low. absurd (omega (arith, low));
-      objects_sized = λ k d low. absurd (omega (arith, low));
-      edges_linked = λ k d low. absurd (omega (arith, low));
-    };
-    labelled = λ k d low. absurd (omega (arith, low));
-    reached = λ k d low. absurd (omega (arith, low));
-    few_labels = omega arith;
-    few_names = omega arith;
-    few_objects = omega arith;
-    few_edges = omega arith;
-    nodes_limited = (omega arith, omega arith);
-    few_sets = none_led [];
-  };
-  mode = refl;
-}
+begins_kept = record { valid = new_valid; mode = refl }
 
 pub some_execution : (before : Database) (statement : StatementTree) → IsKept before → IsSound statement
     → (reply : Reply) × (after : Database) × Executes before statement reply after × IsKept after

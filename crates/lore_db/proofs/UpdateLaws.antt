@@ -26,7 +26,7 @@ use Rattle.lore_db.proofs.OrderLaws.{AreAlike, told_left, told_right, told_betwe
 use Rattle.lore_db.proofs.ChangedCauseLaws.{few_names}
 use Rattle.lore_db.proofs.ReadLaws.{read_binds, read_bound, read_found, read_clear}
 use Rattle.lore_db.proofs.SelectLaws.{rows_clear, rows_told}
-use Rattle.lore_db.proofs.CauseLaws.{locals, sizes, range, early, over_rows, update_its, update_reads, update_names, update_single, update_effects, update_named}
+use Rattle.lore_db.proofs.CauseLaws.{locals, sizes, range, early, over_rows, update_changes, update_reads, update_names, update_single, update_effects, update_named}
 
 -- ---- the select
 pub update_form : (statement : StatementTree) → IsUpdate statement → reads statement ≡ rows_of statement
@@ -110,10 +110,9 @@ module _ (db : Database) (valid : IsValid db) (statement : StatementTree) (updat
   its : (refusal : Refusal) → DatabaseCause db given refusal ↔ ChangesCause db statement refusal
   its refusal =
       let same = update_effects db statement update rows in
-      let first = over_rows db statement rows are refusal in
-      let second = update_its db statement update refusal in (
-        λ h. second.0 (first.0 (subst (λ (c : Changes). DatabaseCause db c refusal) same h)),
-        λ h. subst (λ (c : Changes). DatabaseCause db c refusal) (sym same) (first.1 (second.1 h)),
+      let over = over_rows db statement rows are refusal in (
+        λ h. (update_changes statement update, over.0 (subst (λ (c : Changes). DatabaseCause db c refusal) same h)),
+        λ h. subst (λ (c : Changes). DatabaseCause db c refusal) (sym same) (over.1 h.1),
       )
 
   early_alike : AreAlike Told (Cause db statement) early

@@ -21,7 +21,7 @@ use Rattle.lore_db.specs.Statements.{pair_of, AreRowsOf, effects, Cause, order, 
 use Rattle.lore_db.specs.inside.Finding.{AreRows}
 use Rattle.lore_db.specs.inside.Locals.{StopsRows}
 use Rattle.lore_db.specs.inside.Stages.{ReadCause, bind_order, found_order, fit_order}
-use Rattle.lore_db.proofs.CauseLaws.{sizes, update_its, update_effects, update_within}
+use Rattle.lore_db.proofs.CauseLaws.{sizes, update_changes, update_effects, update_within}
 use Rattle.lore_db.proofs.EffectLaws.{rows_targets}
 use Rattle.lore_db.proofs.ExecutionLaws.{changes_fit, changes_told, changes_lead, update_performs}
 use Rattle.lore_db.proofs.SelectLaws.{rows_answer}
@@ -79,11 +79,11 @@ module _ (db : Database) (valid : IsValid db) (statement : StatementTree) (updat
 
     -- how large the database gets
     pub pairs_grown : (told : Option Refusal) → IsToldBy (DatabaseCause db changes) sizes told → IsToldBy (Cause db statement) order told
-    pairs_grown told h = changes_told db statement rows are changes same_effects fit_clear (update_its db statement update) told h
+    pairs_grown told h = changes_told db statement rows are changes same_effects fit_clear (update_changes statement update) told h
 
     pub pairs_performed : (after : Database) (reply : Reply) → IsClear (DatabaseCause db changes) sizes → IsAfter db changes after
         → Counts after reply → Executes db statement reply after
     pairs_performed after reply few made counts =
-        let led = changes_lead db statement rows are changes same_effects fit_clear (update_its db statement update) (update_within db statement update)
+        let led = changes_lead db statement rows are changes same_effects fit_clear (update_changes statement update) (update_within db statement update)
         after reply few made counts in
         inl (led.0, update_performs db statement update reply after led.1)

@@ -1,8 +1,10 @@
--- The forms of statement that are executed, and what they read. A statement of any other form is refused `Syntax`.
+-- The forms of statement that are executed, what they read, and which make changes. A statement of any other form is
+-- refused `Syntax`.
 use Rattle.std.specs.Prelude.{Bool, true, false, ◌||◌, if◌then◌else◌, [], Option, Some, None, is_some}
 use Rattle.std.specs.List.{list_any}
-use Rattle.lorel_trees.specs.Trees.{LiteralTree, RootedTree, ItemTree, object, path_of, FromTree, SelectTree, StatementTree}
-use Rattle.lorel_trees.specs.Trees.{load, bind, unname, add_new, select, guide, set_nodes}
+use Rattle.lorel_trees.specs.Trees.{LiteralTree, RootedTree, ItemTree, object, path_of, FromTree}
+use Rattle.lorel_trees.specs.Trees.{SelectTree, StatementTree}
+use Rattle.lorel_trees.specs.Trees.{load, bind, unname, assign, add_new, add_link, remove, select, guide, set_nodes}
 use Rattle.lorel_trees.specs.UpdateRows.{target_select, rows_of}
 
 -- the select of one path
@@ -20,6 +22,17 @@ abbrev pub makes : StatementTree → Option LiteralTree
 makes (load name literal) = Some literal
 makes (add_new target label literal tail) = Some literal
 makes statement = None
+
+-- whether a statement of this form makes changes of the graph
+abbrev pub makes_changes : StatementTree → Bool
+makes_changes (load name literal) = true
+makes_changes (bind name path) = true
+makes_changes (unname name) = true
+makes_changes (assign target value tail) = true
+makes_changes (add_new target label literal tail) = true
+makes_changes (add_link target label right tail) = true
+makes_changes (remove target label right tail) = true
+makes_changes statement = false
 
 -- whether an item shows a path variable
 abbrev pub is_path_variable : ItemTree → Bool

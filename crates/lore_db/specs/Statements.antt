@@ -1,22 +1,24 @@
 -- What one statement answers, and the database that it leaves.
-use Rattle.std.specs.Prelude.{◌≡◌, ◌≢◌, ℕ, ℤ, pos, ◌<◌, ◌<ℤ◌, ◌⊎◌, false, List, [], ◌∷◌, ◌++◌, length, map}
+use Rattle.std.specs.Prelude.{◌≡◌, ◌≢◌, ℕ, ℤ, pos, ◌<◌, ◌⊎◌, true, false, List, [], ◌∷◌, ◌++◌, length, map}
 use Rattle.std.specs.Prelude.{Some, None, MatchOption}
-use Rattle.lore_db.specs.Types.{Oid, Changes, Refusal, NODES, ROWS, Reply, Changed, Rows, Lines, Refused}
+use Rattle.lore_db.specs.Types.{Oid, Changes, Refusal, ROWS, Reply, Changed, Rows, Lines, Refused}
 use Rattle.lore_db.specs.Types.refusals
 use Rattle.lore_base.specs.Walks.{oid_of}
 use Rattle.lore_base.specs.Databases.{Database}
-use Rattle.lore_base.specs.TargetSets.{AreTargetSets, AreMoreThan}
+use Rattle.lore_base.specs.TargetSets.{AreTargetSets}
 use Rattle.lore_base.specs.ChangeSets.{IsBound, IsAfter}
 use Rattle.lore_base.specs.ChangeCauses.{DatabaseCause}
 use Rattle.lore_base.specs.Verdicts.{IsFirst, IsClear}
-use Rattle.lorel_trees.specs.Trees.{LiteralTree, SelectTree, StatementTree, load, bind, unname, select, guide, set_nodes}
+use Rattle.lorel_trees.specs.Trees.{LiteralTree, SelectTree, StatementTree}
+use Rattle.lorel_trees.specs.Trees.{load, bind, unname, select, guide, set_nodes}
 use Rattle.lorel_bind.specs.Answers.{IsAnswer}
 use Rattle.lorel_bind.specs.Refusals as binding
 use Rattle.oem_labels.specs.Labels.{first_uses}
 use Rattle.oem_text.specs.Literals.{HasDouble, HasUndefined, labels_of, objects_of, edges_of}
 use Rattle.updates.specs.Effects.{Pair, no_changes, changes_by}
 use Rattle.guide_query.specs.GuideLines.{AreGuideLines}
-use Rattle.lore_db.specs.Built.{reads, makes, path_select, is_built}
+use Rattle.lore_store.specs.Stores.{IsLimit}
+use Rattle.lore_db.specs.Built.{reads, makes, path_select, makes_changes, is_built}
 
 -- What a statement changes.
 
@@ -93,19 +95,16 @@ IsNotOne db (bind name path) =
     (rows : List (List Oid)) × IsAnswer db (path_select path) rows × (length rows ≢ 1)
 IsNotOne db statement = ⊥
 
--- the changes that a statement makes have this cause; a select, the guide and its limit make none
+-- the changes that a statement makes have this cause: one of the graph's (`ChangeCause`), or the guide's limit, which
+-- only a database has (`DatabaseCause`)
 abbrev pub ChangesCause : Database → StatementTree → Refusal → Type 0
-ChangesCause db (select query) refusal = ⊥
-ChangesCause db guide refusal = ⊥
-ChangesCause db (set_nodes nodes) refusal = ⊥
 ChangesCause db statement refusal =
-    (rows : List (List Oid)) × AreRowsOf db statement rows × DatabaseCause db (effects db statement rows) refusal
+    (makes_changes statement ≡ true)
+    × ((rows : List (List Oid)) × AreRowsOf db statement rows × DatabaseCause db (effects db statement rows) refusal)
 
--- the number is no limit on the guide's nodes: it is out of range, or label paths lead to more sets
+-- the number is no limit on the guide's nodes
 abbrev pub IsNoLimit : Database → ℤ → Type 0
-IsNoLimit db nodes =
-    (nodes <ℤ pos 1) ⊎ ((limit : ℕ) × (nodes ≡ pos limit)
-    × ((NODES < limit) ⊎ AreMoreThan limit db.graph.names db.graph.edges))
+IsNoLimit db nodes = (limit : ℕ) → nodes ≡ pos limit → ¬ IsLimit db limit
 
 abbrev pub IsOutOfRange : Database → StatementTree → Type 0
 IsOutOfRange db (set_nodes nodes) = IsNoLimit db nodes
@@ -187,8 +186,8 @@ Performs before statement reply after = LeadsOn before statement reply after
 abbrev pub Refuses : Refusal → Database → Reply → Database → Type 0
 Refuses refusal before reply after = (reply ≡ Refused refusal) × (after ≡ before)
 
--- one statement, its reply and the database after it: it is performed where no cause of a refusal applies, and the first
--- that applies refuses it
+-- one statement, its reply and the database after it: it is performed where no cause of a refusal applies, and the
+-- first that applies refuses it
 abbrev pub Executes : Database → StatementTree → Reply → Database → Type 0
 Executes before statement reply after =
     (IsClear (Cause before statement) order × Performs before statement reply after)

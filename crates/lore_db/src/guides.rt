@@ -13,7 +13,7 @@ impl Db {
     /// The lines of the guide.
     pub(crate) fn show_guide(&self) -> Result<Reply, Stop>
         ensures ok { IfOk result (λ reply. Shows self.now reply self.now) }
-        ensures refused { IfErr result (λ stop. told stop ≡ None) }
+        ensures unrefused { IfErr result (λ stop. told stop ≡ None) }
     {
         let store = &self.store;
         let lines = guide_lines(store.guide(), store.graph().names(), store.labels())?;

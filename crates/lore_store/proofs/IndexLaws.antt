@@ -1,5 +1,5 @@
--- What the indexes of a store hold: the entries of its graph, before and after a prepared change.
-use Rattle.std.proofs.Common.{◌≡◌, ◌≢◌, ℕ, Option, Some, None, ◌<◌, ◌≤◌, ◌^◌, ◌⊎◌, ◌↔◌, List, [], ◌∷◌, length, map, inl, inr, refl, ap, sym, subst, ◌∙◌, arith, Less}
+-- What the indexes of a graph hold, before and after a prepared change.
+use Rattle.std.proofs.Common.{◌≡◌, ◌≢◌, ℕ, ◌<◌, ◌≤◌, ◌⊎◌, ◌↔◌, List, [], ◌∷◌, length, map, inl, inr, refl, ap, sym, subst, ◌∙◌, arith, Less}
 use Rattle.std.specs.List.{All, AllPairs, Contains}
 use Rattle.std.proofs.lemmas.Bool.Decides.{nat_tests}
 use Rattle.std.proofs.lemmas.List.{length-map}
@@ -10,8 +10,8 @@ use Rattle.lore_base.specs.declared.edges.Oid.{Oid}
 use Rattle.lore_base.specs.declared.edges.Edge.{Edge}
 use Rattle.lore_base.specs.declared.values.Value.{Value}
 use Rattle.index_traits.specs.declared.entries.ValueEntry.{ValueEntry}
-use Rattle.lore_base.specs.Databases.{OemGraph, Database, IsLive, IsLinked, IsRooted, AreAscendingObjects}
-use Rattle.lore_base.specs.ChangeSets.{FitsGraph, ObjectsThen, IsGraphAfter, IsOnlyIn}
+use Rattle.lore_base.specs.Databases.{OemGraph, IsLive, IsLinked, IsRooted, AreAscendingObjects}
+use Rattle.lore_base.specs.ChangeSets.{IsGraphAfter, IsOnlyIn}
 use Rattle.index_traits.specs.Entries.{AreLinks, AreAscendingLinks, AreValueEntries, IsValueEntry, AreAscendingEntries, entry_cmp}
 use Rattle.sorted_list.specs.SortedLists.{IsThen, IsChange, IsLessWith}
 use Rattle.value_index.specs.Values.{FitsEntries}
@@ -23,10 +23,10 @@ use Rattle.oem_changes.proofs.CountLaws.{distinct_no_longer}
 use Rattle.oem_changes.proofs.ToldLaws.{told_member, told_edge}
 use Rattle.oem_changes.proofs.RootedLaws.{All-of_members, told_live}
 use Rattle.oem_graph.proofs.LeftLaws.{mapped, map-contains}
-use Rattle.link_index.specs.Links.{RoomyLinks}
-use Rattle.value_index.specs.Values.{RoomyEntries}
-use Rattle.dataguide.specs.Guides.{GuideGraph}
-use Rattle.lore_store.specs.Stores.{PlannedDatabase, state_of, database_then, guide_then, IsStored, LeadsOn}
+use Rattle.lore_store.specs.declared.indexes.Indexes.{Indexes}
+use Rattle.lore_store.specs.declared.indexes.IndexPlan.{IndexPlan}
+use Rattle.lore_store.specs.Indexes.{AreIndexes, AreIndexed, state_of}
+use Rattle.lore_store.specs.inside.Fitting.{FitsIndexes}
 
 -- ---- what a list holds that takes in a change
 module _ {T : Type 0} (Before After : T → Type 0) (kept gone come : List T) (same : (item : T) → Contains kept item ↔ Before item)
@@ -224,30 +224,31 @@ module _ (before : OemGraph) (changes : Changes) (after : OemGraph) (leaves : Is
             (same_entries before.objects before.edges links stands) changed_are.takes;
       }
 
--- ---- what a store commits
--- the indexes hold the entries of the graph that is then
-pub stored_then : (db : Database) (guide : GuideGraph) (plan : PlannedDatabase) (link link_then : RoomyLinks) (value value_then : RoomyEntries)
-    → IsStored db link value guide → LeadsOn db guide plan → AreAscendingLinks link_then.links → IsLessWith link.links plan.links.gone plan.links.come link_then.links
-    → AreAscendingEntries value_then.entries → IsLessWith value.entries plan.values.gone plan.values.come value_then.entries
-    → IsStored (database_then db plan) link_then value_then (guide_then guide plan.guide)
-stored_then db guide plan link link_then value value_then stored leads links_ascend links_less entries_ascend entries_less =
-    let then = (database_then db plan).graph in
-    let taken = links_take db.graph.edges then.edges plan.links.gone plan.links.come leads.indexes.gone leads.indexes.come in
+-- ---- what is committed
+-- the plan that leads from one graph to another fits the indexes of the one
+pub fits_indexes : (before after : OemGraph) (kept : Indexes) (plan : IndexPlan) → AreIndexes before kept → AreIndexed before after plan → IsRooted after
+    → length after.edges ≤ EDGES → FitsIndexes kept plan
+fits_indexes before after kept plan stand leads rooted few = record {
+  gone = gone_kept before.edges after.edges kept.links.links plan.links.gone stand.links leads.gone;
+  come = come_new before.edges after.edges kept.links.links plan.links.come stand.links leads.come;
+  values = fits_entries before after rooted few kept.values.entries plan.values.gone plan.values.come stand.values leads.values;
+}
+
+-- and these become the indexes of the other
+pub indexes_then : (before after : OemGraph) (kept then : Indexes) (plan : IndexPlan) → AreAscendingLinks then.links.links
+    → IsLessWith kept.links.links plan.links.gone plan.links.come then.links.links → AreAscendingEntries then.values.entries
+    → IsLessWith kept.values.entries plan.values.gone plan.values.come then.values.entries
+    → AreIndexes before kept → AreIndexed before after plan → AreIndexes after then
+indexes_then before after kept then plan links_ascend links_less entries_ascend entries_less stand leads =
+    let taken = links_take before.edges after.edges plan.links.gone plan.links.come leads.gone leads.come in
     record {
-      valid = leads.valid;
-      guided = leads.guided;
       links = record {
         ascend = links_ascend;
-        exact = held (Contains db.graph.edges) (Contains then.edges) link.links plan.links.gone plan.links.come stored.links.exact taken link_then.links links_less;
+        exact = held (Contains before.edges) (Contains after.edges) kept.links.links plan.links.gone plan.links.come stand.links.exact taken then.links.links links_less;
       };
       values = record {
         ascend = entries_ascend;
-        exact = held (HasEntry (state_of db.graph)) (HasEntry (state_of then)) value.entries plan.values.gone plan.values.come stored.values.exact
-            leads.indexes.values.takes value_then.entries entries_less;
+        exact = held (HasEntry (state_of before)) (HasEntry (state_of after)) kept.values.entries plan.values.gone plan.values.come stand.values.exact
+            leads.values.takes then.values.entries entries_less;
       };
     }
-
--- where no other guide is planned, the kept one stays
-pub kept_guide : (kept : GuideGraph) (planned : Option GuideGraph) → ((other : GuideGraph) → planned ≡ Some other → ⊥) → guide_then kept planned ≡ kept
-kept_guide kept None none = refl
-kept_guide kept (Some other) none = absurd (none other refl)

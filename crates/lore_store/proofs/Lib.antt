@@ -2,3 +2,5 @@ pub mod SizeLaws
 pub mod IndexLaws
 pub mod NewLaws
 pub mod PreparedLaws
+pub mod LimitLaws
+pub mod CommitLaws

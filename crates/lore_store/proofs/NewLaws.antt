@@ -1,20 +1,19 @@
 -- The new store: nothing is in it.
-use Rattle.std.proofs.Common.{◌≡◌, ◌≢◌, ℕ, ◌<◌, ◌≤◌, List, [], length, refl, sym, subst, arith}
-use Rattle.std.specs.List.{All, AllPairs, AllZip, Contains}
+use Rattle.std.proofs.Common.{◌≡◌, ℕ, List, [], sym, subst, arith}
+use Rattle.std.specs.List.{AllPairs, Contains}
 use Rattle.std.specs.List.Sorted.{IsStrictlySortedBy}
 use Rattle.std.proofs.lemmas.List.Elements.{All-contains, Contains-get_or}
 use Rattle.lore_store.specs.Types.{NODES, Edge}
-use Rattle.lore_base.specs.declared.edges.Oid.{Oid}
 use Rattle.lore_base.specs.TargetSets.{AreMoreThan, IsLedTo}
 use Rattle.lore_base.specs.Databases.{OemGraph, IsValid, new_database, new_graph}
 use Rattle.lore_base.proofs.MemberLaws.{Contains-none}
-use Rattle.link_index.specs.Links.{RoomyLinks}
-use Rattle.value_index.specs.Values.{RoomyEntries}
 use Rattle.dataguide.specs.declared.nodes.GuideNode.{GuideNode}
 use Rattle.dataguide.specs.Guides.{GuideGraph, StandsFor, sets_of}
-use Rattle.dataguide.specs.LabelPaths.{AreInPathOrder, ComesBefore}
+use Rattle.dataguide.specs.PathOrder.{AreInPathOrder, ComesBefore}
 use Rattle.index_traits.specs.declared.entries.ValueEntry.{ValueEntry}
 use Rattle.index_traits.specs.Entries.{AreLinks, AreValueEntries}
+use Rattle.lore_store.specs.declared.indexes.Indexes.{Indexes}
+use Rattle.lore_store.specs.Indexes.{AreIndexes}
 use Rattle.lore_store.specs.Stores.{IsStored, database_of}
 
 -- without names no set is led to
@@ -27,7 +26,8 @@ none_led edges more =
 none_below : {X : Type 0} (R : X → X → Type 0) → AllPairs R []
 none_below R = λ i j d low within. absurd (omega (arith, within))
 
-new_valid : IsValid new_database
+-- the new database is valid
+pub new_valid : IsValid new_database
 unfolding IsStrictlySortedBy
 new_valid = record {
   labels_distinct = λ i j d low within. absurd (omega (arith, within));
@@ -67,15 +67,17 @@ new_entries list none = rw none (record {
   exact = λ entry. (λ at. absurd (Contains-none entry at), λ h. absurd (Contains-none _ h.live));
 })
 
-pub new_stored : (labels : List (List ℕ)) (graph : OemGraph) (link : RoomyLinks) (value : RoomyEntries) (guide : GuideGraph)
-    → labels ≡ [] → graph ≡ new_graph → link.links ≡ [] → value.entries ≡ [] → guide.nodes ≡ [] → StandsFor guide [] []
-    → IsStored (database_of labels graph NODES) link value guide
-new_stored labels graph link value guide no_label is links entries nodes stands =
-    subst (λ (l : List (List ℕ)). IsStored (database_of l graph NODES) link value guide) (sym no_label)
-    (subst (λ (g : OemGraph). IsStored (database_of [] g NODES) link value guide) (sym is)
+pub new_indexes : (kept : Indexes) → kept.links.links ≡ [] → kept.values.entries ≡ [] → AreIndexes new_graph kept
+new_indexes kept links entries = record { links = new_links kept.links.links links; values = new_entries kept.values.entries entries }
+
+pub new_stored : (labels : List (List ℕ)) (graph : OemGraph) (kept : Indexes) (guide : GuideGraph)
+    → labels ≡ [] → graph ≡ new_graph → AreIndexes new_graph kept → guide.nodes ≡ [] → StandsFor guide [] []
+    → IsStored (database_of labels graph NODES) kept guide
+new_stored labels graph kept guide no_label is indexes nodes stands =
+    subst (λ (l : List (List ℕ)). IsStored (database_of l graph NODES) kept guide) (sym no_label)
+    (subst (λ (g : OemGraph). IsStored (database_of [] g NODES) kept guide) (sym is)
     (record {
       valid = new_valid;
+      indexes = indexes;
       guided = record { stands = stands; order = new_order guide.nodes nodes };
-      links = new_links link.links links;
-      values = new_entries value.entries entries;
     }))

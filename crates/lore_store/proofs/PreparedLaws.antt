@@ -1,22 +1,23 @@
 -- The database that a prepared change leads to: what vanishes where nothing is linked anew, its labels, and that it is valid.
-use Rattle.std.proofs.Common.{◌≡◌, ◌≢◌, ℕ, ◌+◌, ◌<◌, ◌≤◌, ◌^◌, ◌⊎◌, ◌↔◌, List, [], ◌++◌, length, get_or, AllPairs, All, refl, sym, ap, subst, inl, inr, arith, ◌∙◌}
+use Rattle.std.proofs.Common.{◌≡◌, ◌≢◌, ℕ, ◌+◌, ◌<◌, ◌≤◌, ◌^◌, ◌↔◌, List, [], ◌++◌, length, get_or, refl, ap, subst, inl, inr, arith, ◌∙◌}
 use Rattle.std.specs.List.{Contains}
 use Rattle.std.proofs.lemmas.List.Elements.{All-contains, Contains-get_or}
-use Rattle.lore_store.specs.Types.{Changes, NAMES, OBJECTS, EDGES, NODES, Auto}
+use Rattle.lore_store.specs.Types.{Changes, NAMES, OBJECTS, EDGES}
 use Rattle.lore_base.specs.declared.edges.Oid.{Oid}
 use Rattle.lore_base.specs.declared.edges.Edge.{Edge}
 use Rattle.lore_base.specs.declared.values.Value.{Value}
 use Rattle.lore_base.specs.Databases.{OemGraph, Database, IsLive, IsLinked, IsReached, IsValid, IsRooted}
-use Rattle.lore_base.specs.ChangeSets.{FitsGraph, Fits, EdgesThen, ObjectsThen, NamesThen, IsRenamed, IsBound, IsLiveThen, IsReachedThen, IsGraphAfter, IsAfter, AreDead}
+use Rattle.lore_base.specs.ChangeSets.{FitsGraph, Fits, EdgesThen, ObjectsThen, NamesThen, IsRenamed, IsLiveThen, IsReachedThen, IsGraphAfter, IsAfter, AreDead}
 use Rattle.lore_base.specs.TargetSets.{AreMoreThan}
 use Rattle.lore_base.specs.Verdicts.{IsClear}
 use Rattle.lore_base.proofs.MemberLaws.{Contains-none}
 use Rattle.lore_base.proofs.ListLaws.{AllPairs-append}
 use Rattle.oem_labels.specs.Labels.{first_uses}
 use Rattle.oem_labels.proofs.TextSetLaws.{first_uses-apart}
-use Rattle.oem_changes.proofs.ValidLaws.{valid_after}
+use Rattle.oem_changes.proofs.ValidLaws.{valid_after, rooted_graph}
 use Rattle.oem_changes.proofs.DeterminedLaws.{one_between, one_after}
-use Rattle.lore_store.specs.Stores.{PlannedDatabase, database_then, order}
+use Rattle.dataguide.specs.Guides.{GuideGraph}
+use Rattle.lore_store.specs.Stores.{PlannedDatabase, database_then, order, IsGuided}
 use Rattle.lore_store.specs.inside.Sizes.{SizeCause}
 use Rattle.lore_store.specs.inside.Unlinked.{LinkNothing}
 
@@ -82,7 +83,7 @@ module _ (graph : OemGraph) (changes : Changes) (rooted : IsRooted graph) (fits 
   parent_reached edge at =
       live_reached edge.parent (_, (All-contains (IsLinked graph.objects) graph.edges edge rooted.well_formed.edges_linked at).parent)
 
-  pub nothing_linked : (after : OemGraph) → IsGraphAfter graph changes after → (after.names ≡ graph.names) × (after.edges ≡ graph.edges)
+  nothing_linked : (after : OemGraph) → IsGraphAfter graph changes after → (after.names ≡ graph.names) × (after.edges ≡ graph.edges)
   nothing_linked after leaves =
       let between : leaves.between ≡ graph.edges =
       one_between graph.edges changes leaves.between graph.edges leaves.linked (record { ascend = rooted.well_formed.ordered.edges_ascend; exact = same_edges }) in
@@ -127,3 +128,11 @@ module _ (db : Database) (changes : Changes) (valid : IsValid db) (fits : Fits d
       where
         few : (limit count : ℕ) → (limit < count → ⊥) → count ≤ limit
         few limit count not_more = omega (arith, not_more)
+
+-- where nothing is linked anew, the guide stays, with no more sets
+pub stays_guided : (db : Database) (guide : GuideGraph) → IsValid db → IsGuided db.graph guide → (changes : Changes) → LinkNothing changes
+    → FitsGraph db.graph changes → (after : OemGraph) → IsGraphAfter db.graph changes after
+    → IsGuided after guide × (AreMoreThan db.nodes after.names after.edges → ⊥)
+stays_guided db guide valid guided changes nothing fits after leaves =
+    let same = nothing_linked db.graph changes (rooted_graph db valid) fits nothing after leaves in
+    (rw (same.0, same.1) guided, rw (same.0, same.1) valid.few_sets)

@@ -1,6 +1,6 @@
 -- A graph after changes that is too large, or whose guide is, is the cause of a refusal, and one that isn't is none.
-use Rattle.std.proofs.Common.{◌≡◌, ℕ, ◌<◌, length, Option, Some, None, sym, subst, inl, inr}
-use Rattle.std.specs.Prelude.{List, [], ◌∷◌}
+use Rattle.std.proofs.Common.{◌<◌, length, Option, Some, None, subst, inl, inr}
+use Rattle.std.specs.Prelude.{[], ◌∷◌}
 use Rattle.lore_store.specs.Types.{Refusal, Changes, NAMES, OBJECTS, EDGES}
 use Rattle.lore_store.specs.Types.refusals
 use Rattle.lore_base.specs.TargetSets.{AreMoreThan}

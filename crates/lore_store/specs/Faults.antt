@@ -2,6 +2,8 @@
 use Rattle.std.specs.Prelude.{Option, Some, None}
 use Rattle.lore_store.specs.Types.refusals
 use Rattle.lore_store.specs.Types.{Refusal}
+use Rattle.dataguide.specs.declared.faults.GuideFault.{GuideFault}
+use Rattle.dataguide.specs.declared.faults.GuideFault.TheVariants as guide
 use Rattle.lore_store.specs.declared.faults.StoreFault.{StoreFault}
 use Rattle.lore_store.specs.declared.faults.StoreFault.TheVariants as fault
 
@@ -12,3 +14,8 @@ refusal_of fault.TooManyObjects = Some refusals.TooManyObjects
 refusal_of fault.TooManyEdges = Some refusals.TooManyEdges
 refusal_of fault.GuideNodes = Some refusals.GuideNodes
 refusal_of fault.NoMemory = None
+
+-- what a fault of the guide is as one of the store
+abbrev pub guide_fault : GuideFault → StoreFault
+guide_fault guide.Nodes = fault.GuideNodes
+guide_fault guide.NoMemory = fault.NoMemory

@@ -1,4 +1,5 @@
 pub mod Types
 pub mod inside
 pub mod Faults
+pub mod Indexes
 pub mod Stores

@@ -2,6 +2,7 @@ ghost use Rattle.std.specs.Prelude.{◌≡◌};
 ghost use Rattle.lore_store.specs.declared.faults.StoreFault.TheVariants as fault;
 ghost use Rattle.lore_store.specs.Faults as spec;
 
+use dataguide::GuideFault;
 use lore_base::{Fault, NoMemory, Refusal};
 use std::alloc::{AllocError, AllocFailed};
 use thiserror::Error;
@@ -46,6 +47,17 @@ impl From<NoMemory> for StoreFault {
 
     fn from(_error: NoMemory) -> StoreFault {
         StoreFault::NoMemory
+    }
+}
+
+impl From<GuideFault> for StoreFault {
+    ghost from_gives = { λ error given. given ≡ spec.guide_fault error };
+
+    fn from(error: GuideFault) -> StoreFault {
+        match error {
+            GuideFault::Nodes => StoreFault::GuideNodes,
+            GuideFault::NoMemory => StoreFault::NoMemory,
+        }
     }
 }
 

@@ -10,5 +10,6 @@ pub use prepared::Prepared;
 pub use store::Store;
 
 mod faults;
+mod indexes;
 mod prepared;
 mod store;

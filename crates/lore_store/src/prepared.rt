@@ -1,17 +1,15 @@
+use crate::indexes::IndexPlan;
 use dataguide::Guide;
-use link_index::LinkPlan;
 use oem_graph::GraphPlan;
 use oem_labels::LabelPlan;
 use std::marker::Model;
-use value_index::ValuePlan;
 
 /// What a change leads to, worked out by `Store::prepare` and put in place by `Store::commit`.
 #[derive(Drop)]
 pub struct Prepared {
     pub(crate) graph: GraphPlan,
     pub(crate) labels: LabelPlan,
-    pub(crate) links: LinkPlan,
-    pub(crate) values: ValuePlan,
+    pub(crate) indexes: IndexPlan,
     // The guide then, where it is another.
     pub(crate) guide: Option<Guide>,
 }
@@ -24,8 +22,7 @@ impl Model for Prepared {
     ghost view = { λ p. record {
       graph = p.graph;
       labels = p.labels;
-      links = p.links;
-      values = p.values;
+      indexes = p.indexes;
       guide = p.guide;
     } };
 }

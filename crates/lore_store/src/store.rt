@@ -1,4 +1,4 @@
-ghost use Rattle.std.specs.Prelude.{◌≡◌, [], ◌∷◌, IsTrue, IfOk, IfErr, OnOk};
+ghost use Rattle.std.specs.Prelude.{◌≡◌, ◌↔◌, [], ◌∷◌, IsTrue, IfOk, IfErr, OnOk};
 ghost use Rattle.lore_base.specs.Databases.{IsValid, new_database};
 ghost use Rattle.lore_base.specs.ChangeSets.{FitsGraph, Fits, IsAfter, IsGraphAfter, AreDead};
 ghost use Rattle.lore_base.specs.TargetSets.{AreMoreThan};
@@ -9,25 +9,25 @@ ghost use Rattle.index_traits.specs.Entries.{AreLinks, AreValueEntries};
 ghost use Rattle.lore_store.specs.Faults.{refusal_of};
 ghost use Rattle.lore_store.specs.Types.refusals;
 ghost use Rattle.lore_store.specs.Stores as spec;
-ghost use Rattle.lore_store.specs.Stores.{database_then, LeadsOn, HasRoomFor, AreIndexed, IsGuided};
-ghost use Rattle.lore_store.specs.Stores.{SetsLimit, order};
+ghost use Rattle.lore_store.specs.Stores.{database_then, LeadsOn, HasRoomFor, IsGuided};
+ghost use Rattle.lore_store.specs.Stores.{IsLimit, order};
 ghost use Rattle.lore_store.specs.inside.Sizes.{SizeCause, NodesCause};
 ghost use Rattle.lore_store.specs.inside.Unlinked.{LinkNothing};
 
 use crate::faults::StoreFault;
+use crate::indexes::Indexes;
 use crate::prepared::Prepared;
-use dataguide::{Guide, GuideFault};
-use link_index::{LinkIndex, LinkPlan};
+use dataguide::Guide;
+use link_index::LinkIndex;
 use lore_base::limits::{EDGES, NAMES, NODES, OBJECTS};
 use lore_base::{Changes, NoMemory, OidBuf, Steps};
-use oem_graph::{EdgeChanges, Graph, GraphPlan};
+use oem_graph::{Graph, GraphPlan};
 use oem_labels::LabelTable;
 use oem_reach::dead_objects;
 use std::alloc::Global;
 use std::marker::Model;
 use std::sync::ledger::Ledger;
-use value_changes::{EntryChanges, GraphChanges, entry_changes};
-use value_index::{ValueIndex, ValuePlan};
+use value_index::ValueIndex;
 
 /// One valid database: its graph, its table of labels, its limit on the guide's nodes, its guide, and
 /// the indexes of its links and values, all as they would be built from it. Contracts see it as that
@@ -36,8 +36,7 @@ use value_index::{ValueIndex, ValuePlan};
 pub struct Store {
     graph: Graph,
     labels: LabelTable,
-    links: LinkIndex,
-    values: ValueIndex,
+    indexes: Indexes,
     guide: Guide,
     limit: u32,
 }
@@ -50,13 +49,12 @@ impl Model for Store {
     ghost view = { λ s. record {
       db = database_of s.labels s.graph.graph s.limit;
       kept = s.graph;
-      links = s.links;
-      values = s.values;
+      indexes = s.indexes;
       guide = s.guide;
     } };
 
     ghost invariant = { λ s.
-        IsStored (database_of s.labels s.graph.graph s.limit) s.links s.values s.guide };
+        IsStored (database_of s.labels s.graph.graph s.limit) s.indexes s.guide };
 }
 
 impl Store {
@@ -67,8 +65,7 @@ impl Store {
         Store {
             graph: Graph::new(alloc),
             labels: LabelTable::new(alloc),
-            links: LinkIndex::new(alloc),
-            values: ValueIndex::new(alloc),
+            indexes: Indexes::new(alloc),
             guide: Guide::new(alloc),
             limit: NODES,
         }
@@ -93,7 +90,7 @@ impl Store {
     pub fn links(&self) -> &LinkIndex
         ensures { AreLinks self.now.db.graph.edges result.now.links }
     {
-        &self.links
+        &self.indexes.links
     }
 
     /// The index of its atomic values by the labels of the edges that enter their objects.
@@ -101,7 +98,7 @@ impl Store {
         ensures { AreValueEntries self.now.db.graph.objects self.now.db.graph.edges
             result.now.entries }
     {
-        &self.values
+        &self.indexes.values
     }
 
     /// The guide of the database, its nodes in the order of their least label paths (Goldman and
@@ -123,7 +120,10 @@ impl Store {
     /// Sets the most nodes that the guide may have. False, and nothing changes, exactly where the
     /// number is below 1, above 4,096, or below the number of nodes that there are. Takes no memory.
     pub fn set_limit(&mut self, limit: u32) -> bool
-        ensures { SetsLimit self.old.db limit result self.new.db }
+        ensures told { IsTrue result ↔ IsLimit self.old.db limit }
+        ensures set { IsTrue result → self.new.db ≡ record self.old.db { nodes = limit } }
+        ensures same { ¬ IsTrue result → self.new.db ≡ self.old.db }
+        ensures guide { self.new.guide ≡ self.old.guide }
     {
         if limit < 1 || limit > NODES || limit < self.guide.len() {
             return false;
@@ -154,12 +154,13 @@ impl Store {
         self.check_sizes(&graph)?;
         let guide = self.guide_then(alloc, changes, &graph, steps)?;
         let labels = self.labels.plan_new(&changes.labels)?;
-        let (links, values) = self.indexes_then(alloc, changes, &graph, steps)?;
+        let indexes = self
+            .indexes
+            .prepare(alloc, &self.graph, changes, &graph, steps)?;
         Ok(Prepared {
             graph,
             labels,
-            links,
-            values,
+            indexes,
             guide,
         })
     }
@@ -172,8 +173,7 @@ impl Store {
         ensures guide { self.new.guide ≡ self.old.guide }
     {
         self.graph.reserve(&prepared.graph)?;
-        self.links.reserve(&prepared.links)?;
-        self.values.reserve(&prepared.values)
+        self.indexes.reserve(&prepared.indexes)
     }
 
     /// Puts in place what was prepared. Takes no memory.
@@ -185,14 +185,12 @@ impl Store {
         let Prepared {
             graph,
             labels,
-            links,
-            values,
+            indexes,
             guide,
         } = prepared;
         self.graph.commit(graph);
         self.labels.commit_new(labels);
-        self.links.commit(links);
-        self.values.commit(values);
+        self.indexes.commit(indexes);
         if let Some(guide) = guide {
             self.guide = guide;
         }
@@ -218,35 +216,6 @@ impl Store {
         dead_objects(alloc, names, &overlay, lost, fresh, changes, steps)
     }
 
-    // Which entries of the indexes go and come where the graph becomes that of the plan.
-    fn indexes_then<L: Ledger>(
-        &self,
-        alloc: Global,
-        changes: &Changes,
-        plan: &GraphPlan,
-        steps: &mut Steps<L>,
-    ) -> Result<(LinkPlan, ValuePlan), NoMemory>
-        requires fits { FitsGraph self.now.db.graph changes.now }
-        requires after { IsGraphAfter self.now.db.graph changes.now
-            (graph_then self.now.db.graph plan.now) }
-        requires sized { IsClear (SizeCause (graph_then self.now.db.graph plan.now)) order }
-        ensures { IfOk result (λ plans. AreIndexed self.now.db.graph
-            (graph_then self.now.db.graph plan.now) plans.0 plans.1) }
-    {
-        let EdgeChanges { lost, fresh } = self.graph.edge_changes(plan)?;
-        let links = self.links.prepare(&lost, &fresh)?;
-        let then = self.graph.then(plan);
-        let changes = GraphChanges {
-            lost: lost.as_slice(),
-            fresh: fresh.as_slice(),
-            given: changes.values.as_slice(),
-        };
-        let entries = entry_changes(alloc, &self.links, &self.graph, &then, changes, steps)?;
-        let EntryChanges { gone, come } = entries;
-        let values = self.values.prepare(&gone, &come)?;
-        Ok((links, values))
-    }
-
     // The guide of the graph that the plan leads to. None where nothing is linked anew, and so the
     // guide stays.
     fn guide_then<L: Ledger>(
@@ -267,16 +236,13 @@ impl Store {
             IfErr result (λ fault. IsToldBy (NodesCause self.now.db.nodes after)
             (refusals.GuideNodes ∷ []) (refusal_of fault)) }
     {
-        let limit = self.limit;
+        let then = self.graph.then(plan);
         if link_nothing(changes) {
             return Ok(None);
         }
-        let then = self.graph.then(plan);
-        match Guide::build(alloc, &then, plan.names(), limit, steps) {
-            Ok(guide) => Ok(Some(guide)),
-            Err(GuideFault::Nodes) => Err(StoreFault::GuideNodes),
-            Err(GuideFault::NoMemory) => Err(StoreFault::NoMemory),
-        }
+        let limit = self.limit;
+        let guide = Guide::build(alloc, &then, plan.names(), limit, steps)?;
+        Ok(Some(guide))
     }
 
     // Refuses a plan after which the database would hold too much.

@@ -5,9 +5,8 @@ use Rattle.std.specs.List.{flat_map}
 use Rattle.std.specs.declared.cmp.Ordering.{Ordering}
 use Rattle.std.specs.declared.cmp.Ordering.TheVariants.{Less}
 use Rattle.lore_base.specs.Walks.{out_of}
-use Rattle.lore_base.specs.TargetSets.{ListsInOrder}
+use Rattle.lore_base.specs.TargetSets.{ListsInOrder, LeavesTo, IsStep}
 use Rattle.dataguide.specs.Types.{Oid, Label, Edge}
-use Rattle.lore_base.specs.TargetSets.{LeavesTo, IsStep}
 
 -- arcs in the order of label and child
 abbrev pub arc_cmp : Label × Oid → Label × Oid → Ordering

@@ -8,10 +8,7 @@ use Rattle.std.specs.BTreeMap.{is_at}
 use Rattle.lore_base.specs.Bytes.{bytes_cmp}
 use Rattle.oem_set.specs.Sets.{hash_of}
 use Rattle.dataguide.specs.Types.{Oid, Node, GuideNode}
-use Rattle.dataguide.specs.Guides.{AscendByLabel, HasSet}
-
-abbrev pub node_number : ℕ → Node
-node_number place = record { 0 = place }
+use Rattle.dataguide.specs.Guides.{AscendByLabel, HasSet, node_number}
 
 -- the nodes under a hash
 abbrev pub listed : List (ℕ × List Node) → ℕ → List Node

@@ -1,12 +1,10 @@
 -- A search from the names on its way: the sets found so far, each with the path that it was found by.
-use Rattle.std.specs.Prelude.{◌≡◌, ◌≢◌, ◌⊎◌, ℕ, ◌<◌, List, [], ◌∷◌, ◌++◌, map, Some, slice_get}
-use Rattle.std.specs.Prelude.{All, AllPairs, Contains}
+use Rattle.std.specs.Prelude.{◌≡◌, ◌≢◌, ◌⊎◌, ℕ, ◌<◌, List, [], ◌∷◌, ◌++◌, map, Some, slice_get, All, AllPairs, Contains}
 use Rattle.std.specs.List.{AllZip}
 use Rattle.lore_base.specs.Lists.{Extends}
-use Rattle.lore_base.specs.TargetSets.{ListsInOrder}
+use Rattle.lore_base.specs.TargetSets.{ListsInOrder, LabelPath, LeadsTo, LeavesTo, IsStep}
 use Rattle.dataguide.specs.Types.{Oid, Label, Edge, Node, GuideNode}
-use Rattle.lore_base.specs.TargetSets.{LabelPath, LeadsTo, LeavesTo, IsStep}
-use Rattle.dataguide.specs.LabelPaths.{ComesBefore}
+use Rattle.dataguide.specs.PathOrder.{ComesBefore}
 use Rattle.dataguide.specs.Guides.{sets_of, HasSet, AscendByLabel}
 use Rattle.dataguide.specs.inside.Arcs.{AreGroups, AreSteps}
 use Rattle.dataguide.specs.inside.Entering.{AreEntered, AreTooMany}

@@ -1,5 +1,6 @@
 -- How rows are found: objects are put into one slot after another, and rows are noted down as they come.
-use Rattle.std.specs.Prelude.{◌≡◌, ◌≢◌, ℕ, ◌+◌, ◌-◌, ◌<◌, ◌≤◌, ◌⊎◌, ◌↔◌, Bool, true, false, List, [], ◌∷◌, ◌++◌, length, take, replicate, All, AllPairs, Contains}
+use Rattle.std.specs.Prelude.{◌≡◌, ◌≢◌, ℕ, ◌+◌, ◌-◌, ◌<◌, ◌≤◌, ◌⊎◌, ◌↔◌, Bool, true, false}
+use Rattle.std.specs.Prelude.{List, [], ◌∷◌, ◌++◌, length, take, replicate, All, AllPairs, Contains}
 use Rattle.std.specs.List.{AllZip}
 use Rattle.lore_db.specs.Types.{Oid, Edge, Start, RANGES, ROWS}
 use Rattle.lore_base.specs.Walks.{oid_of}
@@ -60,8 +61,8 @@ pub record IsReady (ranges : List RangeTree) (cells : List Start) (filled : ℕ)
   pub within : All (IsWithin (filled + length ranges)) cells
   pub slots : row ≡ in_eight (take filled row)
 
--- to the rows found come those that are asked for; or, where that is cut off, some of them, and then there are more than
--- the limit
+-- to the rows found come those that are asked for; or, where that is cut off, some of them, and then there are more
+-- than the limit
 pub record Finds (IsAsked : List Oid → Type 0) (old new : List (List Oid)) (cut : Bool) : Type 0 where
   pub kept : (row : List Oid) → Contains old row → Contains new row
   pub sound : (row : List Oid) → Contains new row → Contains old row ⊎ IsAsked row

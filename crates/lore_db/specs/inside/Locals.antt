@@ -13,7 +13,8 @@ use Rattle.lore_db.specs.inside.Finding.{AreTooMany}
 
 -- no local of the literal is wrong
 abbrev pub HasSoundLocals : StatementTree → Type 0
-HasSoundLocals statement = MatchOption (makes statement) (Unit {0}) (λ literal. IsClear (LocalCause literal) local_order)
+HasSoundLocals statement =
+    MatchOption (makes statement) (Unit {0}) (λ literal. IsClear (LocalCause literal) local_order)
 
 -- the cause of each refusal of its locals
 abbrev pub MadeLocals : StatementTree → Refusal → Type 0
@@ -23,4 +24,5 @@ MadeLocals statement refusal = MatchOption (makes statement) ⊥ (λ literal. Lo
 abbrev pub StopsRows : Database → StatementTree → BoundTree → Option Refusal → Type 0
 StopsRows db statement bound told =
     IsToldBy (MadeLocals statement) local_order told
-    ⊎ (HasSoundLocals statement × IfSome told (λ refusal. (refusal ≡ refusals.TooManyRows) × AreTooMany (IsSlotRow db bound)))
+    ⊎ (HasSoundLocals statement
+    × IfSome told (λ refusal. (refusal ≡ refusals.TooManyRows) × AreTooMany (IsSlotRow db bound)))

@@ -1,6 +1,8 @@
--- Rows are totally ordered by their cells from the left, and equal rows are one: what the impls of comparison and hash owe.
+-- Rows are totally ordered by their cells from the left, and equal rows are one: what the impls of comparison and hash
+-- owe.
 use Rattle.std.proofs.Common.{◌≡◌, Bool, true, List, Some, sym, subst, nat_eq}
-use Rattle.std.specs.Cmp.{IsTotalOrder, IsPartialOrder, IsEquivalence, partial_order_from_total, on_total, on_equiv, nat_cmp_total, nat_eq_equiv, unsigned_ties, unsigned_Decides}
+use Rattle.std.specs.Cmp.{IsTotalOrder, IsPartialOrder, IsEquivalence, partial_order_from_total, on_total, on_equiv}
+use Rattle.std.specs.Cmp.{nat_cmp_total, nat_eq_equiv, unsigned_ties, unsigned_Decides}
 use Rattle.std.specs.Cmp.Lexicographic.{pointwise, lists_total, lists_equiv, lists_ties}
 use Rattle.std.specs.Ordering.{nat_cmp, eq_by_cmp}
 use Rattle.std.specs.Hash.{HashWrites, u32, slice, same_Alike, on_Alike, items_Alike}

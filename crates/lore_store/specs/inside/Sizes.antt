@@ -12,7 +12,7 @@ SizeCause graph refusals.TooManyObjects = OBJECTS < length graph.objects
 SizeCause graph refusals.TooManyEdges = EDGES < length graph.edges
 SizeCause graph _ = ⊥
 
--- label paths lead to more sets in the graph than the limit
+-- label paths lead to more sets in the graph than the limit, which is the database's and not the graph's
 abbrev pub NodesCause : ℕ → OemGraph → Refusal → Type 0
 NodesCause limit graph refusals.GuideNodes = AreMoreThan limit graph.names graph.edges
 NodesCause limit graph _ = ⊥

@@ -6,7 +6,8 @@ use Rattle.dataguide.proofs.arcs.ascend.Goals as goal
 pub arcs-preserved : goal.arcs-preserved
 arcs-preserved c = λ k d less. elim (cases_lt (k + 1) c.arcs.place) [
   | inl before ↦ c.arcs.invariant k d before
-  | inr here ↦ next-at c.args.arcs.now c.arcs.place _ _ c.arcs-test.true (c.if-not-comes_before.ensures.0 refl) k d (omega (arith, here, less))
+  | inr here ↦ next-at c.args.arcs.now c.arcs.place _ _ c.arcs-test.true (c.if-not-comes_before.ensures.0 refl) k d
+      (omega (arith, here, less))
 ]
 
 pub returns : goal.returns

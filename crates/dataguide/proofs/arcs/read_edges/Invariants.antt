@@ -1,5 +1,5 @@
 use Rattle.std.proofs.Common.{◌≡◌, ◌+◌, take}
-use Rattle.dataguide.specs.LabelPaths.{reads_of}
+use Rattle.dataguide.specs.ReadCosts.{reads_of}
 use Rattle.dataguide.specs.inside.Arcs.{leaving}
 use Rattle.dataguide.proofs.arcs.read_edges.Given as goal
 

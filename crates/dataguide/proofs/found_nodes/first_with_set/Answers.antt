@@ -8,9 +8,11 @@ use Rattle.dataguide.proofs.found_nodes.first_with_set.Goals as goal
 
 pub listed-preserved : goal.listed-preserved
 listed-preserved c =
-    All-more (λ (node : Node). ¬ HasSet c.args.nodes.now node c.args.set.now) c.args.listed.now c.listed.node-index (record { 0 = 0 }) c.listed-test.true c.listed.invariant
+    All-more (λ (node : Node). ¬ HasSet c.args.nodes.now node c.args.set.now) c.args.listed.now c.listed.node-index
+    (record { 0 = 0 }) c.listed-test.true c.listed.invariant
     (λ has. false≢true (c.if-has_set.ensures.1 has))
 
 pub returns-clause-none : goal.returns-clause-none
 returns-clause-none c =
-    subst (λ (l : List Node). All (λ node. ¬ HasSet c.args.nodes.now node c.args.set.now) l) (take_all c.listed.node-index c.args.listed.now c.listed-test.false) c.listed.invariant
+    subst (λ (l : List Node). All (λ node. ¬ HasSet c.args.nodes.now node c.args.set.now) l)
+    (take_all c.listed.node-index c.args.listed.now c.listed-test.false) c.listed.invariant

@@ -10,4 +10,5 @@ from_ascending-requires c =
     let are : c.arcs.oids ≡ map (λ (arc : Label × Oid). arc.1) arcs =
     c.arcs.invariant ∙ ap (map (λ (arc : Label × Oid). arc.1)) (take_all c.arcs.arc-index arcs c.arcs-test.false) in
     subst (λ (l : List Oid). AllPairs (λ a b. a.0 < b.0) l) (sym are)
-    (AllPairs-map (λ (arc : Label × Oid). arc.1) (λ (a b : Label × Oid). a.1.0 < b.1.0) (λ (a b : Oid). a.0 < b.0) (λ a b less. less) arcs c.requires)
+    (AllPairs-map (λ (arc : Label × Oid). arc.1) (λ (a b : Label × Oid). a.1.0 < b.1.0) (λ (a b : Oid). a.0 < b.0)
+    (λ a b less. less) arcs c.requires)

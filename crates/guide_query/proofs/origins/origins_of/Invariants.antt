@@ -4,5 +4,5 @@ use Rattle.guide_query.proofs.origins.origins_of.Given as goal
 
 abbrev pub invariant-nodes : goal.invariant-nodes
 invariant-nodes l = record {
-  met : AreOrigins l.guide l.names l.labels (record { names = length l.names; nodes = l.place; edges = 0 }) l.origins.items;
+  met : AreOrigins l.guide (record { entries = length l.guide.entries; nodes = l.place; edges = 0 }) l.origins.items;
 }

@@ -3,5 +3,5 @@ use Rattle.guide_query.proofs.written.node_lines.Given as goal
 
 abbrev pub invariant-nodes : goal.invariant-nodes
 invariant-nodes l = record {
-  written : AreWritten l.names l.labels l.guide.nodes l.origins l.place l.lines;
+  written : AreWritten l.guide l.labels l.origins l.place l.lines;
 }

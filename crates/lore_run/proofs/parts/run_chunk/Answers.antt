@@ -1,8 +1,13 @@
 use Rattle.std.proofs.Common.{[]}
 use Rattle.lore_run.specs.Runs.{chunk}
 use Rattle.lore_run.specs.inside.Turns.{standing}
+use Rattle.lore_run.proofs.ReplyLaws.{yields-some}
 use Rattle.lore_run.proofs.RespondLaws.{replied_whole, replied_in_part}
 use Rattle.lore_run.proofs.parts.run_chunk.Goals as goal
+
+pub respond-responded-requires-clause-some : goal.respond-responded-requires-clause-some
+respond-responded-requires-clause-some g c =
+    yields-some c.args.session.now (chunk c.args.text.now) c.in-Ok.reply c.answer.new.session c.in-Ok.ensures.ok
 
 pub returns-clause-ok : goal.returns-clause-ok
 returns-clause-ok g c =

@@ -1,6 +1,6 @@
 use Rattle.std.proofs.Common.{◌≡◌, ◌+◌, ◌-◌, ◌≤◌, ◌^◌, length, take}
 use Rattle.std.specs.List.{sum_by}
-use Rattle.dataguide.specs.LabelPaths.{reads_of}
+use Rattle.dataguide.specs.ReadCosts.{reads_of}
 use Rattle.dataguide.specs.Guides.{sets_of}
 use Rattle.dataguide.specs.inside.NodeTables.{AreStarts}
 use Rattle.dataguide.specs.inside.Trails.{IsSearched}

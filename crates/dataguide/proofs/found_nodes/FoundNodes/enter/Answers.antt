@@ -1,13 +1,14 @@
 use Rattle.std.proofs.Common.{◌≡◌, ◌<◌, List, ◌∷◌, [], ◌++◌, length, Contains, sym, subst, arith}
 use Rattle.dataguide.specs.Types.{GuideNode}
-use Rattle.dataguide.specs.Guides.{HasSet}
-use Rattle.dataguide.specs.inside.NodeTables.{IsNodeTable, listed, node_number}
+use Rattle.dataguide.specs.Guides.{HasSet, node_number}
+use Rattle.dataguide.specs.inside.NodeTables.{IsNodeTable, listed}
 use Rattle.dataguide.proofs.PlaceLaws.{at-map, at-push}
 use Rattle.dataguide.proofs.TableLaws.{table-wider, table-push}
 use Rattle.dataguide.proofs.found_nodes.FoundNodes.enter.Goals as goal
 
 pub invariant_of-self : goal.invariant_of-self
-invariant_of-self c = table-wider c.self.inside.by_hash c.push.new.self c.self.inside.nodes.items c.push.ensures.kept c.self.invariant
+invariant_of-self c =
+    table-wider c.self.inside.by_hash c.push.new.self c.self.inside.nodes.items c.push.ensures.kept c.self.invariant
 
 pub invariant_of-self-in_err-push-2 : goal.invariant_of-self-in_err-push-2
 invariant_of-self-in_err-push-2 c =
@@ -19,7 +20,8 @@ invariant_of-self-2 c =
     let nodes = c.self.inside.nodes.items in
     let node : GuideNode = record { set = c.args.set; edges = c.new-edges.result } in
     let count : c.len-2.result ≡ length nodes = omega (arith, c.len-2.ensures, c.self.inside.nodes.ok.0) in
-    let few : length nodes < 4_294_967_295 = omega (arith, c.len.ensures, c.if-len-limit.false, c.ranges.limit.fits, c.self.inside.nodes.ok.0) in
+    let few : length nodes < 4_294_967_295 =
+    omega (arith, c.len.ensures, c.if-len-limit.false, c.ranges.limit.fits, c.self.inside.nodes.ok.0) in
     let there = subst (λ k. Contains (listed c.push.new.self k) (node_number (length nodes))) c.hash64.ensures
     (subst (λ k. Contains (listed c.push.new.self c.hash64.result) (node_number k)) count c.in_ok-push.ensures.added) in
     subst (λ (l : List GuideNode). IsNodeTable c.push.new.self l) (sym c.in_ok-push-2.ensures.items)

@@ -12,5 +12,6 @@ returns-clause-kept c =
     ∙ ap (λ (l : List Node). l ++ c.args.node ∷ [])
     (c.in_ok-append.ensures.ok ∙ ap (λ (l : List Node). l ++ c.get.result.now) c.new-list.ensures ∙ c.get.ensures
     ∙ ap (λ (l : List (ℕ × List Node)). listed l c.args.hash) (sym c.self.view_is)) in
-    λ other there at. listed-kept old c.insert.new.self.entries c.args.hash c.push.new.self c.args.node list c.in_ok-insert.ensures.updates.0 other there
+    λ other there at. listed-kept old c.insert.new.self.entries c.args.hash c.push.new.self c.args.node list
+    c.in_ok-insert.ensures.updates.0 other there
     (subst (λ (l : List (ℕ × List Node)). Contains (listed l other) there) (sym c.self.view_is) at)

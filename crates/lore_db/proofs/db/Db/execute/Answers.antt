@@ -65,7 +65,7 @@ returns-in-Guide-clause-ok g c =
     let done = c.show_guide.result in
     subst (λ (s : Statement). IfOk c.reply_of-in-Guide.result (λ reply. Executes db (statement_tree s) reply db)) (sym c.in-Guide.is)
     (replied db db guide done c.reply_of-in-Guide.result c.reply_of-in-Guide.ensures (shown db done c.show_guide.ensures.ok)
-    (unchanged done db) (shown_told db done c.show_guide.ensures.refused))
+    (unchanged done db) (shown_told db done c.show_guide.ensures.unrefused))
 
 -- the number is one of 64 bits, and so it is passed as it is
 pub returns-in-SetNodes-clause-ok : goal.returns-in-SetNodes-clause-ok

@@ -5,7 +5,6 @@ use Rattle.oem_text.specs.Faults.{text_refusal}
 use Rattle.lore_db.specs.Statements.{loading, Cause, order}
 use Rattle.lore_db.specs.inside.Stops.{told}
 use Rattle.lore_db.proofs.StopLaws.{told_on, told_again}
-use Rattle.lore_db.proofs.CauseLaws.{load_its}
 use Rattle.lore_db.proofs.LoadLaws.{part_told, part_clear, part_loads}
 use Rattle.lore_db.proofs.ExecutionLaws.{same_as, changes_fit, changes_told, changes_lead}
 use Rattle.lore_db.proofs.db.Db.load.Goals as goal
@@ -48,7 +47,7 @@ returns-in_err-apply-clause-refused g c =
     let clear = part_clear db valid name literal c.labels.result.now c.next-next.result table number c.in_ok-part.ensures.ok in
     told_again (Cause db (load name literal)) order c.from_residual-in_err-apply.result c.in_err-apply.field-0.0 c.from_residual-in_err-apply.ensures.1
     (changes_told db (load name literal) [] refl c.in_ok-changes.changes (same_as (loading db name literal) c.in_ok-changes.changes is) clear
-    (load_its db name literal) (told c.in_err-apply.field-0.0) c.in_err-apply.ensures.refused)
+    refl (told c.in_err-apply.field-0.0) c.in_err-apply.ensures.refused)
 
 pub returns-clause-ok : goal.returns-clause-ok
 returns-clause-ok g c =
@@ -61,5 +60,5 @@ returns-clause-ok g c =
     let is = c.in_ok-changes.ensures ∙ part_loads db valid name literal c.labels.result.now c.next-next.result table number c.in_ok-part.part c.in_ok-part.ensures.part in
     let clear = part_clear db valid name literal c.labels.result.now c.next-next.result table number c.in_ok-part.ensures.ok in
     inl (changes_lead db (load name literal) [] refl c.in_ok-changes.changes (same_as (loading db name literal) c.in_ok-changes.changes is) clear
-    (load_its db name literal) (λ outside. outside) c.apply.new.self c.counts.result c.in_ok-apply.ensures.clear c.in_ok-apply.ensures.ok
+    refl (λ outside. outside) c.apply.new.self c.counts.result c.in_ok-apply.ensures.clear c.in_ok-apply.ensures.ok
     c.counts.ensures)

@@ -1,59 +1,37 @@
-use Rattle.std.proofs.Common.{◌≡◌, ℕ, ◌<◌, inl, inr, length, List, refl, sym, ap, subst, arith}
-use Rattle.lore_base.specs.TargetSets.{AreMoreThan}
-use Rattle.dataguide.proofs.CountLaws.{nodes_are_counted}
-use Rattle.lore_store.specs.Types.{NODES}
-use Rattle.lore_store.specs.Stores.{RoomyDatabase, database_of}
+use Rattle.std.proofs.Common.{refl, true≢false, sym, subst, arith}
+use Rattle.lore_store.specs.Stores.{RoomyDatabase, IsLimit, database_of}
+use Rattle.lore_store.proofs.LimitLaws.{none_above, is_limit, valid_limited}
 use Rattle.lore_store.proofs.store.Store.set_limit.Goals as goal
 use Rattle.lore_store.proofs.store.Store.set_limit.Goals.{then-limit-lt1-via-then-limit-lt1, then-limit-lt1-via-else-limit-lt1+then-limit-gt-NODES, then-limit-lt1-via-else-limit-lt1+else-limit-gt-NODES+then-limit-len}
 
-pub returns-then-limit-lt1 : goal.returns-then-limit-lt1
-returns-then-limit-lt1 c = elim c.then-limit-lt1.branch [
-  | then-limit-lt1-via-then-limit-lt1 w ↦ inr (refl, inl w.if-limit-lt1.true, refl)
-  | then-limit-lt1-via-else-limit-lt1+then-limit-gt-NODES w ↦ inr (refl, inr (inl w.if-limit-gt-NODES.true), refl)
-  | then-limit-lt1-via-else-limit-lt1+else-limit-gt-NODES+then-limit-len w ↦ inr (
-    refl,
-    inr (inr
-        (subst (λ (s : RoomyDatabase). AreMoreThan c.args.limit s.db.graph.names s.db.graph.edges) c.self.view_is
-        ((nodes_are_counted c.args.limit c.self.inside.graph.graph.names c.self.inside.graph.graph.edges c.self.inside.guide c.self.invariant.guided.stands).0
-        (omega (arith, w.if-limit-len.true, w.len.ensures))))),
-    refl,
-  )
-]
+pub returns-then-limit-lt1-clause-told : goal.returns-then-limit-lt1-clause-told
+returns-then-limit-lt1-clause-told c = (
+  λ told. absurd (true≢false (sym told)),
+  λ limit.
+      let db = database_of c.self.inside.labels c.self.inside.graph.graph c.self.inside.limit in
+      let is = subst (λ (s : RoomyDatabase). IsLimit s.db c.args.limit) (sym c.self.view_is) limit in
+      elim c.then-limit-lt1.branch [
+        | then-limit-lt1-via-then-limit-lt1 w ↦ absurd (omega (arith, w.if-limit-lt1.true, is.low))
+        | then-limit-lt1-via-else-limit-lt1+then-limit-gt-NODES w ↦ absurd (omega (arith, w.if-limit-gt-NODES.true, is.high))
+        | then-limit-lt1-via-else-limit-lt1+else-limit-gt-NODES+then-limit-len w ↦ absurd
+            (none_above db c.self.inside.guide c.self.invariant.guided c.args.limit is (omega (arith, w.if-limit-len.true, w.len.ensures)))
+      ],
+)
 
 pub invariant_of-self : goal.invariant_of-self
 invariant_of-self c =
-    let valid = c.self.invariant.valid in
-    let few : AreMoreThan c.args.limit c.self.inside.graph.graph.names c.self.inside.graph.graph.edges → ⊥ = λ more.
-    let above = (nodes_are_counted c.args.limit c.self.inside.graph.graph.names c.self.inside.graph.graph.edges c.self.inside.guide c.self.invariant.guided.stands).1 more in
-    omega (arith, above, c.len.ensures, c.if-limit-len.false) in
+    let db = database_of c.self.inside.labels c.self.inside.graph.graph c.self.inside.limit in
+    let is = is_limit db c.self.inside.guide c.self.invariant.guided c.args.limit (omega (arith, c.if-limit-lt1.false))
+    (omega (arith, c.if-limit-gt-NODES.false)) (λ above. omega (arith, above, c.len.ensures, c.if-limit-len.false)) in
     record {
-      valid = record {
-        labels_distinct = valid.labels_distinct;
-        labels_formed = valid.labels_formed;
-        well_formed = valid.well_formed;
-        labelled = valid.labelled;
-        reached = valid.reached;
-        few_labels = valid.few_labels;
-        few_names = valid.few_names;
-        few_objects = valid.few_objects;
-        few_edges = valid.few_edges;
-        nodes_limited = (omega (arith, c.if-limit-lt1.false), omega (arith, c.if-limit-gt-NODES.false));
-        few_sets = few;
-      };
+      valid = valid_limited db c.self.invariant.valid c.args.limit is;
+      indexes = c.self.invariant.indexes;
       guided = c.self.invariant.guided;
-      links = c.self.invariant.links;
-      values = c.self.invariant.values;
     }
 
-pub returns : goal.returns
-returns c =
-    let few : AreMoreThan c.args.limit c.self.inside.graph.graph.names c.self.inside.graph.graph.edges → ⊥ = λ more.
-    let above = (nodes_are_counted c.args.limit c.self.inside.graph.graph.names c.self.inside.graph.graph.edges c.self.inside.guide c.self.invariant.guided.stands).1 more in
-    omega (arith, above, c.len.ensures, c.if-limit-len.false) in
-    inl (
-      refl,
-      omega (arith, c.if-limit-lt1.false),
-      omega (arith, c.if-limit-gt-NODES.false),
-      subst (λ (s : RoomyDatabase). AreMoreThan c.args.limit s.db.graph.names s.db.graph.edges → ⊥) c.self.view_is few,
-      ap (λ (s : RoomyDatabase). record s.db { nodes = c.args.limit }) c.self.view_is,
-    )
+pub returns-clause-told : goal.returns-clause-told
+returns-clause-told c =
+    let db = database_of c.self.inside.labels c.self.inside.graph.graph c.self.inside.limit in
+    let is = is_limit db c.self.inside.guide c.self.invariant.guided c.args.limit (omega (arith, c.if-limit-lt1.false))
+    (omega (arith, c.if-limit-gt-NODES.false)) (λ above. omega (arith, above, c.len.ensures, c.if-limit-len.false)) in
+    (λ told. subst (λ (s : RoomyDatabase). IsLimit s.db c.args.limit) c.self.view_is is, λ limit. refl)

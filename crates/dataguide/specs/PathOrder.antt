@@ -1,29 +1,13 @@
--- What it costs to read target sets, and the order of label paths (Goldman and Widom 1997).
-use Rattle.std.specs.Prelude.{◌≡◌, ◌≢◌, ◌⊎◌, ℕ, ◌+◌, ◌<◌, ◌≤◌, List, length, sum_by}
-use Rattle.std.specs.Prelude.{All, AllPairs}
+-- The order of label paths (Goldman and Widom 1997).
+use Rattle.std.specs.Prelude.{◌≡◌, ◌⊎◌, ℕ, ◌<◌, List, length, AllPairs}
 use Rattle.std.specs.List.{AllZip}
 use Rattle.std.specs.Ordering.{nat_cmp}
 use Rattle.std.specs.Cmp.Lexicographic.{slice_cmp}
 use Rattle.std.specs.declared.cmp.Ordering.{Ordering}
 use Rattle.std.specs.declared.cmp.Ordering.TheVariants.{Less}
 use Rattle.lore_base.specs.Bytes.{bytes_cmp}
-use Rattle.lore_base.specs.Walks.{out_of}
-use Rattle.lore_base.specs.TargetSets.{LabelPath, LeadsTo, IsLedTo}
+use Rattle.lore_base.specs.TargetSets.{LabelPath, LeadsTo}
 use Rattle.dataguide.specs.Types.{Oid, Label, Edge}
-
--- what it costs to read the edges of all members of a set: a step for each member and one for each of its edges
-abbrev pub reads_of : List Edge → List Oid → ℕ
-reads_of edges set = sum_by (λ oid. 1 + length (out_of oid edges)) set
-
--- the steps that were counted are those of reading some target sets, at most as many as the limit, each once
-pub record ReadsAtMost (limit : ℕ) (names : List (List ℕ × Oid)) (edges : List Edge) (before now : ℕ) : Type 0 where
-  pub sets : List (List Oid)
-  pub apart : AllPairs (λ a b. a ≢ b) sets
-  pub led : All (IsLedTo names edges) sets
-  pub few : length sets ≤ limit
-  pub counted : now ≡ before + sum_by (reads_of edges) sets
-
--- The order of label paths.
 
 -- of words that are as long, the one comes first that has the lower label where they first differ
 abbrev pub word_cmp : List Label → List Label → Ordering

@@ -1,0 +1,67 @@
+ghost use Rattle.std.specs.Prelude.{◌≡◌, List};
+ghost use Rattle.dataguide.specs.Guides.{StandsFor};
+ghost use Rattle.guide_query.specs.Types.{Edge as TheEdge};
+ghost use Rattle.guide_query.specs.GuideReaches.{TellsOf, TellsReached};
+
+use crate::guide_walk::{GuideWalk, append_ended, starts_of};
+use dataguide::Guide;
+use graph_search::search;
+use index_traits::Paths;
+use lore_base::{Names, NoMemory, Oid, OidBuf, Path};
+use oem_labels::LabelTable;
+use path_expr::Automaton;
+use std::alloc::Global;
+use std::marker::Model;
+
+/// Paths from named objects, told by the guide: it is walked in place of the graph, so that no edge
+/// is read (Goldman and Widom 1997, path queries). Contracts see the guide and the label texts.
+#[derive(Drop)]
+pub struct GuidePaths<'a> {
+    guide: &'a Guide,
+    labels: &'a LabelTable,
+}
+
+impl<'a> Model for GuidePaths<'a> {
+    ghost use Rattle.guide_query.specs.GuideReaches.{GuideOver};
+
+    ghost Value = { GuideOver };
+
+    ghost view = { λ paths. record { guide = paths.guide.now; labels = paths.labels.now } };
+}
+
+impl<'a> GuidePaths<'a> {
+    /// The paths that this guide tells, which is that of the names. What a path reaches from a named
+    /// object is then what it reaches along the edges of the graph that the guide stands for. Takes no
+    /// memory.
+    pub fn new(guide: &'a Guide, names: &'a Names, labels: &'a LabelTable) -> GuidePaths<'a>
+        ensures guide { result.guide ≡ guide.now }
+        ensures labels { result.labels ≡ labels.now }
+        ensures tells { (edges : List TheEdge) → StandsFor guide.now names.now edges
+            → TellsOf result names.now edges }
+    {
+        let _ = names;
+        GuidePaths { guide, labels }
+    }
+}
+
+impl<'a> Paths for GuidePaths<'a> {
+    ghost reaches = { TellsReached };
+
+    fn select(
+        &self,
+        alloc: Global,
+        path: &Path,
+        named: Oid,
+        buf: &mut OidBuf,
+    ) -> Result<(), NoMemory> {
+        let automaton = Automaton::build(alloc, path)?;
+        let mut walk = GuideWalk {
+            guide: self.guide,
+            labels: self.labels,
+            automaton: &automaton,
+        };
+        let starts = starts_of(alloc, self.guide, named, automaton.starts())?;
+        let met = search(alloc, &mut walk, starts.as_slice(), &mut ())?;
+        append_ended(alloc, self.guide, met.as_slice(), buf)
+    }
+}
