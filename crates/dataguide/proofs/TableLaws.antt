@@ -1,10 +1,11 @@
 -- Nodes under their hashes, and the nodes of names.
 use Rattle.std.proofs.Common.{◌≡◌, ℕ, ◌<◌, true, false, cond, inl, inr, List, [], ◌∷◌, ◌++◌, length, get_or, zero, suc}
-use Rattle.std.proofs.Common.{Option, Some, None, unwrap_or, IfNone, All, Contains, refl, sym, ap, ◌∙◌, subst, arith}
-use Rattle.std.proofs.Common.{length-append}
+use Rattle.std.proofs.Common.{Option, Some, None, unwrap_or, IfSome, IfNone, All, AllPairs, Contains, refl, sym}
+use Rattle.std.proofs.Common.{ap, ◌∙◌, subst, arith, length-append}
 use Rattle.std.specs.List.{slice_get}
 use Rattle.std.specs.Prelude.{slice_set}
-use Rattle.std.proofs.lemmas.List.{length-set}
+use Rattle.std.proofs.lemmas.List.{length-set, map_push}
+use Rattle.std.proofs.lemmas.List.Quantifiers.{all_pairs_push}
 use Rattle.std.specs.Ordering.{nat_cmp}
 use Rattle.std.specs.Map.{lookup}
 use Rattle.std.specs.BTreeMap.{is_at}
@@ -12,11 +13,12 @@ use Rattle.std.proofs.lemmas.Bool.{cases_lt}
 use Rattle.std.proofs.lemmas.Bool.Decides.{nat_tests}
 use Rattle.std.proofs.lemmas.Option.{slice_get_within, slice_get-get_or}
 use Rattle.std.proofs.lemmas.List.Elements.{All-push, All-set, All-contains, Contains-append_left, Contains-push}
+use Rattle.std.proofs.lemmas.List.Elements.{Contains-get_or}
 use Rattle.oem_set.specs.Sets.{hash_of}
 use Rattle.dataguide.specs.Types.{Oid, Label, Node, GuideNode}
 use Rattle.dataguide.specs.Guides.{sets_of, HasSet, AscendByLabel, node_number}
 use Rattle.dataguide.specs.inside.NodeTables.{listed, IsNodeTable}
-use Rattle.dataguide.proofs.PlaceLaws.{at-Contains, at-front, at-push, at-map, at-unmap}
+use Rattle.dataguide.proofs.PlaceLaws.{at-Contains, at-front, at-push, at-map, at-unmap, one-place}
 
 same_key : (a b : ℕ) → is_at (nat_cmp a) b ≡ true → a ≡ b
 same_key a b h = grind (arith, nat_tests)
@@ -49,22 +51,27 @@ module _ (old new : List (ℕ × List Node)) (hash : ℕ) (list : List Node) (no
       subst (λ (l : List Node). Contains l node) (sym here) (Contains-push (listed old hash) node)
 
 -- ---- tables of nodes
+-- no two nodes have one set
+abbrev AreApart : List (List Oid) → Type 0
+AreApart sets = AllPairs (λ a b. (a ≡ b) → ⊥) sets
+
 -- more may stand under a hash
 pub table-wider : (lists wider : List (ℕ × List Node)) (nodes : List GuideNode)
     → ((hash : ℕ) (node : Node) → Contains (listed lists hash) node → Contains (listed wider hash) node)
     → IsNodeTable lists nodes → IsNodeTable wider nodes
 table-wider lists wider nodes more table = record {
   hashed = λ place node at. more (hash_of node.set) (node_number place) (table.hashed place node at);
+  apart = table.apart;
   ascend = table.ascend;
   few = table.few;
 }
 
--- a node without edges is put behind
+-- a node with a set that none has, and without edges, is put behind
 pub table-push : (lists : List (ℕ × List Node)) (nodes : List GuideNode) (node : GuideNode) → node.edges ≡ []
     → length nodes < 4_294_967_295
-    → Contains (listed lists (hash_of node.set)) (node_number (length nodes)) → IsNodeTable lists nodes
-    → IsNodeTable lists (nodes ++ node ∷ [])
-table-push lists nodes node none few there table = record {
+    → Contains (listed lists (hash_of node.set)) (node_number (length nodes)) → (¬ Contains (sets_of nodes) node.set)
+    → IsNodeTable lists nodes → IsNodeTable lists (nodes ++ node ∷ [])
+table-push lists nodes node none few there fresh table = record {
   hashed = λ place other at. elim (cases_lt place (length nodes)) [
     | inl early ↦ table.hashed place other (at-front nodes (node ∷ []) place other early at)
     | inr late ↦ (
@@ -76,6 +83,10 @@ table-push lists nodes node none few there table = record {
         subst (λ (k : ℕ). Contains (listed lists (hash_of other.set)) (node_number k)) (sym here)
         (subst (λ (n : GuideNode). Contains (listed lists (hash_of n.set)) (node_number (length nodes))) same there))
   ];
+  apart = subst AreApart (sym (map_push (λ (n : GuideNode). n.set) nodes node))
+      (all_pairs_push (λ (a b : List Oid). (a ≡ b) → ⊥) (sets_of nodes) node.set table.apart
+      (λ k d within same. fresh (subst (λ (s : List Oid). Contains (sets_of nodes) s) same
+      (Contains-get_or (sets_of nodes) k d within))));
   ascend = All-push (λ (n : GuideNode). AscendByLabel n.edges) nodes node table.ascend
       (subst (λ (l : List (Label × Node)). AscendByLabel l) (sym none)
       (λ i j d less within. absurd (omega (arith, within))));
@@ -93,6 +104,14 @@ not-found lists nodes set table none there =
     (table.hashed at.0 from.0 from.1) in
     All-contains (λ (node : Node). ¬ HasSet nodes node set) (listed lists (hash_of set)) (node_number at.0) none under
     at.1
+
+-- a node that has a set is the only one
+pub one-node : (lists : List (ℕ × List Node)) (nodes : List GuideNode) (set : List Oid) (found : Option Node)
+    → IsNodeTable lists nodes → IfSome found (λ node. HasSet nodes node set)
+    → IfSome found (λ node. (other : Node) → HasSet nodes other set → other ≡ node)
+one-node lists nodes set None table has = tt
+one-node lists nodes set (Some node) table has = λ other has_too.
+    ap (λ (n : ℕ). node_number n) (one-place (sets_of nodes) table.apart other.0 node.0 set has_too has)
 
 -- ---- a node gets edges
 put-sets : (nodes : List GuideNode) (place : ℕ) (new old : GuideNode) → slice_get nodes place ≡ Some old
@@ -138,6 +157,7 @@ module _ (nodes : List GuideNode) (place : ℕ) (new old : GuideNode) (within : 
         (subst (λ (l : List (List Oid)). slice_get l k ≡ Some node.set) put-edges-sets now) in
         subst (λ (s : List Oid). Contains (listed lists (hash_of s)) (node_number k)) before.2
         (table.hashed k before.0 before.1));
+    apart = subst AreApart (sym put-edges-sets) table.apart;
     ascend = All-set (λ (n : GuideNode). AscendByLabel n.edges) nodes place new ascend table.ascend;
     few = rw length-set table.few;
   }

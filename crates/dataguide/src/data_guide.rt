@@ -160,9 +160,11 @@ impl Guide {
         self.nodes.len() as u32
     }
 
-    /// The node with the set; None exactly where there is none. Takes no memory.
+    /// The one node with the set; None exactly where there is none. Takes no memory.
     pub fn find_set(&self, set: &OidSet) -> Option<Node>
         ensures found { IfSome result (λ node. HasSet self.now.nodes node set.now) }
+        ensures only { IfSome result (λ node. (other : TheNode)
+            → HasSet self.now.nodes other set.now → other ≡ node) }
         ensures none { IfNone result (¬ Contains (sets_of self.now.nodes) set.now) }
     {
         find_node(self.nodes.as_slice(), &self.by_hash, set)

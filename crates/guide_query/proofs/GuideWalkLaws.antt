@@ -1,177 +1,104 @@
--- A guide walked by a machine: the edges of a node are listed one by one, and what is met at the end is what is told.
-use Rattle.std.proofs.Common.{◌≡◌, ◌↔◌, ℕ, ◌+◌, ◌<◌, ◌⊎◌, inl, inr, List, [], ◌∷◌, ◌++◌, length, Option, Some, None}
-use Rattle.std.proofs.Common.{Contains, refl, sym, ap, ◌∙◌, subst, append_assoc, arith}
+-- A guide walked by a machine: the edges of a node are followed one by one, and what is met at the end is what is told.
+use Rattle.std.proofs.Common.{◌≡◌, ◌↔◌, ℕ, ◌⊎◌, inl, inr, List, [], ◌∷◌, ◌++◌, Some, None, Contains, refl, sym, ap}
+use Rattle.std.proofs.Common.{◌∙◌, subst, append_assoc, arith, false, true≢false}
 use Rattle.std.specs.List.{slice_get}
-use Rattle.std.specs.Option.{option_and_then}
-use Rattle.std.proofs.lemmas.Bool.{cases_lt}
+use Rattle.std.specs.Prelude.{Option, MatchOption, is_some}
 use Rattle.std.proofs.lemmas.List.{append-nil}
-use Rattle.std.proofs.lemmas.Option.{slice_get_within, slice_get-get_or}
 use Rattle.std.proofs.lemmas.List.Elements.{Contains-append_left, Contains-append_right, Contains-append_cases}
+use Rattle.std.proofs.lemmas.List.Elements.{Contains-push, Contains-push_cases}
+use Rattle.lore_base.specs.Lists.{ExtendsBy}
 use Rattle.lore_base.specs.Paths.{PathTree}
+use Rattle.lore_base.specs.TargetSets.{ListsInOrder}
 use Rattle.lore_base.proofs.MemberLaws.{Contains-none}
 use Rattle.graph_search.specs.Closures.{IsMet, LeadAlong, LeadsOn, IsClosure, Lists}
 use Rattle.graph_search.proofs.MeetingLaws.{IsMet-none, IsMet-one, IsMet-append_left, IsMet-append_right}
 use Rattle.graph_search.proofs.MeetingLaws.{IsMet-append_cases}
 use Rattle.path_expr.specs.Machines.{IsIn, Runs, StepsTo, IsStep, StandsFor}
-use Rattle.dataguide.specs.Guides.{GuideGraph, HasSet, HasEdge, edge_at, sets_of}
-use Rattle.dataguide.proofs.PlaceLaws.{Contains-at, at-Contains}
+use Rattle.oem_set.specs.Sets.{IsSet}
+use Rattle.dataguide.specs.Guides.{GuideGraph, HasSet, sets_of}
 use Rattle.guide_query.specs.Types.{Oid, Label, Node, GuideNode, States, StateMarks, END}
 use Rattle.guide_query.specs.GuideReaches.{LeadsAlong, IsMember, TellsReached}
-use Rattle.guide_query.specs.inside.GuideWalks.{HasState, marks, WalkedGuide, Leads, IsNext, AreStarts, IsEnded}
-
--- ---- the edges of a node by their places
-module _ (nodes : List GuideNode) (from : Node) where
-  edge-at : (k : ℕ) (label : Label) (next : Node) → edge_at nodes from k ≡ Some (label, next)
-      → HasEdge nodes from label next
-  edge-at k label next = by (slice_get nodes from.0) refl
-    where
-      by : (found : Option GuideNode) → slice_get nodes from.0 ≡ found
-          → option_and_then (λ there. slice_get there.edges k) found ≡ Some (label, next)
-          → HasEdge nodes from label next
-      by None is at = cc
-      by (Some there) is at = (there, is, Contains-at there.edges k (label, next) at)
-
-  at-edge : (label : Label) (next : Node) → HasEdge nodes from label next
-      → (k : ℕ) × (edge_at nodes from k ≡ Some (label, next))
-  at-edge label next edge =
-      let at = at-Contains (edge.0).edges (label, next) edge.2 in
-      (at.0, ap (option_and_then (λ there. slice_get there.edges at.0)) edge.1 ∙ at.1)
-
-  -- where there is no edge at a place, all stand before it
-  edge-before : (i k : ℕ) (edge : Label × Node) → edge_at nodes from i ≡ None → edge_at nodes from k ≡ Some edge → k < i
-  edge-before i k edge = by (slice_get nodes from.0)
-    where
-      by : (found : Option GuideNode) → option_and_then (λ there. slice_get there.edges i) found ≡ None
-          → option_and_then (λ there. slice_get there.edges k) found ≡ Some edge → k < i
-      by None none some = cc
-      by (Some there) none some = elim (cases_lt k i) [
-        | inl before ↦ before
-        | inr behind ↦
-            let within : i < length there.edges = omega (arith, behind, slice_get_within there.edges k edge some) in
-            let at = slice_get-get_or there.edges i edge within in
-            cc
-      ]
+use Rattle.guide_query.specs.inside.GuideWalks.{HasState, marks, WalkedGuide, Leads, IsNext, AreStarts, IsEnded, NoneEnds, IsOnlyEnd}
 
 -- ---- the children of a node, edge by edge
-module _ (walked : WalkedGuide) (from : Node) (states : States) where
-  pub children-none : (out : List (Node × StateMarks)) → Lists HasState (IsNext walked from states 0) out out
+module _ (walked : WalkedGuide) (states : States) where
+  pub children-none : (out : List (Node × StateMarks)) → Lists HasState (IsNext walked [] states) out out
   children-none out = record {
     more = [];
     is = sym (append-nil out);
-    exact = λ there. (λ met. absurd (IsMet-none HasState there met), λ next. absurd (omega (arith, next.2)));
+    exact = λ there. (
+      λ met. absurd (IsMet-none HasState there met),
+      λ next. absurd (Contains-none (next.0, there.0) next.1),
+    );
   }
 
-  pub children-more : (i : ℕ) (label : Label) (child : Node) (after : States)
-      (old middle new : List (Node × StateMarks))
-      → edge_at walked.nodes from i ≡ Some (label, child) → IsStep walked.labels walked.machine states label after
-      → Lists HasState (IsNext walked from states i) old middle
-      → Lists HasState (λ there. (there.0 ≡ child) × IsIn after there.1) middle new
-      → Lists HasState (IsNext walked from states (i + 1)) old new
-  children-more i label child after old middle new at step earlier now = record {
+  pub children-more : (edges : List (Label × Node)) (edge : Label × Node) (after : States)
+      (old middle new : List (Node × StateMarks)) → IsStep walked.labels walked.machine states edge.0 after
+      → Lists HasState (IsNext walked edges states) old middle
+      → Lists HasState (λ there. (there.0 ≡ edge.1) × IsIn after there.1) middle new
+      → Lists HasState (IsNext walked (edges ++ edge ∷ []) states) old new
+  children-more edges edge after old middle new step earlier now = record {
     more = earlier.more ++ now.more;
     is = now.is ∙ ap (λ l. l ++ now.more) earlier.is ∙ append_assoc old earlier.more now.more;
     exact = λ there. (
       λ met. elim (IsMet-append_cases HasState earlier.more now.more there met) [
         | inl front ↦ (let next = (earlier.exact there).0 front in
-            (next.0, next.1, omega (arith, next.2), next.3, next.4))
+            (next.0, Contains-append_left edges (edge ∷ []) (next.0, there.0) next.1, next.2))
         | inr back ↦ (
             let one = (now.exact there).0 back in (
-              i,
-              label,
-              omega arith,
-              subst (λ (n : Node). edge_at walked.nodes from i ≡ Some (label, n)) (sym one.0) at,
+              edge.0,
+              subst (λ (n : Node). Contains (edges ++ edge ∷ []) (edge.0, n)) (sym one.0) (Contains-push edges edge),
               (step there.1).0 one.1,
             ))
       ],
-      λ next. elim (cases_lt next.0 i) [
+      λ next. elim (Contains-push_cases edges edge (next.0, there.0) next.1) [
         | inl before ↦ IsMet-append_left HasState earlier.more now.more there
-            ((earlier.exact there).1 (next.0, next.1, before, next.3, next.4))
-        | inr behind ↦ (
-            let here : next.0 ≡ i = omega (arith, behind, next.2) in
-            let both : ◌≡◌ {A = Option (Label × Node)} (Some (next.1, there.0)) (Some (label, child)) =
-            sym next.3 ∙ ap (edge_at walked.nodes from) here ∙ at in
-            let pair : ◌≡◌ {A = Label × Node} (next.1, there.0) (label, child) = cc in
-            IsMet-append_right HasState earlier.more now.more there ((now.exact there).1 (
-              ap (λ (p : Label × Node). p.1) pair,
-              (step there.1).1 (subst (λ (l : Label). StepsTo walked.labels walked.machine states l there.1)
-                  (ap (λ (p : Label × Node). p.0) pair) next.4),
-            )))
+            ((earlier.exact there).1 (next.0, before, next.2))
+        | inr last ↦ IsMet-append_right HasState earlier.more now.more there ((now.exact there).1 (
+          ap (λ (e : Label × Node). e.1) (sym last),
+          (step there.1).1 (subst (λ (l : Label). StepsTo walked.labels walked.machine states l there.1)
+              (ap (λ (e : Label × Node). e.0) (sym last)) next.2),
+        ))
       ],
     );
   }
 
-  -- behind the last edge they are all that the node leads to
-  pub children-all : (i : ℕ) (old new : List (Node × StateMarks)) → edge_at walked.nodes from i ≡ None
-      → Lists HasState (IsNext walked from states i) old new
+  -- the edges of a node lead to all that the node leads to
+  pub children-all : (from : Node) (node : GuideNode) (old new : List (Node × StateMarks))
+      → slice_get walked.nodes from.0 ≡ Some node → Lists HasState (IsNext walked node.edges states) old new
       → Lists HasState (LeadsOn HasState (Leads walked) (from, marks states)) old new
-  children-all i old new none lists = record {
+  children-all from node old new at lists = record {
     more = lists.more;
     is = lists.is;
     exact = λ there. (
       λ met. (let next = (lists.exact there).0 met in
-          (next.4.0, next.4.1, (next.1, edge-at walked.nodes from next.0 next.1 there.0 next.3, next.4.2))),
+          (next.2.0, next.2.1, (next.0, (node, at, next.1), next.2.2))),
       λ leads. (
-          let at = at-edge walked.nodes from leads.2.0 there.0 leads.2.1 in
+          let label = leads.2.0 in
+          let edge = leads.2.1 in
+          let both : Some edge.0 ≡ Some node = sym edge.1 ∙ at in
+          let same : edge.0 ≡ node = cc in
           (lists.exact there).1 (
-            at.0,
-            leads.2.0,
-            edge-before walked.nodes from i at.0 (leads.2.0, there.0) none at.1,
-            at.1,
+            label,
+            subst (λ (n : GuideNode). Contains n.edges (label, there.0)) same edge.2,
             (leads.0, leads.1, leads.2.2),
           )),
     );
   }
 
--- ---- the nodes to start from
-pub starts-none : (nodes : List GuideNode) (set : List Oid) (states : States) → AreStarts nodes set states 0 []
-starts-none nodes set states node state = (
-  λ met. absurd (IsMet-none HasState (node, state) met),
-  λ start. absurd (omega (arith, start.0)),
-)
-
-module _ (nodes : List GuideNode) (set : List Oid) (states : States) (starts : List (Node × StateMarks)) where
-  pub starts-kept : (place : ℕ) → AreStarts nodes set states place starts → (¬ HasSet nodes (record { 0 = place }) set)
-      → AreStarts nodes set states (place + 1) starts
-  starts-kept place earlier other node state = (
-    λ met. (let start = (earlier node state).0 met in (omega (arith, start.0), start.1, start.2)),
-    λ start. elim (cases_lt node.0 place) [
-      | inl before ↦ (earlier node state).1 (before, start.1, start.2)
-      | inr behind ↦ (
-          let here : node.0 ≡ place = omega (arith, behind, start.0) in
-          absurd (other (subst (λ (n : ℕ). HasSet nodes (record { 0 = n }) set) here start.1)))
-    ],
-  )
-
-  pub starts-more : (place : ℕ) → AreStarts nodes set states place starts → HasSet nodes (record { 0 = place }) set
-      → AreStarts nodes set states (place + 1) (starts ++ (record { 0 = place }, marks states) ∷ [])
-  starts-more place earlier has node state =
-      let last : Node × StateMarks = (record { 0 = place }, marks states) in (
-        λ met. elim (IsMet-append_cases HasState starts (last ∷ []) (node, state) met) [
-          | inl front ↦ (let start = (earlier node state).0 front in (omega (arith, start.0), start.1, start.2))
-          | inr back ↦ (
-              let one = (IsMet-one HasState last (node, state)).0 back in (
-                let here : node.0 ≡ place = ap (λ (n : Node). n.0) one.0 in omega (arith, here),
-                subst (λ (n : Node). HasSet nodes n set) (sym one.0) has,
-                one.1,
-              ))
-        ],
-        λ start. elim (cases_lt node.0 place) [
-          | inl before ↦ IsMet-append_left HasState starts (last ∷ []) (node, state)
-              ((earlier node state).1 (before, start.1, start.2))
-          | inr behind ↦ (
-              let here : node.0 ≡ place = omega (arith, behind, start.0) in
-              IsMet-append_right HasState starts (last ∷ []) (node, state)
-              ((IsMet-one HasState last (node, state)).1 (ap (λ (n : ℕ). record { 0 = n }) here, start.2)))
-        ],
-      )
-
-  pub starts-all : (place : ℕ) → place ≡ length (sets_of nodes) → AreStarts nodes set states place starts
-      → (node : Node) (state : ℕ)
-      → IsMet HasState starts (node, state) ↔ (HasSet nodes node set × IsIn states state)
-  starts-all place whole are node state = (
-    λ met. (let start = (are node state).0 met in (start.1, start.2)),
-    λ start. (are node state).1 (rw whole (slice_get_within (sets_of nodes) node.0 set start.0), start.0, start.1),
-  )
+  -- and what is no node leads nowhere
+  pub children-nowhere : (from : Node) (out : List (Node × StateMarks)) → slice_get walked.nodes from.0 ≡ None
+      → Lists HasState (LeadsOn HasState (Leads walked) (from, marks states)) out out
+  children-nowhere from out none = record {
+    more = [];
+    is = sym (append-nil out);
+    exact = λ there. (
+      λ met. absurd (IsMet-none HasState there met),
+      λ leads. (
+          let both : None ≡ Some leads.2.1.0 = sym none ∙ leads.2.1.1 in
+          cc),
+    );
+  }
 
 -- ---- the objects of the nodes that are met at the end
 pub ended-more : (nodes : List GuideNode) (places : List (Node × StateMarks)) (place : Node × StateMarks)
@@ -217,6 +144,73 @@ members-added nodes node set old Is is has oid = (
   ],
 )
 
+-- ---- a node that alone is met at the end
+pub none-first : NoneEnds []
+none-first node met = IsMet-none HasState (node, END) met
+
+pub none-so-far : (places : List (Node × StateMarks)) (only : Option Node) → false ≡ is_some only
+    → MatchOption only (NoneEnds places) (IsOnlyEnd places) → NoneEnds places
+none-so-far places None is none = none
+none-so-far places (Some only) is ends = absurd (true≢false (sym is))
+
+pub only-first : (places : List (Node × StateMarks)) (place : Node × StateMarks) → NoneEnds places → IsIn (place.1).0 END
+    → IsOnlyEnd (places ++ place ∷ []) place.0
+only-first places place none ends node = (
+  λ met. elim (IsMet-append_cases HasState places (place ∷ []) (node, END) met) [
+    | inl front ↦ absurd (none node front)
+    | inr back ↦ ((IsMet-one HasState place (node, END)).0 back).0
+  ],
+  λ is. IsMet-append_right HasState places (place ∷ []) (node, END) ((IsMet-one HasState place (node, END)).1 (is, ends)),
+)
+
+-- a place that is not at the end changes nothing
+skipped : (places : List (Node × StateMarks)) (place : Node × StateMarks) → (IsIn (place.1).0 END → ⊥) → (node : Node)
+    → IsMet HasState (places ++ place ∷ []) (node, END) ↔ IsMet HasState places (node, END)
+skipped places place not_end node = (
+  λ met. elim (IsMet-append_cases HasState places (place ∷ []) (node, END) met) [
+    | inl front ↦ front
+    | inr back ↦ absurd (not_end ((IsMet-one HasState place (node, END)).0 back).1)
+  ],
+  λ met. IsMet-append_left HasState places (place ∷ []) (node, END) met,
+)
+
+pub only-still : (places : List (Node × StateMarks)) (place : Node × StateMarks) (only : Option Node) → (IsIn (place.1).0 END → ⊥)
+    → MatchOption only (NoneEnds places) (IsOnlyEnd places)
+    → MatchOption only (NoneEnds (places ++ place ∷ [])) (IsOnlyEnd (places ++ place ∷ []))
+only-still places place None not_end none = λ node met. none node ((skipped places place not_end node).0 met)
+only-still places place (Some only) not_end is = λ node.
+    let same = skipped places place not_end node in
+    (λ met. (is node).0 (same.0 met), λ here. same.1 ((is node).1 here))
+
+-- its objects are those of the nodes that are met at the end
+pub only-ended : (nodes : List GuideNode) (met : List (Node × StateMarks)) (only : Node) → IsOnlyEnd met only → (oid : Oid)
+    → IsMember nodes only oid ↔ IsEnded nodes met oid
+only-ended nodes met only is oid = (
+  λ member. (only, (is only).1 refl, member),
+  λ ended. subst (λ (n : Node). IsMember nodes n oid) ((is ended.0).0 ended.1) ended.2,
+)
+
+-- the objects of a node are those of its set
+pub set-listed : (nodes : List GuideNode) (node : Node) (set : List Oid) → HasSet nodes node set → IsSet set → ListsInOrder (IsMember nodes node) set
+set-listed nodes node set has ascending = record {
+  ascending = ascending;
+  exact = λ oid. (λ there. (set, has, there), λ member. member-set nodes node set oid has member);
+}
+
+pub none-listed : (nodes : List GuideNode) (node : Node) (buf : List Oid) → slice_get (sets_of nodes) node.0 ≡ None
+    → ExtendsBy (ListsInOrder (IsMember nodes node)) buf buf
+none-listed nodes node buf none = (
+  [],
+  sym (append-nil buf),
+  record {
+    ascending = λ i j d less within. absurd (omega (arith, within));
+    exact = λ oid. (
+      λ there. absurd (Contains-none oid there),
+      λ member. (let both : None ≡ Some member.0 = sym none ∙ member.1 in cc),
+    );
+  },
+)
+
 -- ---- a way through the product is a word that leads along the guide's edges and is read
 module _ (walked : WalkedGuide) where
   word-of : (way : List (Node × ℕ)) (here there : Node × ℕ) → LeadAlong (Leads walked) here way there
@@ -240,8 +234,7 @@ module _ (walked : WalkedGuide) where
 pub ended-told : (guide : GuideGraph) (walked : WalkedGuide) (path : PathTree) (named : Oid)
     (starts met : List (Node × StateMarks))
     → walked.nodes ≡ guide.nodes → StandsFor walked.machine path
-    → ((node : Node) (state : ℕ) → IsMet HasState starts (node, state)
-    ↔ (HasSet walked.nodes node (named ∷ []) × IsIn (walked.machine).start state))
+    → AreStarts walked.nodes (named ∷ []) (walked.machine).start starts
     → IsClosure HasState (Leads walked) starts met → (oid : Oid)
     → IsEnded walked.nodes met oid ↔ TellsReached (record { guide = guide; labels = walked.labels }) path named oid
 ended-told guide walked path named starts met same stands begin closure oid = (

@@ -1,18 +1,17 @@
-ghost use Rattle.std.specs.Prelude.{◌≡◌, ◌↔◌, ◌⊎◌, ◌+◌, ℕ, [], ◌∷◌, ◌++◌, Contains, IsTrue, IfOk, OnOk, OnErr};
-ghost use Rattle.graph_search.specs.Closures.{IsMet, LeadsOn, Lists};
+ghost use Rattle.std.specs.Prelude.{◌≡◌, ◌↔◌, ◌⊎◌, ◌+◌, [], ◌∷◌, Contains, IfOk, IfSome, OnOk, OnErr};
+ghost use Rattle.graph_search.specs.Closures.{LeadsOn, Lists};
 ghost use Rattle.lore_base.specs.Lists.{ExtendsBy};
 ghost use Rattle.lore_base.specs.TargetSets.{ListsInOrder};
-ghost use Rattle.dataguide.specs.Guides.{HasSet};
 ghost use Rattle.path_expr.specs.Machines.{IsIn};
-ghost use Rattle.guide_query.specs.Types.{Oid as TheOid, Node as TheNode, END};
+ghost use Rattle.guide_query.specs.Types.{Oid as TheOid, END};
 ghost use Rattle.guide_query.specs.GuideReaches.{IsMember};
-ghost use Rattle.guide_query.specs.inside.GuideWalks.{HasState, WalkedGuide, Leads, IsEnded};
-ghost use Rattle.guide_query.specs.inside.GuideWalks.{marks, same_node};
+ghost use Rattle.guide_query.specs.inside.GuideWalks.{HasState, WalkedGuide, Leads, IsNext, IsEnded};
+ghost use Rattle.guide_query.specs.inside.GuideWalks.{AreStarts, IsOnlyEnd, marks, same_node};
 
 use crate::state_marks::StateMarks;
 use dataguide::{Guide, Node};
 use graph_search::{Counter, Space};
-use lore_base::{NoMemory, Oid, OidBuf};
+use lore_base::{Label, NoMemory, Oid, OidBuf};
 use oem_labels::LabelTable;
 use oem_set::OidSet;
 use path_expr::{Automaton, END, States};
@@ -53,6 +52,24 @@ fn push_node(out: &mut Vec<(Node, StateMarks)>, node: Node, states: States) -> R
 }
 
 impl<'a> GuideWalk<'a> {
+    // Appends the nodes that the edges lead to, each with the states that its label leads to from
+    // the states.
+    fn push_edges(
+        &self,
+        edges: &[(Label, Node)],
+        states: States,
+        out: &mut Vec<(Node, StateMarks)>,
+    ) -> Result<(), NoMemory>
+        ensures { OnOk result
+            (Lists HasState (IsNext self.now edges.now states) out.old.items out.new.items) }
+    {
+        'edges: for edge in edges {
+            let after = self.automaton.step(states, edge.0, self.labels);
+            push_node(out, edge.1, after)?;
+        }
+        Ok(())
+    }
+
     // Appends the children of the node, each with the states that its label leads to from the
     // states.
     fn push_children(
@@ -65,15 +82,10 @@ impl<'a> GuideWalk<'a> {
             (LeadsOn HasState (Leads self.now) (from, marks states))
             out.old.items out.new.items) }
     {
-        'edges: for i in 0..u32::MAX {
-            let Some((label, next)) = self.guide.labels_of(from, i) else {
-                return Ok(());
-            };
-            let after = self.automaton.step(states, label, self.labels);
-            push_node(out, next, after)?;
+        match self.guide.nodes().get(from.0 as usize) {
+            Some(node) => self.push_edges(node.edges.as_slice(), states, out),
+            None => Ok(()),
         }
-        // A table never has so many labels.
-        Err(NoMemory)
     }
 }
 
@@ -119,35 +131,22 @@ fn set_of_one(alloc: Global, oid: Oid) -> Result<OidSet, NoMemory>
     Ok(OidSet::from_ascending(oids))
 }
 
-// Whether the node is there and has the set.
-fn has_set(guide: &Guide, node: Node, set: &OidSet) -> bool
-    ensures { IsTrue result ↔ HasSet guide.now.nodes node set.now }
-{
-    match guide.set(node) {
-        Some(there) => there.equal(set),
-        None => false,
-    }
-}
-
-// The nodes with the object alone, in these states: at most one, where the guide stands for a
-// database.
+// The node with the object alone, where there is one, in these states.
 pub(crate) fn starts_of(
     alloc: Global,
     guide: &Guide,
     oid: Oid,
     states: States,
 ) -> Result<Vec<(Node, StateMarks)>, NoMemory>
-    ensures { IfOk result (λ starts. (node : TheNode) (state : ℕ)
-        → IsMet HasState starts.items (node, state)
-        ↔ (HasSet guide.now.nodes node (oid ∷ []) × IsIn states state)) }
+    ensures { IfOk result
+        (λ starts. AreStarts guide.now.nodes (oid ∷ []) states starts.items) }
 {
     let set = set_of_one(alloc, oid)?;
     let mut starts = Vec::new(alloc);
-    'nodes: for place in 0..guide.len() {
-        if has_set(guide, Node(place), &set) {
-            starts.push((Node(place), StateMarks(states)))?;
-        }
-    }
+    let Some(node) = guide.find_set(&set) else {
+        return Ok(starts);
+    };
+    starts.push((node, StateMarks(states)))?;
     Ok(starts)
 }
 
@@ -165,7 +164,52 @@ fn push_ended(guide: &Guide, place: (Node, StateMarks), ended: &mut OidBuf) -> R
     }
 }
 
-// Appends the objects of the nodes that are met at the end, ascending, each once.
+// The objects of the nodes that are met at the end, ascending, each once.
+fn union_of_ends(
+    alloc: Global,
+    guide: &Guide,
+    met: &[(Node, StateMarks)],
+) -> Result<OidBuf, NoMemory>
+    ensures { IfOk result (ListsInOrder (IsEnded guide.now.nodes met.now)) }
+{
+    let mut ended = OidBuf::new(alloc);
+    'places: for place in met {
+        push_ended(guide, *place, &mut ended)?;
+    }
+    ended.sort_set();
+    Ok(ended)
+}
+
+// The node that is met at the end, if it is the only one.
+fn only_end(met: &[(Node, StateMarks)]) -> Option<Node>
+    ensures { IfSome result (IsOnlyEnd met.now) }
+{
+    let mut only = None;
+    'places: for place in met {
+        if place.1.0.has(END) {
+            if only.is_some() {
+                return None;
+            }
+            only = Some(place.0);
+        }
+    }
+    only
+}
+
+// Appends the objects of the node, ascending, each once.
+fn append_set(guide: &Guide, node: Node, buf: &mut OidBuf) -> Result<(), NoMemory>
+    ensures objects { OnOk result (ExtendsBy
+        (ListsInOrder (IsMember guide.now.nodes node)) buf.old buf.new) }
+    ensures err { OnErr result (buf.new ≡ buf.old) }
+{
+    match guide.set(node) {
+        Some(set) => buf.append(set.as_slice()),
+        None => Ok(()),
+    }
+}
+
+// Appends the objects of the nodes that are met at the end, ascending, each once. Those of one node
+// are in order already, and are copied once.
 pub(crate) fn append_ended(
     alloc: Global,
     guide: &Guide,
@@ -176,10 +220,11 @@ pub(crate) fn append_ended(
         (ListsInOrder (IsEnded guide.now.nodes met.now)) buf.old buf.new) }
     ensures err { OnErr result (buf.new ≡ buf.old) }
 {
-    let mut ended = OidBuf::new(alloc);
-    'places: for place in met {
-        push_ended(guide, *place, &mut ended)?;
+    match only_end(met) {
+        Some(node) => append_set(guide, node, buf),
+        None => {
+            let ended = union_of_ends(alloc, guide, met)?;
+            buf.append(ended.as_slice())
+        }
     }
-    ended.sort_set();
-    buf.append(ended.as_slice())
 }

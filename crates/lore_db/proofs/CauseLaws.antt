@@ -21,7 +21,7 @@ use Rattle.updates.specs.Causes.{IsUpdate}
 use Rattle.updates.proofs.RowLaws.{map_found}
 use Rattle.lore_db.specs.Types.{Oid, Edge, Value, Changes, Refusal, LABELS, NEXT_NUMBER}
 use Rattle.lore_db.specs.Types.refusals
-use Rattle.lore_db.specs.Built.{reads, path_select, makes_changes, is_read, is_built}
+use Rattle.lore_db.specs.Built.{reads, path_select, makes_changes, is_bound, is_built}
 use Rattle.lore_db.specs.Statements.{pair_of, AreRowsOf, loading, naming, effects, IsUnbound, IsOutOfRange, ChangesCause, Cause, order}
 use Rattle.lore_db.specs.inside.Stages.{bind_order, found_order, fit_order}
 use Rattle.lore_db.proofs.LiteralLaws.{length-objects_of}
@@ -231,11 +231,11 @@ update_changes _ update = absurd (update refl)
 
 -- an update reads a select, is built where that is, and takes no name away
 pub update_reads : (statement : StatementTree) → IsUpdate statement → (query : SelectTree) → reads statement ≡ Some query
-    → is_built statement ≡ is_read (Some query)
-update_reads (t.assign target value tail) update query is = ap is_read is
-update_reads (t.add_new target label literal tail) update query is = ap is_read is
-update_reads (t.add_link target label right tail) update query is = ap is_read is
-update_reads (t.remove target label right tail) update query is = ap is_read is
+    → is_built statement ≡ is_bound (Some query)
+update_reads (t.assign target value tail) update query is = ap is_bound is
+update_reads (t.add_new target label literal tail) update query is = ap is_bound is
+update_reads (t.add_link target label right tail) update query is = ap is_bound is
+update_reads (t.remove target label right tail) update query is = ap is_bound is
 update_reads _ update query is = absurd (update refl)
 
 pub update_names : (db : Database) (statement : StatementTree) → IsUpdate statement → IsUnbound db statement → ⊥

@@ -1,5 +1,5 @@
 -- Executions of statements: a select that answers, and changes that are made.
-use Rattle.std.proofs.Common.{◌≡◌, inl, inr, true, List, [], ◌∷◌, ◌++◌, Option, Result, Ok, Err, IfOk, refl, sym, subst}
+use Rattle.std.proofs.Common.{◌≡◌, inl, inr, true, List, ◌∷◌, ◌++◌, Option, Result, Ok, Err, IfOk, refl, sym, subst}
 use Rattle.std.specs.Prelude.{IfErr, OnErr}
 use Rattle.lore_base.specs.Databases.{Database, IsValid}
 use Rattle.lore_base.specs.ChangeSets.{Fits, IsAfter, AreSame}
@@ -39,14 +39,14 @@ module _ (db : Database) (query : SelectTree) where
   select_performs rows clear answer =
       inl (
         clear_both (Cause db (t.select query)) found_order change_order
-            (read_clear db (t.select query) query refl refl (λ h. h) (no_locals db (t.select query) refl) clear) select_behind,
+            (read_clear db (t.select query) query refl refl (λ h. h) refl (no_locals db (t.select query) refl) clear) select_behind,
         (refl, (rows, refl, answer)),
       )
 
   pub select_told : (told : Option Refusal) → IsToldBy (ReadCause db query) read_order told → IsToldBy (Cause db (t.select query)) order told
   select_told told h =
       told_left (Cause db (t.select query)) found_order change_order told
-      (read_found db (t.select query) query refl refl (λ h. h) (no_locals db (t.select query) refl) told h)
+      (read_found db (t.select query) query refl refl (λ h. h) refl (no_locals db (t.select query) refl) told h)
 
 -- ---- changes
 -- changes that are equal list the same

@@ -105,3 +105,12 @@ asked_rows P Q rows same all = record {
   exact = λ row. (λ h. (same row).0 ((all.exact row).0 h), λ h. (all.exact row).1 ((same row).1 h));
   few = all.few;
 }
+
+-- too many of some rows are too many of whatever asks for more
+pub too_many_asked : (P Q : List Oid → Type 0) → ((row : List Oid) → P row → Q row) → AreTooMany P → AreTooMany Q
+too_many_asked P Q wider many = record {
+  rows = many.rows;
+  apart = many.apart;
+  asked = All-weaker P Q wider many.rows many.asked;
+  many = many.many;
+}

@@ -14,11 +14,9 @@ use Rattle.dataguide.specs.declared.nodes.GuideNode.{GuideNode}
 use Rattle.dataguide.specs.Guides.{GuideGraph, sets_of}
 use Rattle.guide_query.specs.GuideLines.{IsLabelledGuide, AreGuideLines}
 use Rattle.lore_store.specs.Stores.{IsGuided, IsLimit}
-use Rattle.lore_store.proofs.LimitLaws.{valid_limited}
 use Rattle.lore_db.specs.Types.{Oid, Edge, NODES, Reply, Changed}
 use Rattle.lore_db.specs.Types.refusals
 use Rattle.lore_db.specs.Statements.{IsNoLimit, Cause, order, Counts, Shows, Limits, Executes}
-use Rattle.lore_db.specs.KeptDatabases.{IsKept}
 use Rattle.lore_db.specs.inside.Stages.{fit_order}
 use Rattle.lore_db.specs.inside.Stops.{told}
 use Rattle.lore_db.specs.declared.stops.Stop.{Stop}
@@ -29,11 +27,11 @@ use Rattle.lore_db.proofs.QuietLaws.{nothing_before}
 -- ---- what refuses them
 module _ (db : Database) where
   pub guide_clear : IsClear (Cause db t.guide) order
-  guide_clear = clear_both (Cause db t.guide) (fit_order ++ sizes) range (nothing_before db t.guide refl refl refl) (λ h. h, tt)
+  guide_clear = clear_both (Cause db t.guide) (fit_order ++ sizes) range (nothing_before db t.guide refl refl refl refl) (λ h. h, tt)
 
 module _ (db : Database) (nodes : ℤ) where
   nodes_before : IsClear (Cause db (t.set_nodes nodes)) (fit_order ++ sizes)
-  nodes_before = nothing_before db (t.set_nodes nodes) refl refl refl
+  nodes_before = nothing_before db (t.set_nodes nodes) refl refl refl refl
 
   pub nodes_clear : (IsNoLimit db nodes → ⊥) → IsClear (Cause db (t.set_nodes nodes)) order
   nodes_clear limit = clear_both (Cause db (t.set_nodes nodes)) (fit_order ++ sizes) range nodes_before (limit, tt)
@@ -136,7 +134,3 @@ some_limit db (pos limit) within = elim (told_limit db limit) [
   | inr none ↦ absurd (within (no_limit db limit none))
 ]
 some_limit db (negsuc number) within = absurd (within (λ limit is. absurd (no_count number limit is)))
-
--- the database with it
-pub kept_limited : (db : Database) → IsKept db → (limit : ℕ) → IsLimit db limit → IsKept (record db { nodes = limit })
-kept_limited db kept limit is = record { valid = valid_limited db kept.valid limit is; mode = kept.mode }

@@ -1,9 +1,7 @@
 pub mod ShallowLaws
-pub mod FindLaws
-pub mod LegLaws
 pub mod FoundLaws
 pub mod SlotLaws
-pub mod SearchLaws
+pub mod RowLaws
 pub mod SelectLaws
 pub mod StageLaws
 pub mod LabelFitLaws
@@ -26,5 +24,10 @@ pub mod NamingLaws
 pub mod UpdatingLaws
 pub mod TurnLaws
 pub mod LocalToldLaws
+pub mod PlanLaws
+pub mod ExplainLaws
+pub mod QuietPlanLaws
+pub mod BottomLaws
+pub mod SomePlanLaws
 pub mod OneReplyLaws
 pub mod SomeReplyLaws

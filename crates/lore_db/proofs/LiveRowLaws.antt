@@ -38,7 +38,7 @@ starts_somewhere names query known ranged start nowhere = elim (told_member told
 ]
 
 -- what is walked to from a live object is live
-walk_live : (graph : OemGraph) → IsWellFormed graph → (start : Oid) → IsLive graph.objects start → (word : List Label) (oid : Oid)
+pub walk_live : (graph : OemGraph) → IsWellFormed graph → (start : Oid) → IsLive graph.objects start → (word : List Label) (oid : Oid)
     → Walk graph.edges start word oid → IsLive graph.objects oid
 walk_live graph formed start live [] oid same = subst (IsLive graph.objects) same live
 walk_live graph formed start live (label ∷ word) oid walk =

@@ -51,7 +51,7 @@ module _ (db : Database) (valid : IsValid db) (name : List ℕ) (path : RootedTr
   pub path_stops : (told : Option Refusal) → IsToldBy (ReadCause db query) read_order told → IsToldBy (Cause db naming_tree) order told
   path_stops told h =
       told_left (Cause db naming_tree) found_order change_order told
-      (read_found db naming_tree query refl refl (λ unbound. unbound) (name_locals db valid name path) told h)
+      (read_found db naming_tree query refl refl (λ unbound. unbound) refl (name_locals db valid name path) told h)
 
   module _ (rows : List (List Oid)) (answer : IsAnswer db query rows) (clear : IsClear (ReadCause db query) read_order) where
     each : (row : List Oid) → Contains rows row → IsOneCell db row
@@ -63,7 +63,7 @@ module _ (db : Database) (valid : IsValid db) (name : List ℕ) (path : RootedTr
     single_cells = All-of_members (λ (row : List Oid). length row ≡ 1) rows (λ row there. ap length (each row there).is)
 
     found_clear : IsClear (Cause db naming_tree) found_order
-    found_clear = read_clear db naming_tree query refl refl (λ unbound. unbound) (name_locals db valid name path) clear
+    found_clear = read_clear db naming_tree query refl refl (λ unbound. unbound) refl (name_locals db valid name path) clear
 
     pub several_stop : (stop : Stop) → IsNotOnly rows stop → IsToldBy (Cause db naming_tree) order (told stop)
     several_stop stop h =

@@ -7,12 +7,13 @@ use Rattle.lore_base.proofs.VerdictLaws.{one_first, first_unclear}
 use Rattle.oem_changes.proofs.CountLaws.{distinct_as_long}
 use Rattle.oem_changes.proofs.DeterminedLaws.{one_database_after}
 use Rattle.guide_query.proofs.OneListOfLines.{one_list_of_lines}
-use Rattle.lorel_trees.specs.Trees.{StatementTree, select, guide, set_nodes}
+use Rattle.lorel_trees.specs.Trees.{StatementTree, select, explain, guide, set_nodes, set_plan}
 use Rattle.lorel_bind.proofs.AnswerLaws.{has_one_answer}
-use Rattle.lore_db.specs.Types.{Oid, Refusal, Reply, Changed, Rows, Lines, Refused}
-use Rattle.lore_db.specs.Statements.{effects, Cause, order, Counts, LeadsOn, Shows, Limits, Performs, Refuses}
+use Rattle.lore_db.specs.Types.{Oid, Mode, Refusal, Reply, Changed, Rows, Lines, Refused}
+use Rattle.lore_db.specs.Statements.{effects, Cause, order, Counts, LeadsOn, Shows, Limits, ChoosesBy, Performs, Refuses}
 use Rattle.lore_db.specs.StatementLaws.{ExecutesOnce}
 use Rattle.lore_db.proofs.CauseLaws.{one_rows}
+use Rattle.lore_db.proofs.ExplainLaws.{one_explained}
 
 -- a database is counted by one reply
 one_counted : (db : Database) (reply other : Reply) → Counts db reply → Counts db other → reply ≡ other
@@ -49,14 +50,22 @@ one_limited before nodes reply other after later h k =
     let same : after ≡ later = h.0.2 ∙ ap (λ (n : ℕ). record before { nodes = n }) limit ∙ sym k.0.2 in
     (same_counted after later reply other same h.1 k.1, same)
 
+one_chosen : (before : Database) (mode : Mode) (reply other : Reply) (after later : Database) → ChoosesBy before mode reply after
+    → ChoosesBy before mode other later → (reply ≡ other) × (after ≡ later)
+one_chosen before mode reply other after later h k =
+    let same : after ≡ later = h.0 ∙ sym k.0 in
+    (same_counted after later reply other same h.1 k.1, same)
+
 one_performed : (before : Database) (statement : StatementTree) (reply other : Reply) (after later : Database)
     → Performs before statement reply after
     → Performs before statement other later → (reply ≡ other) × (after ≡ later)
 one_performed before (select query) reply other after later h k =
     let same = has_one_answer before query h.1.0 k.1.0 h.1.2 k.1.2 in
     (h.1.1 ∙ ap (λ (rows : List (List Oid)). Rows rows) same ∙ sym k.1.1, h.0 ∙ sym k.0)
+one_performed before (explain query) reply other after later h k = one_explained before query reply other after later h k
 one_performed before guide reply other after later h k = one_shown before reply other after later h k
 one_performed before (set_nodes nodes) reply other after later h k = one_limited before nodes reply other after later h k
+one_performed before (set_plan mode) reply other after later h k = one_chosen before mode reply other after later h k
 one_performed before statement reply other after later h k = one_led before statement reply other after later h k
 
 one_refused : (refusal same : Refusal) (before : Database) (reply other : Reply) (after later : Database)

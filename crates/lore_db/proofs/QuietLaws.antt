@@ -1,5 +1,5 @@
 -- Statements that make no changes: what they are not refused for.
-use Rattle.std.proofs.Common.{◌≡◌, inl, inr, true, false, true≢false, List, [], ◌∷◌, ◌++◌, Option, None, refl, sym, subst, ◌∙◌}
+use Rattle.std.proofs.Common.{◌≡◌, inl, inr, true, false, true≢false, ◌∷◌, ◌++◌, Option, None, refl, sym, subst, ◌∙◌}
 use Rattle.std.specs.Prelude.{MatchOption}
 use Rattle.lore_base.specs.Databases.{Database}
 use Rattle.lore_base.specs.Verdicts.{IsClear}
@@ -9,8 +9,8 @@ use Rattle.lorel_bind.specs.Refusals as binding
 use Rattle.oem_text.specs.Literals.{HasDouble, HasUndefined}
 use Rattle.lore_db.specs.Types.{Refusal}
 use Rattle.lore_db.specs.Types.refusals
-use Rattle.lore_db.specs.Built.{reads, makes_changes, is_built}
-use Rattle.lore_db.specs.Statements.{IsUnbound, HasTooManyRows, IsNotOne, ChangesCause, OfReads, OfMakes, Cause}
+use Rattle.lore_db.specs.Built.{reads, binds, makes_changes, is_built}
+use Rattle.lore_db.specs.Statements.{IsUnbound, HasTooManyRows, IsNotOne, ChangesCause, OfBinds, OfReads, OfMakes, Cause}
 use Rattle.lore_db.specs.inside.Stages.{fit_order}
 use Rattle.lore_db.proofs.CauseLaws.{locals, early, sizes}
 
@@ -65,26 +65,34 @@ module _ (db : Database) (statement : StatementTree) (quiet : makes_changes stat
     ),
   )
 
-  -- what reads nothing either is refused for no cause before its own
-  module _ (built : is_built statement ≡ true) (reading : reads statement ≡ None) where
-    unread : (Has : SelectTree → Type 0) → OfReads statement Has → ⊥
-    unread Has h = subst (λ (o : Option SelectTree). MatchOption o ⊥ Has) reading h
+  -- what reads nothing either is refused for no row
+  module _ (reading : reads statement ≡ None) where
+    unread : OfReads statement (HasTooManyRows db) → ⊥
+    unread h = subst (λ (o : Option SelectTree). MatchOption o ⊥ (HasTooManyRows db)) reading h
+
+    pub behind_binding : IsClear (Cause db statement) (locals ++ (refusals.TooManyRows ∷ refusals.NotOne ∷ (early ++ sizes)))
+    behind_binding = (no_locals.0, (no_locals.1.0, (unread, no_changes)))
+
+  -- what binds nothing either is refused for no cause before its own
+  module _ (built : is_built statement ≡ true) (unbound_select : binds statement ≡ None) (reading : reads statement ≡ None) where
+    unbound : (Has : SelectTree → Type 0) → OfBinds statement Has → ⊥
+    unbound Has h = subst (λ (o : Option SelectTree). MatchOption o ⊥ Has) unbound_select h
 
     pub nothing_before : IsClear (Cause db statement) (fit_order ++ sizes)
     nothing_before = (
       λ unbuilt. true≢false (sym built ∙ unbuilt),
       (
         λ h. elim h [
-          | inl unbound ↦ nothing_unbound unbound
-          | inr unknown ↦ unread (λ query. binding.Cause db.graph.names query refusals.UnknownName) unknown
+          | inl nameless ↦ nothing_unbound nameless
+          | inr unknown ↦ unbound (λ query. binding.Cause db.graph.names query refusals.UnknownName) unknown
         ],
         (
-          unread (λ query. binding.Cause db.graph.names query refusals.UnknownVariable),
+          unbound (λ query. binding.Cause db.graph.names query refusals.UnknownVariable),
           (
-            unread (λ query. binding.Cause db.graph.names query refusals.DuplicateVariable),
+            unbound (λ query. binding.Cause db.graph.names query refusals.DuplicateVariable),
             (
-              unread (λ query. binding.Cause db.graph.names query refusals.TooManyRanges),
-              (no_locals.0, (no_locals.1.0, (unread (HasTooManyRows db), no_changes))),
+              unbound (λ query. binding.Cause db.graph.names query refusals.TooManyRanges),
+              behind_binding reading,
             ),
           ),
         ),

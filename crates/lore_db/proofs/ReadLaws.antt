@@ -13,8 +13,8 @@ use Rattle.lorel_bind.proofs.AnswerLaws.{has_one_answer}
 use Rattle.lorel_bind.proofs.SomeAnswerLaws.{has_some_answer}
 use Rattle.lore_db.specs.Types.{Oid, Refusal, ROWS}
 use Rattle.lore_db.specs.Types.refusals
-use Rattle.lore_db.specs.Built.{reads, has_path_variable, is_read, is_built}
-use Rattle.lore_db.specs.Statements.{IsUnbound, OfReads, HasTooManyRows, Cause}
+use Rattle.lore_db.specs.Built.{reads, binds, has_path_variable, is_bound, is_built}
+use Rattle.lore_db.specs.Statements.{IsUnbound, OfBinds, HasTooManyRows, Cause}
 use Rattle.lore_db.specs.inside.Stages.{ReadCause, bind_order, read_order, found_order}
 use Rattle.lore_db.proofs.OrderLaws.{AreAlike, told_between, clear_between, clear_alike, told_alike}
 use Rattle.lore_db.proofs.LiveRowLaws.{starts_somewhere}
@@ -56,12 +56,12 @@ pub accepted_from : (db : Database) (query : SelectTree) → IsClear (ReadCause 
 accepted_from db query clear = clear.1
 
 -- ---- the statement
-module _ (db : Database) (statement : StatementTree) (query : SelectTree) (built : is_built statement ≡ is_read (Some query))
-    (reading : reads statement ≡ Some query) (named : IsUnbound db statement → ⊥) where
-  of_reads : (Has : SelectTree → Type 0) → Has query ↔ OfReads statement Has
-  of_reads Has = (
-    λ h. subst (λ (o : Option SelectTree). MatchOption o ⊥ Has) (sym reading) h,
-    λ h. subst (λ (o : Option SelectTree). MatchOption o ⊥ Has) reading h,
+module _ (db : Database) (statement : StatementTree) (query : SelectTree) (built : is_built statement ≡ is_bound (Some query))
+    (bound_select : binds statement ≡ Some query) (named : IsUnbound db statement → ⊥) where
+  of_binds : (Has : SelectTree → Type 0) → Has query ↔ OfBinds statement Has
+  of_binds Has = (
+    λ h. subst (λ (o : Option SelectTree). MatchOption o ⊥ Has) (sym bound_select) h,
+    λ h. subst (λ (o : Option SelectTree). MatchOption o ⊥ Has) bound_select h,
   )
 
   same_syntax : ReadCause db query refusals.Syntax ↔ Cause db statement refusals.Syntax
@@ -72,7 +72,7 @@ module _ (db : Database) (statement : StatementTree) (query : SelectTree) (built
 
   same_name : ReadCause db query refusals.UnknownName ↔ Cause db statement refusals.UnknownName
   same_name =
-      let of = of_reads (λ q. binding.Cause db.graph.names q refusals.UnknownName) in
+      let of = of_binds (λ q. binding.Cause db.graph.names q refusals.UnknownName) in
       (λ h. inr (of.0 h), λ h. elim h [ inl unbound ↦ absurd (named unbound) | inr unknown ↦ of.1 unknown ])
 
   bind_alike : AreAlike (ReadCause db query) (Cause db statement) bind_order
@@ -81,28 +81,10 @@ module _ (db : Database) (statement : StatementTree) (query : SelectTree) (built
     (
       same_name,
       (
-        of_reads (λ q. binding.Cause db.graph.names q refusals.UnknownVariable),
+        of_binds (λ q. binding.Cause db.graph.names q refusals.UnknownVariable),
         (
-          of_reads (λ q. binding.Cause db.graph.names q refusals.DuplicateVariable),
-          (of_reads (λ q. binding.Cause db.graph.names q refusals.TooManyRanges), tt),
-        ),
-      ),
-    ),
-  )
-
-  read_alike : AreAlike (ReadCause db query) (Cause db statement) read_order
-  read_alike = (
-    same_syntax,
-    (
-      same_name,
-      (
-        of_reads (λ q. binding.Cause db.graph.names q refusals.UnknownVariable),
-        (
-          of_reads (λ q. binding.Cause db.graph.names q refusals.DuplicateVariable),
-          (
-            of_reads (λ q. binding.Cause db.graph.names q refusals.TooManyRanges),
-            (of_reads (HasTooManyRows db), tt),
-          ),
+          of_binds (λ q. binding.Cause db.graph.names q refusals.DuplicateVariable),
+          (of_binds (λ q. binding.Cause db.graph.names q refusals.TooManyRanges), tt),
         ),
       ),
     ),
@@ -114,14 +96,20 @@ module _ (db : Database) (statement : StatementTree) (query : SelectTree) (built
   pub read_bound : IsClear (ReadCause db query) bind_order → IsClear (Cause db statement) bind_order
   read_bound clear = clear_alike (ReadCause db query) (Cause db statement) bind_order bind_alike clear
 
-  pub rows_many : HasTooManyRows db query → Cause db statement refusals.TooManyRows
-  rows_many many = (of_reads (HasTooManyRows db)).0 many
+  -- where its rows are sought, and no local is wrong
+  module _ (reading : reads statement ≡ Some query)
+      (locals : IsClear (Cause db statement) (refusals.DuplicateLocal ∷ refusals.UndefinedLocal ∷ [])) where
+    many_alike : ReadCause db query refusals.TooManyRows ↔ Cause db statement refusals.TooManyRows
+    many_alike = (
+      λ h. subst (λ (o : Option SelectTree). MatchOption o ⊥ (HasTooManyRows db)) (sym reading) h,
+      λ h. subst (λ (o : Option SelectTree). MatchOption o ⊥ (HasTooManyRows db)) reading h,
+    )
 
-  pub rows_few : (HasTooManyRows db query → ⊥) → Cause db statement refusals.TooManyRows → ⊥
-  rows_few few many = few ((of_reads (HasTooManyRows db)).1 many)
+    read_alike : AreAlike (ReadCause db query) (Cause db statement) read_order
+    read_alike =
+        let bound = bind_alike in
+        (bound.0, (bound.1.0, (bound.1.1.0, (bound.1.1.1.0, (bound.1.1.1.1.0, (many_alike, tt))))))
 
-  -- where no local is wrong
-  module _ (locals : IsClear (Cause db statement) (refusals.DuplicateLocal ∷ refusals.UndefinedLocal ∷ [])) where
     pub read_found : (told : Option Refusal) → IsToldBy (ReadCause db query) read_order told → IsToldBy (Cause db statement) found_order told
     read_found told h =
         told_between (Cause db statement) bind_order (refusals.DuplicateLocal ∷ refusals.UndefinedLocal ∷ []) (refusals.TooManyRows ∷ []) told locals

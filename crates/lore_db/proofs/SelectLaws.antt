@@ -1,5 +1,5 @@
--- The rows of a select: none of its path variables is left, and what a search finds is its answer.
-use Rattle.std.proofs.Common.{◌≡◌, true, false, true≢false, Bool, ◌||◌, ℕ, List, [], ◌∷◌, Option, Some, None, ◌↔◌, is_some, All, refl, inl}
+-- The rows of a select: none of its path variables is left, and what a plan finds is its answer.
+use Rattle.std.proofs.Common.{◌≡◌, true, false, true≢false, Bool, ◌||◌, ℕ, List, [], ◌∷◌, Option, Some, None, is_some, All, refl, inl}
 use Rattle.std.specs.List.{Contains, list_any}
 use Rattle.std.specs.Prelude.{IfSome}
 use Rattle.std.proofs.lemmas.List.Elements.{All-nil, All-cons, All-weaker}
@@ -8,20 +8,16 @@ use Rattle.lore_base.specs.Verdicts.{IsClear, IsToldBy}
 use Rattle.lore_base.proofs.VerdictLaws.{clear_both}
 use Rattle.lorel_trees.specs.Trees as t
 use Rattle.lorel_bind.specs.Answers.{IsAnswer}
-use Rattle.lorel_bind.specs.Bound.{BoundTree, BoundPathTree}
-use Rattle.lorel_bind.specs.Bindings.{IsPath, HasNoPathVariable, IsBinding, IsRunnable}
-use Rattle.lorel_bind.specs.Conditions.{CondOf}
-use Rattle.lorel_bind.specs.SlotRows.{HoldsOver, IsSlotRow}
+use Rattle.lorel_bind.specs.Bound.{BoundTree}
+use Rattle.lorel_bind.specs.Bindings.{IsPath, HasNoPathVariable, IsBinding}
+use Rattle.lorel_bind.specs.SlotRows.{IsSlotRow}
 use Rattle.lorel_bind.proofs.SlotRowLaws.{binding_keeps_rows}
-use Rattle.lore_db.specs.Types.{Oid, Edge, Value, Refusal}
+use Rattle.lore_db.specs.Types.{Oid, Refusal}
 use Rattle.lore_db.specs.Types.refusals
 use Rattle.lore_db.specs.Built.{is_path_variable, has_path_variable}
 use Rattle.lore_db.specs.Statements.{HasTooManyRows}
-use Rattle.lore_db.specs.inside.Finding.{IsPassed, AreRows, AreTooMany}
+use Rattle.lore_db.specs.inside.Finding.{AreRows, AreTooMany}
 use Rattle.lore_db.specs.inside.Stages.{ReadCause, bind_order, read_order}
-use Rattle.lore_db.proofs.FindLaws.{too_many_asked}
-use Rattle.lore_db.proofs.FoundLaws.{asked_rows}
-use Rattle.lore_db.proofs.SlotLaws.{passed_rows}
 use Rattle.lore_db.proofs.OrderLaws.{told_left, told_right}
 use Rattle.lore_db.proofs.ReadLaws.{few_rows, many_rows, accepted_from}
 
@@ -84,15 +80,3 @@ module _ (db : Database) (query : t.SelectTree) (bound : BoundTree) (binds : IsB
 pub bind_refused : (db : Database) (query : t.SelectTree) (told : Option Refusal) → IsToldBy (ReadCause db query) bind_order told
     → IsToldBy (ReadCause db query) read_order told
 bind_refused db query told h = told_left (ReadCause db query) bind_order (refusals.TooManyRows ∷ []) told h
-
--- ---- rows that a search found
-pub slot_rows : (db : Database) (bound : BoundTree) (labels : List (List ℕ)) (edges : List Edge) (objects : List (Oid × Value)) (cond : Option (CondOf BoundPathTree))
-    → labels ≡ db.labels → edges ≡ db.graph.edges → objects ≡ db.graph.objects → cond ≡ bound.cond → IsRunnable bound
-    → (row : List Oid) → IsPassed db.labels db.graph.edges (λ slots. HoldsOver labels edges objects slots cond) bound row ↔ IsSlotRow db bound row
-slot_rows db bound labels edges objects cond l e o c runnable row = rw (l, e, o, c) (passed_rows db bound row runnable)
-
-pub flood_slot_rows : (P Q : List Oid → Type 0) → ((row : List Oid) → P row ↔ Q row) → AreTooMany P → AreTooMany Q
-flood_slot_rows P Q same many = too_many_asked P Q (λ row. (same row).0) many
-
-pub found_slot_rows : (P Q : List Oid → Type 0) (rows : List (List Oid)) → ((row : List Oid) → P row ↔ Q row) → AreRows P rows → AreRows Q rows
-found_slot_rows P Q rows same all = asked_rows P Q rows same all

@@ -82,6 +82,29 @@ derived_shallow (g.generate seed count) query is deep = cc
 pub sound_shallow : (query : t.SelectTree) → IsSound (t.select query) → IsShallow query
 sound_shallow query sound = derived_shallow sound.spelled.by query sound.spelled.tree sound.spelled.deep
 
+-- the derivation of an explain
+derived_plan : (by : g.Statement) (query : t.SelectTree) → tree_statement by ≡ t.explain query → nest_statement by ≤ NESTING → IsShallow query
+derived_plan (g.load name literal) query is deep = cc
+derived_plan (g.bind name path) query is deep = cc
+derived_plan (g.unname name) query is deep = cc
+derived_plan (g.assign target value end) query is deep = cc
+derived_plan (g.add target name (g.fresh literal) end) query is deep = cc
+derived_plan (g.add target name (g.link path) end) query is deep = cc
+derived_plan (g.remove target name right end) query is deep = cc
+derived_plan (g.select inner) query is deep = cc
+derived_plan (g.explain inner) query is deep = let same : tree_select inner ≡ query = cc in subst IsShallow same (select_shallow inner deep)
+derived_plan g.guide query is deep = cc
+derived_plan (g.browse (g.walked name labels)) query is deep = cc
+derived_plan (g.sample (g.walked name labels) count) query is deep = cc
+derived_plan (g.set_nodes nodes) query is deep = cc
+derived_plan (g.set_plan mode) query is deep = cc
+derived_plan g.dump query is deep = cc
+derived_plan (g.restore text) query is deep = cc
+derived_plan (g.generate seed count) query is deep = cc
+
+pub explain_shallow : (query : t.SelectTree) → IsSound (t.explain query) → IsShallow query
+explain_shallow query sound = derived_plan sound.spelled.by query sound.spelled.tree sound.spelled.deep
+
 -- ---- the select of an update
 tail_shallow : (target : t.RootedTree) (end : g.Tail) → nest_tail end ≤ NESTING → IsShallow (target_select target (tree_tail end))
 tail_shallow target (g.tail ranges None) deep = tt

@@ -1,9 +1,9 @@
--- From each database that a `Db` can be, a sound statement has a reply, and leaves such a database.
+-- From each valid database a sound statement has a reply, and leaves a valid one.
 use Rattle.std.proofs.Common.{◌≡◌, ◌≢◌, ℕ, ◌+◌, ◌<◌, ◌≤◌, inl, inr, Bool, true, false, true≢false, List, [], ◌∷◌, ◌++◌}
-use Rattle.std.proofs.Common.{length, Option, Some, None, refl, sym, subst, ◌∙◌, arith}
+use Rattle.std.proofs.Common.{length, Option, Some, None, refl, sym, subst}
 use Rattle.std.specs.Prelude.{ℤ, MatchOption}
 use Rattle.std.proofs.lemmas.Bool.{cases_eq, cases_lt}
-use Rattle.lore_base.specs.Databases.{OemGraph, Database, new_database}
+use Rattle.lore_base.specs.Databases.{OemGraph, Database, IsValid, new_database}
 use Rattle.lore_base.specs.TargetSets.{AreMoreThan}
 use Rattle.lore_base.specs.ChangeSets.{Fits, IsGraphAfter}
 use Rattle.lore_base.specs.ChangeCauses.{Outgrows, LeadsToMore, DatabaseCause}
@@ -17,33 +17,35 @@ use Rattle.oem_changes.proofs.ValidLaws.{valid_after}
 use Rattle.guide_laws.proofs.TargetSetLaws.{target_sets_exist, more_sets_are_told}
 use Rattle.guide_query.proofs.SomeLines.{lines_exist}
 use Rattle.lore_store.proofs.NewLaws.{new_valid}
+use Rattle.lore_store.proofs.ModeLaws.{valid_in_mode}
+use Rattle.lore_store.proofs.LimitLaws.{valid_limited}
 use Rattle.lorel_trees.specs.Trees.{LiteralTree, SelectTree, StatementTree, load, bind, unname, assign, add_new, add_link}
-use Rattle.lorel_trees.specs.Trees.{remove, select, guide, set_nodes}
+use Rattle.lorel_trees.specs.Trees.{remove, select, explain, guide, set_nodes, set_plan}
 use Rattle.lorel_trees.specs.Formed.{IsFormedStatement}
 use Rattle.lorel_trees.proofs.FormLaws.{sound_statement}
 use Rattle.lorel_bind.specs.Answers.{IsAnswer}
-use Rattle.lorel_bind.specs.Refusals.{HasUnknownName, HasUnknownVariable}
+use Rattle.lorel_bind.specs.Refusals.{HasUnknownName, HasUnknownVariable, IsAccepted}
 use Rattle.lorel_bind.specs.Refusals as binding
 use Rattle.lorel_bind.proofs.AnswerLaws.{has_one_answer}
 use Rattle.lorel_bind.proofs.SomeAnswerLaws.{has_some_answer}
 use Rattle.lorel_bind.proofs.RefusalLaws.{has_some_verdict}
 use Rattle.oem_text.specs.Literals.{HasDouble, HasUndefined}
-use Rattle.lore_db.specs.Types.{Oid, Changes, Refusal, LABELS, NAMES, OBJECTS, EDGES, NEXT_NUMBER, ROWS, Reply, Changed}
+use Rattle.lore_db.specs.Types.{Oid, Mode, Changes, Refusal, LABELS, NAMES, OBJECTS, EDGES, NEXT_NUMBER, ROWS, Reply, Changed}
 use Rattle.lore_db.specs.Types.{Rows, Lines, Refused}
 use Rattle.lore_db.specs.Types.refusals
-use Rattle.lore_db.specs.Built.{reads, makes, path_select, makes_changes, is_built}
-use Rattle.lore_db.specs.Statements.{AreRowsOf, effects, IsUnbound, HasTooManyRows, IsNotOne, IsOutOfRange, ChangesCause, OfReads}
+use Rattle.lore_db.specs.Built.{reads, binds, makes, path_select, makes_changes, is_built}
+use Rattle.lore_db.specs.Statements.{AreRowsOf, effects, IsUnbound, HasTooManyRows, IsNotOne, IsOutOfRange, ChangesCause, OfBinds, OfReads}
 use Rattle.lore_db.specs.Statements.{Cause, order, LeadsOn, Performs, Executes}
 use Rattle.lorel_trees.specs.Sound.{IsSound}
-use Rattle.lore_db.specs.KeptDatabases.{IsKept}
 use Rattle.lore_db.specs.StatementLaws.{ExecutesAlways}
 use Rattle.lore_db.specs.inside.Stages.{fit_order}
 use Rattle.lore_db.proofs.TurnLaws.{AreTold, some_verdict, told_from_verdict, told_of_none, told_append}
 use Rattle.lore_db.proofs.LocalToldLaws.{told_double, told_undefined}
 use Rattle.lore_db.proofs.LiveRowLaws.{starts_somewhere}
 use Rattle.lore_db.proofs.EffectLaws.{effects_fit}
+use Rattle.lore_db.proofs.SomePlanLaws.{some_plan}
 use Rattle.lore_db.proofs.CauseLaws.{sizes, range, over_rows}
-use Rattle.lore_db.proofs.GuideStatementLaws.{GivesLimit, told_no_limit, some_limit, kept_limited}
+use Rattle.lore_db.proofs.GuideStatementLaws.{GivesLimit, told_no_limit, some_limit}
 
 -- the order in stages: what is told of the text, where the last are told of a select and of a literal; of rows and the
 -- changes over them; and of what these leave
@@ -91,6 +93,11 @@ told_made Has told None = inr (λ h. h)
 told_made Has told (Some literal) = told literal
 
 -- ---- the rows
+-- what is read is bound
+read_binds : (statement : StatementTree) (Has : SelectTree → Type 0) → OfReads statement Has → OfBinds statement Has
+read_binds (explain query) Has h = absurd h
+read_binds statement Has h = h
+
 some_rows : (db : Database) (statement : StatementTree) → (Cause db statement refusals.UnknownName → ⊥)
     → (Cause db statement refusals.UnknownVariable → ⊥)
     → (rows : List (List Oid)) × AreRowsOf db statement rows
@@ -101,7 +108,8 @@ some_rows db statement known ranged =
     → (rows : List (List Oid)) × MatchOption read (rows ≡ []) (λ query. IsAnswer db query rows)) [
       | None ↦ λ named varied. ([], refl)
       | Some query ↦ λ named varied. has_some_answer db query (starts_somewhere db.graph.names query named varied)
-    ] (λ h. known (inr h)) ranged
+    ] (λ h. known (inr (read_binds statement (HasUnknownName db.graph.names) h)))
+    (λ h. ranged (read_binds statement (HasUnknownVariable db.graph.names) h))
 
 -- ---- what is told of the rows
 told_many_rows : (db : Database) (statement : StatementTree) (rows : List (List Oid)) → AreRowsOf db statement rows
@@ -148,7 +156,7 @@ told_range : (db : Database) (statement : StatementTree) → IsTold (IsOutOfRang
 told_range db (set_nodes nodes) = told_no_limit db nodes
 told_range db statement = inr (λ h. h)
 
-module _ (db : Database) (kept : IsKept db) (statement : StatementTree) (formed : IsFormedStatement statement) where
+module _ (db : Database) (valid : IsValid db) (statement : StatementTree) (formed : IsFormedStatement statement) where
   -- ---- what is told of the changes
   module _ (rows : List (List Oid)) (are : AreRowsOf db statement rows) where
     abbrev changes : Changes
@@ -161,8 +169,8 @@ module _ (db : Database) (kept : IsKept db) (statement : StatementTree) (formed 
     -- where nothing before refuses them, they leave a graph
     told_limits : IsClear (Cause db statement) fit_order → AreTold (Cause db statement) limit_order
     told_limits clear =
-        let fits = effects_fit db kept.valid statement formed rows are clear in
-        let left = some_database_after db changes kept.valid.well_formed.ordered fits.graph in
+        let fits = effects_fit db valid statement formed rows are clear in
+        let left = some_database_after db changes valid.well_formed.ordered fits.graph in
         let told : (count : OemGraph → ℕ) (limit : ℕ) → IsTold (Outgrows db.graph changes count limit) =
         λ count limit. told_outgrows db.graph changes count limit left.0.graph left.1.graph in (
           told_changed refusals.TooManyNames (told (λ after. length after.names) NAMES),
@@ -207,7 +215,7 @@ module _ (db : Database) (kept : IsKept db) (statement : StatementTree) (formed 
   -- ---- what is told of all
   told_text : AreTold (Cause db statement) text_order
   told_text =
-      let read = told_read db.graph.names (reads statement) in (
+      let read = told_read db.graph.names (binds statement) in (
         told_false (is_built statement),
         λ built. (
           told_either (told_unbound db statement) read.0,
@@ -233,13 +241,13 @@ module _ (db : Database) (kept : IsKept db) (statement : StatementTree) (formed 
       → (Outgrows db.graph (effects db statement rows) (λ after. length after.objects) OBJECTS → ⊥)
       → (Outgrows db.graph (effects db statement rows) (λ after. length after.edges) EDGES → ⊥)
       → (LeadsToMore db.graph (effects db statement rows) db.nodes → ⊥)
-      → (reply : Reply) × (after : Database) × LeadsOn db statement reply after × IsKept after
+      → (reply : Reply) × (after : Database) × LeadsOn db statement reply after × IsValid after
   some_led rows are fits names objects edges sets =
       let made = effects db statement rows in
-      let left = some_database_after db made kept.valid.well_formed.ordered fits.graph in
+      let left = some_database_after db made valid.well_formed.ordered fits.graph in
       let after = left.0 in
       let graph = left.1.graph in
-      let valid = valid_after db made after kept.valid fits left.1
+      let then_valid = valid_after db made after valid fits left.1
       (at_most (length after.graph.names) NAMES (λ many. names (after.graph, graph, many)))
       (at_most (length after.graph.objects) OBJECTS (λ many. objects (after.graph, graph, many)))
       (at_most (length after.graph.edges) EDGES (λ many. edges (after.graph, graph, many)))
@@ -252,80 +260,95 @@ module _ (db : Database) (kept : IsKept db) (statement : StatementTree) (formed 
         Changed (length after.graph.objects) (length after.graph.edges) (length all.0),
         after,
         ((rows, are, left.1), (all.0, all.1, refl)),
-        record { valid = valid; mode = left.1.mode ∙ kept.mode },
+        then_valid,
       )
 
 -- a limit is set
-some_limited : (db : Database) → IsKept db → (nodes : ℤ) → GivesLimit db nodes
-    → (reply : Reply) × (after : Database) × Performs db (set_nodes nodes) reply after × IsKept after
-some_limited db kept nodes is =
+some_limited : (db : Database) → IsValid db → (nodes : ℤ) → GivesLimit db nodes
+    → (reply : Reply) × (after : Database) × Performs db (set_nodes nodes) reply after × IsValid after
+some_limited db valid nodes is =
     let all = target_sets_exist db.graph.names db.graph.edges in (
       Changed (length db.graph.objects) (length db.graph.edges) (length all.0),
       record db { nodes = is.limit },
       ((is.limit, is.is, refl), (all.0, all.1, refl)),
-      kept_limited db kept is.limit is.within,
+      valid_limited db valid is.limit is.within,
+    )
+
+-- a mode is set
+some_chosen : (db : Database) → IsValid db → (mode : Mode)
+    → (reply : Reply) × (after : Database) × Performs db (set_plan mode) reply after × IsValid after
+some_chosen db valid mode =
+    let all = target_sets_exist db.graph.names db.graph.edges in (
+      Changed (length db.graph.objects) (length db.graph.edges) (length all.0),
+      record db { mode = mode },
+      (refl, (all.0, all.1, refl)),
+      valid_in_mode db mode valid,
     )
 
 -- changes are made
-some_changed : (db : Database) → IsKept db → (statement : StatementTree) → IsFormedStatement statement
+some_changed : (db : Database) → IsValid db → (statement : StatementTree) → IsFormedStatement statement
     → makes_changes statement ≡ true → IsClear (Cause db statement) order
-    → (reply : Reply) × (after : Database) × LeadsOn db statement reply after × IsKept after
-some_changed db kept statement formed changing clear =
+    → (reply : Reply) × (after : Database) × LeadsOn db statement reply after × IsValid after
+some_changed db valid statement formed changing clear =
     let found = some_rows db statement clear.1.0 clear.1.1.0 in
     let limits = clear_right (Cause db statement) fit_order limit_order clear in
-    let fits = effects_fit db kept.valid statement formed found.0 found.1
+    let fits = effects_fit db valid statement formed found.0 found.1
     (clear_left (Cause db statement) fit_order limit_order clear) in
-    some_led db kept statement formed found.0 found.1 fits (λ many. limits.0 (changing, (found.0, found.1, many)))
+    some_led db valid statement formed found.0 found.1 fits (λ many. limits.0 (changing, (found.0, found.1, many)))
     (λ many. limits.1.0 (changing, (found.0, found.1, many)))
     (λ many. limits.1.1.0 (changing, (found.0, found.1, many)))
     (λ many. limits.1.1.1.0 (changing, (found.0, found.1, many)))
 
-some_performed : (db : Database) → IsKept db → (statement : StatementTree) → IsFormedStatement statement
+some_performed : (db : Database) → IsValid db → (statement : StatementTree) → IsFormedStatement statement
     → IsClear (Cause db statement) order
-    → (reply : Reply) × (after : Database) × Performs db statement reply after × IsKept after
-some_performed db kept (select query) formed clear =
+    → (reply : Reply) × (after : Database) × Performs db statement reply after × IsValid after
+some_performed db valid (select query) formed clear =
     let found = some_rows db (select query) clear.1.0 clear.1.1.0 in
-    (Rows found.0, db, (refl, (found.0, refl, found.1)), kept)
-some_performed db kept guide formed clear =
-    let valid = kept.valid in
+    (Rows found.0, db, (refl, (found.0, refl, found.1)), valid)
+some_performed db valid (explain query) formed clear =
+    let accepted : IsAccepted db.graph.names query = (λ unknown. clear.1.0 (inr unknown), (clear.1.1.0, (clear.1.1.1.0, (clear.1.1.1.1.0, tt)))) in
+    let plan = some_plan db valid query accepted in
+    (plan.0, db, (refl, plan.1), valid)
+some_performed db valid (set_plan mode) formed clear = some_chosen db valid mode
+some_performed db valid guide formed clear =
     let lines = lines_exist db.graph.names db.graph.edges db.labels valid.well_formed.ordered.names_ascend valid.labelled in
-    (Lines lines.0, db, (refl, (lines.0, refl, lines.1)), kept)
-some_performed db kept (set_nodes nodes) formed clear =
+    (Lines lines.0, db, (refl, (lines.0, refl, lines.1)), valid)
+some_performed db valid (set_nodes nodes) formed clear =
     let within = clear_right (Cause db (set_nodes nodes)) (fit_order ++ sizes) range clear in
-    some_limited db kept nodes (some_limit db nodes within.0)
-some_performed db kept (load name literal) formed clear = some_changed db kept (load name literal) formed refl clear
-some_performed db kept (bind name path) formed clear = some_changed db kept (bind name path) formed refl clear
-some_performed db kept (unname name) formed clear = some_changed db kept (unname name) formed refl clear
-some_performed db kept (assign target value tail) formed clear =
-    some_changed db kept (assign target value tail) formed refl clear
-some_performed db kept (add_new target label literal tail) formed clear =
-    some_changed db kept (add_new target label literal tail) formed refl clear
-some_performed db kept (add_link target label right tail) formed clear =
-    some_changed db kept (add_link target label right tail) formed refl clear
-some_performed db kept (remove target label right tail) formed clear =
-    some_changed db kept (remove target label right tail) formed refl clear
-some_performed db kept statement formed clear = absurd (clear.0 refl)
+    some_limited db valid nodes (some_limit db nodes within.0)
+some_performed db valid (load name literal) formed clear = some_changed db valid (load name literal) formed refl clear
+some_performed db valid (bind name path) formed clear = some_changed db valid (bind name path) formed refl clear
+some_performed db valid (unname name) formed clear = some_changed db valid (unname name) formed refl clear
+some_performed db valid (assign target value tail) formed clear =
+    some_changed db valid (assign target value tail) formed refl clear
+some_performed db valid (add_new target label literal tail) formed clear =
+    some_changed db valid (add_new target label literal tail) formed refl clear
+some_performed db valid (add_link target label right tail) formed clear =
+    some_changed db valid (add_link target label right tail) formed refl clear
+some_performed db valid (remove target label right tail) formed clear =
+    some_changed db valid (remove target label right tail) formed refl clear
+some_performed db valid statement formed clear = absurd (clear.0 refl)
 
 pub executes_always : ExecutesAlways
-executes_always db statement kept sound =
+executes_always db statement valid sound =
     let formed = sound_statement statement sound in
-    elim (some_verdict (Cause db statement) order (told_order db kept statement formed)) [
+    elim (some_verdict (Cause db statement) order (told_order db valid statement formed)) [
       | inl clear ↦ (
-          let done = some_performed db kept statement formed clear in
-          record { reply = done.0; after = done.1; executed = inl (clear, done.2); kept = done.3 })
+          let done = some_performed db valid statement formed clear in
+          record { reply = done.0; after = done.1; executed = inl (clear, done.2); valid = done.3 })
       | inr first ↦ record {
         reply = Refused first.0;
         after = db;
         executed = inr (first.0, first.1, (refl, refl));
-        kept = kept;
+        valid = valid;
       }
     ]
 
-pub begins_kept : IsKept new_database
-begins_kept = record { valid = new_valid; mode = refl }
+pub begins_valid : IsValid new_database
+begins_valid = new_valid
 
-pub some_execution : (before : Database) (statement : StatementTree) → IsKept before → IsSound statement
-    → (reply : Reply) × (after : Database) × Executes before statement reply after × IsKept after
-some_execution before statement kept sound =
-    let some = executes_always before statement kept sound in
-    (some.reply, some.after, some.executed, some.kept)
+pub some_execution : (before : Database) (statement : StatementTree) → IsValid before → IsSound statement
+    → (reply : Reply) × (after : Database) × Executes before statement reply after × IsValid after
+some_execution before statement valid sound =
+    let some = executes_always before statement valid sound in
+    (some.reply, some.after, some.executed, some.valid)

@@ -18,7 +18,7 @@ use Rattle.updates.specs.Causes.{IsUpdate, OfLiteral}
 use Rattle.updates.specs.Causes as updating
 use Rattle.lore_db.specs.Types.{Oid, Changes, Refusal}
 use Rattle.lore_db.specs.Types.refusals
-use Rattle.lore_db.specs.Built.{reads, makes}
+use Rattle.lore_db.specs.Built.{reads, binds, makes}
 use Rattle.lore_db.specs.Statements.{pair_of, AreRowsOf, OfMakes, ChangesCause, Cause, order}
 use Rattle.lore_db.specs.inside.Finding.{AreRows, AreTooMany}
 use Rattle.lore_db.specs.inside.Stages.{ReadCause, bind_order, found_order, fit_order}
@@ -35,6 +35,13 @@ update_form (t.add_new target label literal tail) update = refl
 update_form (t.add_link target label right tail) update = refl
 update_form (t.remove target label right tail) update = refl
 update_form _ update = absurd (update refl)
+
+update_binds : (statement : StatementTree) → IsUpdate statement → binds statement ≡ rows_of statement
+update_binds (t.assign target value tail) update = refl
+update_binds (t.add_new target label literal tail) update = refl
+update_binds (t.add_link target label right tail) update = refl
+update_binds (t.remove target label right tail) update = refl
+update_binds _ update = absurd (update refl)
 
 -- ---- locals
 locals_clear : (literal : Option LiteralTree) → MatchOption literal (Unit {0}) (λ tree. IsClear (LocalCause tree) local_order)
@@ -59,17 +66,20 @@ module _ (db : Database) (statement : StatementTree) (update : IsUpdate statemen
   reading : reads statement ≡ Some query
   reading = update_form statement update ∙ form
 
+  bound_select : binds statement ≡ Some query
+  bound_select = update_binds statement update ∙ form
+
   pub bind_stops : (told : Option Refusal) → IsToldBy (ReadCause db query) bind_order told → IsToldBy (Cause db statement) found_order told
   bind_stops told h =
       told_left (Cause db statement) bind_order (locals ++ refusals.TooManyRows ∷ []) told
-      (read_binds db statement query (update_reads statement update query reading) reading (update_names db statement update) told h)
+      (read_binds db statement query (update_reads statement update query reading) bound_select (update_names db statement update) told h)
 
   module _ (clear : IsClear (ReadCause db query) bind_order) where
     pub literal_stops : (told : Option Refusal) → IsToldBy (λ refusal. MatchOption (makes statement) ⊥ (λ tree. LocalCause tree refusal)) local_order told
         → IsToldBy (Cause db statement) found_order told
     literal_stops told h =
         told_right (Cause db statement) bind_order (locals ++ refusals.TooManyRows ∷ []) told
-        (read_bound db statement query (update_reads statement update query reading) reading (update_names db statement update) clear)
+        (read_bound db statement query (update_reads statement update query reading) bound_select (update_names db statement update) clear)
         (told_left (Cause db statement) locals (refusals.TooManyRows ∷ []) told (literal_told db statement told h))
 
     module _ (bound : BoundTree) (binds : IsBinding db.graph.names query bound)
@@ -77,12 +87,12 @@ module _ (db : Database) (statement : StatementTree) (update : IsUpdate statemen
       pub rows_stop : (told : Option Refusal)
           → IfSome told (λ refusal. (refusal ≡ refusals.TooManyRows) × AreTooMany (IsSlotRow db bound)) → IsToldBy (Cause db statement) found_order told
       rows_stop told h =
-          read_found db statement query (update_reads statement update query reading) reading (update_names db statement update)
+          read_found db statement query (update_reads statement update query reading) bound_select (update_names db statement update) reading
           (literal_clear db statement sound) told (rows_told db query bound binds clear told h)
 
       pub rows_go : (rows : List (List Oid)) → AreRows (IsSlotRow db bound) rows → IsClear (Cause db statement) found_order
       rows_go rows all =
-          read_clear db statement query (update_reads statement update query reading) reading (update_names db statement update)
+          read_clear db statement query (update_reads statement update query reading) bound_select (update_names db statement update) reading
           (literal_clear db statement sound) (rows_clear db query bound binds clear rows all)
 
 -- ---- the changes

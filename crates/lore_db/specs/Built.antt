@@ -1,10 +1,11 @@
--- The forms of statement that are executed, what they read, and which make changes. A statement of any other form is
+-- The forms of statement that are executed, what they bind and read, and which make changes. A statement of any other form is
 -- refused `Syntax`.
 use Rattle.std.specs.Prelude.{Bool, true, false, ◌||◌, if◌then◌else◌, [], Option, Some, None, is_some}
 use Rattle.std.specs.List.{list_any}
 use Rattle.lorel_trees.specs.Trees.{LiteralTree, RootedTree, ItemTree, object, path_of, FromTree}
 use Rattle.lorel_trees.specs.Trees.{SelectTree, StatementTree}
-use Rattle.lorel_trees.specs.Trees.{load, bind, unname, assign, add_new, add_link, remove, select, guide, set_nodes}
+use Rattle.lorel_trees.specs.Trees.{load, bind, unname, assign, add_new, add_link, remove, select, explain, guide}
+use Rattle.lorel_trees.specs.Trees.{set_nodes, set_plan}
 use Rattle.lorel_trees.specs.UpdateRows.{target_select, rows_of}
 
 -- the select of one path
@@ -16,6 +17,11 @@ abbrev pub reads : StatementTree → Option SelectTree
 reads (bind name path) = Some (path_select path)
 reads (select query) = Some query
 reads statement = rows_of statement
+
+-- the select that a statement binds: that whose rows it is executed over, or that whose plan it shows
+abbrev pub binds : StatementTree → Option SelectTree
+binds (explain query) = Some query
+binds statement = reads statement
 
 -- the literal that a statement makes objects of
 abbrev pub makes : StatementTree → Option LiteralTree
@@ -45,15 +51,16 @@ has_path_variable query =
     list_any is_path_variable query.items
     || list_any (λ (range : FromTree). is_some range.word) query.tail.ranges
 
-abbrev pub is_read : Option SelectTree → Bool
-is_read None = false
-is_read (Some query) = if has_path_variable query then false else true
+abbrev pub is_bound : Option SelectTree → Bool
+is_bound None = false
+is_bound (Some query) = if has_path_variable query then false else true
 
--- whether the form is built: a load, an unname, the guide and its limit, and what is executed over a select without
+-- whether the form is built: a load, an unname, the guide and its limit, the plan mode, and what binds a select without
 -- path variables
 abbrev pub is_built : StatementTree → Bool
 is_built (load name literal) = true
 is_built (unname name) = true
 is_built guide = true
 is_built (set_nodes nodes) = true
-is_built statement = is_read (reads statement)
+is_built (set_plan mode) = true
+is_built statement = is_bound (binds statement)

@@ -1,7 +1,8 @@
 pub mod Types
 pub mod Answers
 pub mod Built
+pub mod Plans
 pub mod Statements
-pub mod KeptDatabases
+pub mod Uncounted
 pub mod StatementLaws
 pub mod inside

@@ -1,11 +1,10 @@
 -- Laws that make the meaning of one statement whole: its reply and the database after it are determined, and they exist
--- from each database that a `Db` can be.
+-- from each valid database.
 use Rattle.std.specs.Prelude.{◌≡◌}
-use Rattle.lore_base.specs.Databases.{Database, new_database}
+use Rattle.lore_base.specs.Databases.{Database, IsValid, new_database}
 use Rattle.lorel_trees.specs.Trees.{StatementTree}
 use Rattle.lorel_trees.specs.Sound.{IsSound}
 use Rattle.lore_db.specs.Types.{Reply}
-use Rattle.lore_db.specs.KeptDatabases.{IsKept}
 use Rattle.lore_db.specs.Statements.{Executes}
 
 -- a statement has one reply, and leaves one database
@@ -14,18 +13,18 @@ ExecutesOnce = (before : Database) (statement : StatementTree) (reply other : Re
     → Executes before statement reply after → Executes before statement other later
     → (reply ≡ other) × (after ≡ later)
 
--- what a statement answers and leaves, where the database stays one that a `Db` can be
+-- what a statement answers and leaves, where the database stays valid
 pub record SomeReply (before : Database) (statement : StatementTree) : Type 0 where
   pub reply : Reply
   pub after : Database
   pub executed : Executes before statement reply after
-  pub kept : IsKept after
+  pub valid : IsValid after
 
--- each sound statement has a reply
+-- from a valid database each sound statement has a reply
 abbrev pub ExecutesAlways : Type 0
 ExecutesAlways =
-    (before : Database) (statement : StatementTree) → IsKept before → IsSound statement → SomeReply before statement
+    (before : Database) (statement : StatementTree) → IsValid before → IsSound statement → SomeReply before statement
 
--- the new database is one that a `Db` can be
-abbrev pub BeginsKept : Type 0
-BeginsKept = IsKept new_database
+-- the new database is valid
+abbrev pub BeginsValid : Type 0
+BeginsValid = IsValid new_database

@@ -1,7 +1,7 @@
 -- What one statement answers, and the database that it leaves.
 use Rattle.std.specs.Prelude.{◌≡◌, ◌≢◌, ℕ, ℤ, pos, ◌<◌, ◌⊎◌, true, false, List, [], ◌∷◌, ◌++◌, length, map}
 use Rattle.std.specs.Prelude.{Some, None, MatchOption}
-use Rattle.lore_db.specs.Types.{Oid, Changes, Refusal, ROWS, Reply, Changed, Rows, Lines, Refused}
+use Rattle.lore_db.specs.Types.{Oid, Mode, Changes, Refusal, ROWS, Reply, Changed, Rows, Lines, Refused}
 use Rattle.lore_db.specs.Types.refusals
 use Rattle.lore_base.specs.Walks.{oid_of}
 use Rattle.lore_base.specs.Databases.{Database}
@@ -10,7 +10,7 @@ use Rattle.lore_base.specs.ChangeSets.{IsBound, IsAfter}
 use Rattle.lore_base.specs.ChangeCauses.{DatabaseCause}
 use Rattle.lore_base.specs.Verdicts.{IsFirst, IsClear}
 use Rattle.lorel_trees.specs.Trees.{LiteralTree, SelectTree, StatementTree}
-use Rattle.lorel_trees.specs.Trees.{load, bind, unname, select, guide, set_nodes}
+use Rattle.lorel_trees.specs.Trees.{load, bind, unname, select, explain, guide, set_nodes, set_plan}
 use Rattle.lorel_bind.specs.Answers.{IsAnswer}
 use Rattle.lorel_bind.specs.Refusals as binding
 use Rattle.oem_labels.specs.Labels.{first_uses}
@@ -18,7 +18,8 @@ use Rattle.oem_text.specs.Literals.{HasDouble, HasUndefined, labels_of, objects_
 use Rattle.updates.specs.Effects.{Pair, no_changes, changes_by}
 use Rattle.guide_query.specs.GuideLines.{AreGuideLines}
 use Rattle.lore_store.specs.Stores.{IsLimit}
-use Rattle.lore_db.specs.Built.{reads, makes, path_select, makes_changes, is_built}
+use Rattle.lore_db.specs.Built.{reads, binds, makes, path_select, makes_changes, is_built}
+use Rattle.lore_db.specs.Plans.{ShowsPlan}
 
 -- What a statement changes.
 
@@ -110,7 +111,11 @@ abbrev pub IsOutOfRange : Database → StatementTree → Type 0
 IsOutOfRange db (set_nodes nodes) = IsNoLimit db nodes
 IsOutOfRange db statement = ⊥
 
--- the select that a statement is executed over has this
+-- the select that a statement binds has this
+abbrev pub OfBinds : StatementTree → (SelectTree → Type 0) → Type 0
+OfBinds statement Has = MatchOption (binds statement) ⊥ Has
+
+-- the select whose rows a statement is executed over has this
 abbrev pub OfReads : StatementTree → (SelectTree → Type 0) → Type 0
 OfReads statement Has = MatchOption (reads statement) ⊥ Has
 
@@ -123,13 +128,13 @@ abbrev pub Cause : Database → StatementTree → Refusal → Type 0
 Cause db statement refusals.Syntax = is_built statement ≡ false
 Cause db statement refusals.UnknownName =
     IsUnbound db statement
-    ⊎ OfReads statement (λ query. binding.Cause db.graph.names query refusals.UnknownName)
+    ⊎ OfBinds statement (λ query. binding.Cause db.graph.names query refusals.UnknownName)
 Cause db statement refusals.UnknownVariable =
-    OfReads statement (λ query. binding.Cause db.graph.names query refusals.UnknownVariable)
+    OfBinds statement (λ query. binding.Cause db.graph.names query refusals.UnknownVariable)
 Cause db statement refusals.DuplicateVariable =
-    OfReads statement (λ query. binding.Cause db.graph.names query refusals.DuplicateVariable)
+    OfBinds statement (λ query. binding.Cause db.graph.names query refusals.DuplicateVariable)
 Cause db statement refusals.TooManyRanges =
-    OfReads statement (λ query. binding.Cause db.graph.names query refusals.TooManyRanges)
+    OfBinds statement (λ query. binding.Cause db.graph.names query refusals.TooManyRanges)
 Cause db statement refusals.DuplicateLocal = OfMakes statement HasDouble
 Cause db statement refusals.UndefinedLocal = OfMakes statement HasUndefined
 Cause db statement refusals.TooManyRows = OfReads statement (HasTooManyRows db)
@@ -166,10 +171,18 @@ Shows before reply after =
     (after ≡ before) × ((lines : List (List ℕ)) × (reply ≡ Lines lines)
     × AreGuideLines before.graph.names before.graph.edges before.labels lines)
 
+-- the plan of the select, which is not carried out, and nothing changes
+abbrev pub Explains : Database → SelectTree → Reply → Database → Type 0
+Explains before query reply after = (after ≡ before) × ShowsPlan before query reply
+
 -- the limit on the guide's nodes becomes the number
 abbrev pub Limits : Database → ℤ → Reply → Database → Type 0
 Limits before nodes reply after =
     ((limit : ℕ) × (nodes ≡ pos limit) × (after ≡ record before { nodes = limit })) × Counts after reply
+
+-- plans are chosen in this mode from then on
+abbrev pub ChoosesBy : Database → Mode → Reply → Database → Type 0
+ChoosesBy before mode reply after = (after ≡ record before { mode = mode }) × Counts after reply
 
 -- a select answers all of its rows and changes nothing
 abbrev pub Answers : Database → SelectTree → Reply → Database → Type 0
@@ -178,8 +191,10 @@ Answers before query reply after =
 
 abbrev pub Performs : Database → StatementTree → Reply → Database → Type 0
 Performs before (select query) reply after = Answers before query reply after
+Performs before (explain query) reply after = Explains before query reply after
 Performs before guide reply after = Shows before reply after
 Performs before (set_nodes nodes) reply after = Limits before nodes reply after
+Performs before (set_plan mode) reply after = ChoosesBy before mode reply after
 Performs before statement reply after = LeadsOn before statement reply after
 
 -- a refusal changes nothing

@@ -2,6 +2,6 @@
 pub mod Stops
 pub mod Stages
 pub mod Finding
-pub mod Legs
 pub mod RowOrder
+pub mod Starts
 pub mod Locals

@@ -1,10 +1,11 @@
-ghost use Rattle.std.specs.Prelude.{◌≡◌, Some, Contains, slice_get, IfOk, OnErr, IfSome, IfNone};
+ghost use Rattle.std.specs.Prelude.{◌≡◌, Some, Contains, slice_get, IfOk, OnOk, OnErr, IfSome, IfNone};
 ghost use Rattle.std.specs.Option.{option_copied};
 ghost use Rattle.lore_db.specs.Types.{Value as TheValue};
 ghost use Rattle.lore_base.specs.Databases.{IsLive, new_database};
 ghost use Rattle.lorel_trees.specs.Trees.{statement_tree};
 ghost use Rattle.lorel_trees.specs.Sound.{IsSound};
 ghost use Rattle.lore_db.specs.Statements.{Executes};
+ghost use Rattle.lore_db.specs.Uncounted.{ReadsNoEdge};
 
 use crate::replies::Reply;
 use crate::stops::reply_of;
@@ -23,14 +24,13 @@ pub struct Db {
 }
 
 impl Model for Db {
-    ghost use Rattle.lore_base.specs.Databases.{Database};
-    ghost use Rattle.lore_db.specs.KeptDatabases.{IsKept};
+    ghost use Rattle.lore_base.specs.Databases.{Database, IsValid};
 
     ghost Value = { Database };
 
     ghost view = { λ s. s.store.db };
 
-    ghost invariant = { λ s. IsKept s.store.db };
+    ghost invariant = { λ s. IsValid s.store.db };
 }
 
 impl Db {
@@ -68,7 +68,9 @@ impl Db {
         self.store.labels().text(label)
     }
 
-    /// Executes a statement. A refusal, and want of memory, leave the database as it was.
+    /// Executes a statement. A refusal, and want of memory, leave the database as it was. No step is
+    /// counted for a statement that shows a plan or the guide, or sets something, and for a select
+    /// whose plan reads no edge: where the guide tells all, or no value is found to begin with.
     ///
     /// This match says which forms are built; each other one is refused `Syntax`.
     pub fn execute<L: Ledger>(
@@ -81,6 +83,8 @@ impl Db {
         ensures ok { IfOk result (λ reply.
             Executes self.old (statement_tree statement.now) reply self.new) }
         ensures err { OnErr result (self.new ≡ self.old) }
+        ensures uncounted { OnOk result (ReadsNoEdge self.old (statement_tree statement.now)
+            → steps.new ≡ steps.old) }
     {
         match statement {
             Statement::Load { name, literal } => reply_of(self.load(alloc, name, literal, steps)),
@@ -91,8 +95,10 @@ impl Db {
             | Statement::AddLink { .. }
             | Statement::Remove { .. } => reply_of(self.update(alloc, statement, steps)),
             Statement::Select(query) => reply_of(self.select(alloc, query, steps)),
+            Statement::Explain(query) => reply_of(self.explain(alloc, query)),
             Statement::Guide => reply_of(self.show_guide()),
             Statement::SetNodes(nodes) => reply_of(self.set_nodes(*nodes)),
+            Statement::SetPlan(mode) => Ok(self.set_plan(*mode)),
             _ => Ok(Reply::Refused(Refusal::Syntax)),
         }
     }

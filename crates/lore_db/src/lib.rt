@@ -1,10 +1,11 @@
 //! One database, and the statements that are executed on it.
 //!
 //! `Db::execute` (`db`) takes a statement of any form. A select (`selects`) is bound (`lorel_bind`);
-//! then its rows are found range by range (`rows`, over `legs`), tested (`lorel_eval`) and noted
-//! down, each once (`found_rows`). A load (`loads`), a name bound or taken away (`namings`) and an
+//! then its plan is chosen (`planner`), and the rows that come by it (`rows`, over `plan_ops`) are
+//! noted down, each once (`found_rows`). A load (`loads`), a name bound or taken away (`namings`) and an
 //! update over the rows of its select (`updating`) list changes, which are made all at once
-//! (`applying`, over `lore_store`). The guide is shown, and its limit set, by `guides`. What ends the
+//! (`applying`, over `lore_store`). The guide is shown, and its limit set, by `guides`; the plan of a
+//! select is shown by `explain` (over `planner`), and the plan mode set by `modes`. What ends the
 //! work early is a `Stop` (`stops`). What a statement answers is a `Reply` (`replies`), with the rows
 //! of a select (`answers`) among them.
 #![tactic(auto)]
@@ -16,11 +17,12 @@ pub use replies::Reply;
 mod answers;
 mod applying;
 mod db;
+mod explain;
 mod found_rows;
 mod guides;
 pub mod laws;
-mod legs;
 mod loads;
+mod modes;
 mod namings;
 mod replies;
 mod rows;

@@ -1,5 +1,6 @@
 use crate::answers::Answer;
 use lore_base::{Refusal, TextList};
+use lorel_bind::PlanKind;
 
 /// What a statement answers.
 #[derive(Drop)]
@@ -13,6 +14,14 @@ pub enum Reply {
     },
     /// The rows of a select.
     Rows(Answer),
+    /// The plan of a select: its kind; how many objects have a value that its comparison asks for; and
+    /// how many the comparison's range reaches from the name. Both are None where it can have no plan
+    /// from the bottom.
+    PlanShown {
+        kind: PlanKind,
+        candidates: Option<u32>,
+        found: Option<u32>,
+    },
     /// Lines of text, without line ends.
     Lines(TextList),
     /// The statement was refused and changed nothing.

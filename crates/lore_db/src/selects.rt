@@ -9,24 +9,28 @@ ghost use Rattle.lorel_bind.specs.SlotRows.{IsSlotRow};
 ghost use Rattle.lore_db.specs.Types.refusals;
 ghost use Rattle.lore_db.specs.Built.{is_path_variable, has_path_variable};
 ghost use Rattle.lore_db.specs.Statements.{Cause, order, Executes};
-ghost use Rattle.lore_db.specs.inside.Stops.{told};
+ghost use Rattle.lore_db.specs.Uncounted.{IsQuietBound, IsQuietSelect};
+ghost use Rattle.lore_db.specs.inside.Starts.{HasNamedStarts};
+ghost use Rattle.lore_db.specs.inside.Stops.{told, OnReply};
 ghost use Rattle.lore_db.specs.inside.Stages.{ReadCause, bind_order, read_order};
 ghost use Rattle.lore_db.specs.inside.Finding.{AreRows, AreTooMany};
 
 use crate::answers::Answer;
 use crate::db::Db;
 use crate::replies::Reply;
-use crate::rows::find_rows;
+use crate::rows::all_rows;
 use crate::stops::Stop;
+use guide_query::GuidePaths;
 use lore_base::{Refusal, Steps};
 use lorel_bind::{Bound, bind};
 use lorel_eval::Test;
 use lorel_trees::{FromItem, Item, Select};
+use plan_ops::Rows;
 use std::alloc::Global;
 use std::sync::ledger::Ledger;
 
 impl Db {
-    /// Selects rows.
+    /// Selects rows. No step is counted where the plan reads no edge.
     pub(crate) fn select<L: Ledger>(
         &self,
         alloc: Global,
@@ -38,6 +42,8 @@ impl Db {
             Executes self.now (select (select_tree query.now)) reply self.now) }
         ensures refused { let tree = select (select_tree query.now) in
             IfErr result (λ stop. IsToldBy (Cause self.now tree) order (told stop)) }
+        ensures quiet { OnReply result (IsQuietSelect self.now (select_tree query.now)
+            → steps.new ≡ steps.old) }
     {
         Ok(Reply::Rows(self.rows_of(alloc, query, steps)?))
     }
@@ -56,6 +62,8 @@ impl Db {
         ensures ok { OnOk result (IsClear (ReadCause self.now (select_tree query.now)) read_order) }
         ensures refused { let cause = ReadCause self.now (select_tree query.now) in
             IfErr result (λ stop. IsToldBy cause read_order (told stop)) }
+        ensures quiet { OnReply result (IsQuietSelect self.now (select_tree query.now)
+            → steps.new ≡ steps.old) }
     {
         let bound = self.bound(alloc, query)?;
         let found = self.found(alloc, &bound, steps);
@@ -70,6 +78,8 @@ impl Db {
         ensures binding { IfOk result (λ bound.
             IsBinding self.now.graph.names (select_tree query.now) (bound_tree bound)) }
         ensures runnable { IfOk result (λ bound. IsRunnable (bound_tree bound)) }
+        ensures named { IfOk result (λ bound.
+            HasNamedStarts self.now.graph.names (bound_tree bound)) }
         ensures ok { OnOk result (IsClear (ReadCause self.now (select_tree query.now)) bind_order) }
         ensures refused { let cause = ReadCause self.now (select_tree query.now) in
             IfErr result (λ stop. IsToldBy cause bind_order (told stop)) }
@@ -87,14 +97,24 @@ impl Db {
         bound: &Bound,
         steps: &mut Steps<L>,
     ) -> Result<Answer, Stop>
-        requires { IsRunnable (bound_tree bound.now) }
+        requires runnable { IsRunnable (bound_tree bound.now) }
+        requires named { HasNamedStarts self.now.graph.names (bound_tree bound.now) }
+        ensures quiet { OnReply result (IsQuietBound self.now (bound_tree bound.now)
+            → steps.new ≡ steps.old) }
         ensures rows { IfOk result (AreRows (IsSlotRow self.now (bound_tree bound.now))) }
         ensures refused { IfErr result (λ stop. IfSome (told stop) (λ refusal.
             (refusal ≡ refusals.TooManyRows) × AreTooMany (IsSlotRow self.now (bound_tree bound.now)))) }
     {
-        let (graph, labels) = (self.store.graph(), self.store.labels());
-        let test = Test::new(bound.cond.as_ref(), graph, graph, labels);
-        match find_rows(alloc, bound, &test, graph, labels, steps)? {
+        let store = &self.store;
+        let (graph, labels) = (store.graph(), store.labels());
+        let (links, values) = (store.links(), store.values());
+        let paths = GuidePaths::new(store.guide(), graph.names(), labels);
+        let test = Test::ready(alloc, bound.cond.as_ref(), graph, graph, labels)?;
+        let plan = self.plan_of(alloc, bound)?;
+        let mut rows = Rows::new(
+            alloc, graph, links, values, &paths, &test, bound, &plan, labels,
+        )?;
+        match all_rows(alloc, &mut rows, bound.cells.as_slice(), steps)? {
             Some(answer) => Ok(answer),
             None => Err(Stop::Refused(Refusal::TooManyRows)),
         }

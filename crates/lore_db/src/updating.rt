@@ -12,6 +12,7 @@ ghost use Rattle.oem_text.specs.Parts.{local_order};
 ghost use Rattle.lore_db.specs.Statements.{pair_of, AreRowsOf, Cause, order, Executes};
 ghost use Rattle.lore_db.specs.inside.Stops.{told};
 ghost use Rattle.lore_db.specs.inside.Stages.{found_order};
+ghost use Rattle.lore_db.specs.inside.Starts.{HasNamedStarts};
 ghost use Rattle.lore_db.specs.inside.Finding.{AreRows};
 ghost use Rattle.lore_db.specs.inside.Locals.{HasSoundLocals, MadeLocals, StopsRows};
 
@@ -88,6 +89,7 @@ impl Db {
     ) -> Result<Answer, Stop>
         requires update { IsUpdate (statement_tree statement.now) }
         requires runnable { IsRunnable (bound_tree bound.now) }
+        requires named { HasNamedStarts self.now.graph.names (bound_tree bound.now) }
         ensures locals { OnOk result (HasSoundLocals (statement_tree statement.now)) }
         ensures rows { IfOk result (AreRows (IsSlotRow self.now (bound_tree bound.now))) }
         ensures refused { let tree = statement_tree statement.now in

@@ -7,8 +7,8 @@ use Rattle.lore_base.specs.Refusals.{number_of, text_of}
 use Rattle.lorel_trees.specs.Trees.{StatementTree, load, bind, unname, assign, add_new, add_link, remove, select}
 use Rattle.lorel_trees.specs.Trees.{explain, guide, browse, sample, set_nodes, set_plan, dump, restore, generate}
 use Rattle.lore_db.specs.Statements.{Counts, Performs, Executes}
-use Rattle.lore_run.specs.Types.{Refusal, Syntax, Unfinished, Reply, Changed, Rows, Lines, Refused}
-use Rattle.lore_run.specs.Replies.{row_line, rendered}
+use Rattle.lore_run.specs.Types.{Refusal, Syntax, Unfinished, Reply, Changed, Rows, PlanShown, Lines, Refused}
+use Rattle.lore_run.specs.Replies.{row_line, kind_text, given_text, rendered}
 use Rattle.lore_run.specs.Runs.{ScriptPart, chunk, rest, Yields}
 
 abbrev pub IsSome : Database → Reply → Type 0
@@ -47,6 +47,9 @@ performs-some : (before : Database) (statement : StatementTree) (reply : Reply) 
 performs-some before (select query) reply after (kept, (rows, same, answered)) =
     same-some after reply (Rows rows) same
     (line-some (flat_map (row_line after.graph.objects) rows ++ codes "rows " ++ decimal (length rows)))
+performs-some before (explain query) reply after (kept, shown) =
+    same-some after reply (PlanShown shown.kind shown.candidates shown.found) shown.is
+    (line-some (codes "plan " ++ kind_text shown.kind ++ given_text shown.candidates ++ given_text shown.found))
 performs-some before guide reply after (kept, (lines, same, shown)) =
     let some = last-some shown.set_lines lines (codes "nodes " ++ decimal (length shown.sets)) shown.are in
     same-some after reply (Lines lines) same (lines-some lines some)
@@ -58,7 +61,6 @@ performs-some before (assign target value tail) reply after (led, counted) = cou
 performs-some before (add_new target label literal tail) reply after (led, counted) = counts-some after reply counted
 performs-some before (add_link target label right tail) reply after (led, counted) = counts-some after reply counted
 performs-some before (remove target label right tail) reply after (led, counted) = counts-some after reply counted
-performs-some before (explain query) reply after (led, counted) = counts-some after reply counted
 performs-some before (browse start labels) reply after (led, counted) = counts-some after reply counted
 performs-some before (sample start labels count) reply after (led, counted) = counts-some after reply counted
 performs-some before (set_plan mode) reply after (led, counted) = counts-some after reply counted

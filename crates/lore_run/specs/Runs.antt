@@ -1,7 +1,7 @@
 -- What a script means: the parts that it is cut into, what each of them answers, and what all of them print.
 use Rattle.std.specs.Prelude.{◌≡◌, ℕ, ◌+◌, ◌⊎◌, Some, List, [], ◌∷◌, ◌++◌, length, map, All}
 use Rattle.lore_base.specs.Chunks.{joined_chunks}
-use Rattle.lore_base.specs.Databases.{Database, new_database}
+use Rattle.lore_base.specs.Databases.{Database, IsValid, new_database}
 use Rattle.lorel_lex.specs.declared.token_types.Token.{Token}
 use Rattle.lorel_lex.specs.Scan.{IsChunk, IsScript}
 use Rattle.lorel_lex.specs.Gaps.{IsBlank}
@@ -11,7 +11,6 @@ use Rattle.lorel_lex.specs.Tokens.{AreTokens, HasFault}
 use Rattle.lorel_trees.specs.Trees.{StatementTree}
 use Rattle.lorel_trees.specs.Tokens.{HasTokens}
 use Rattle.lore_run.specs.Types.{Refusal, Syntax, Unfinished, Reply, Refused}
-use Rattle.lore_db.specs.KeptDatabases.{IsKept}
 use Rattle.lore_db.specs.Statements.{Executes}
 use Rattle.lore_run.specs.Replies.{rendered}
 
@@ -123,8 +122,8 @@ abbrev pub HasOneReading : Type 0
 HasOneReading =
     (script : List ℕ) (parts others : List ScriptPart) → HasParts script parts → HasParts script others → parts ≡ others
 
--- from each database that a `Db` can be, parts have a run
+-- from each valid database parts have a run
 abbrev pub HasSomeRun : Type 0
 HasSomeRun =
-    (before : Database) (parts : List ScriptPart) → IsKept before
+    (before : Database) (parts : List ScriptPart) → IsValid before
     → (bytes : List ℕ) × (refused : ℕ) × (after : Database) × Runs before parts bytes refused after

@@ -12,7 +12,7 @@ pub fn one_run()
     ensures { HasOneRun }
 {}
 
-/// From each database that a `Db` can be, parts have a run.
+/// From each valid database parts have a run.
 pub fn some_run()
     ensures { HasSomeRun }
 {}

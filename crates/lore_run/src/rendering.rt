@@ -4,9 +4,11 @@ ghost use Rattle.std.specs.List.{flat_map, join_by};
 ghost use Rattle.lore_base.specs.Causes.{HasCause};
 ghost use Rattle.lore_base.specs.Pieces.{Puts};
 ghost use Rattle.lore_base.specs.Printed.{printed};
-ghost use Rattle.lore_run.specs.Replies.{value_of, cell_text, row_line, rendered};
+ghost use Rattle.lore_run.specs.Replies.{value_of, cell_text, row_line, kind_text, given_text};
+ghost use Rattle.lore_run.specs.Replies.{rendered};
 ghost use Rattle.lore_run.specs.inside.Deliveries.{AppendsProperFront};
 ghost use Rattle.lore_run.specs.Types.{Changed as ChangedReply, Rows as RowsReply};
+ghost use Rattle.lore_run.specs.Types.{PlanShown as PlanReply};
 ghost use Rattle.lore_run.specs.Types.{Lines as LinesReply};
 ghost use Rattle.lore_run.specs.Types.{Refused as RefusedReply};
 
@@ -14,6 +16,7 @@ use crate::reply_writer::ReplyWriter;
 use itoa::{Buffer, Integer};
 use lore_base::{Failed, OemText, Oid, Out, Refusal, Sink, Value};
 use lore_db::{AnswerRow, Db, Reply};
+use lorel_bind::PlanKind;
 use oem_atom::print_value;
 
 /// Writes the lines of a reply to the sink, by way of a buffer of 4,096 bytes. An object of a row
@@ -58,6 +61,11 @@ fn put_reply<O: Out>(reply: &Reply, db: &Db, out: &mut O) -> Result<(), O::Fault
             nodes,
         } => put_changed(*objects, *edges, *nodes, out),
         Reply::Rows(answer) => put_rows(answer.as_slice(), db, out),
+        Reply::PlanShown {
+            kind,
+            candidates,
+            found,
+        } => put_plan(*kind, *candidates, *found, out),
         Reply::Lines(lines) => put_lines(lines.as_slice(), out),
         Reply::Refused(refusal) => put_refused(*refusal, out),
     }
@@ -72,6 +80,44 @@ fn put_changed<O: Out>(objects: u32, edges: u32, nodes: u32, out: &mut O) -> Res
     put_count(b" edges ", edges, out)?;
     put_count(b" nodes ", nodes, out)?;
     out.put(b"\n")
+}
+
+/// Puts the line of a plan: its kind, and what was counted for it.
+fn put_plan<O: Out>(
+    kind: PlanKind,
+    candidates: Option<u32>,
+    found: Option<u32>,
+    out: &mut O,
+) -> Result<(), O::Fault>
+    ensures { Puts O.is_memory (O.state out.old)
+        (rendered [] (PlanReply kind candidates found)) (O.state out.new) result }
+{
+    out.put(b"plan ")?;
+    out.put(text_of(kind).as_bytes())?;
+    put_given(candidates, out)?;
+    put_given(found, out)?;
+    out.put(b"\n")
+}
+
+/// The word for a kind of plan.
+fn text_of(kind: PlanKind) -> &'static str
+    ensures { result.now ≡ kind_text kind }
+{
+    match kind {
+        PlanKind::Top => "top",
+        PlanKind::Bottom => "bottom",
+        PlanKind::Guided => "guide",
+    }
+}
+
+/// Puts a space and a number, or `-` where there is none.
+fn put_given<O: Out>(number: Option<u32>, out: &mut O) -> Result<(), O::Fault>
+    ensures { Puts O.is_memory (O.state out.old) (given_text number) (O.state out.new) result }
+{
+    match number {
+        Some(number) => put_count(b" ", number, out),
+        None => out.put(b" -"),
+    }
 }
 
 /// Puts each line, with its end.

@@ -1,6 +1,7 @@
 -- What a store holds once a prepared change is put in place.
 use Rattle.std.proofs.Common.{◌≡◌, ℕ, Option, Some, None, List, ◌++◌, refl, sym, subst}
 use Rattle.lore_base.specs.Databases.{OemGraph}
+use Rattle.lore_store.specs.Types.{Mode}
 use Rattle.oem_graph.specs.Plans.{graph_then}
 use Rattle.dataguide.specs.Guides.{GuideGraph}
 use Rattle.lore_store.specs.declared.indexes.Indexes.{Indexes}
@@ -20,13 +21,13 @@ kept_guide kept None none = refl
 kept_guide kept (Some other) none = absurd (none other refl)
 
 -- with the labels, the graph, the indexes and the guide that a plan leads to, a store is whole
-module _ (labels : List (List ℕ)) (graph : OemGraph) (limit : ℕ) (guide : GuideGraph) (plan : PlannedDatabase)
-    (leads : LeadsOn (database_of labels graph limit) guide plan) where
+module _ (labels : List (List ℕ)) (graph : OemGraph) (limit : ℕ) (mode : Mode) (guide : GuideGraph) (plan : PlannedDatabase)
+    (leads : LeadsOn (database_of labels graph limit mode) guide plan) where
   pub stored_then : (labels_then : List (List ℕ)) (graph_is : OemGraph) (kept : Indexes) (guide_is : GuideGraph)
       → labels_then ≡ labels ++ plan.labels.come → graph_is ≡ graph_then graph plan.graph → guide_then guide plan.guide ≡ guide_is
-      → AreIndexes (graph_then graph plan.graph) kept → IsStored (database_of labels_then graph_is limit) kept guide_is
+      → AreIndexes (graph_then graph plan.graph) kept → IsStored (database_of labels_then graph_is limit mode) kept guide_is
   stored_then labels_then graph_is kept guide_is labels_are graph_same guide_same indexes =
-      subst (λ (l : List (List ℕ)). IsStored (database_of l graph_is limit) kept guide_is) (sym labels_are)
-      (subst (λ (g : OemGraph). IsStored (database_of (labels ++ plan.labels.come) g limit) kept guide_is) (sym graph_same)
-      (subst (λ (o : GuideGraph). IsStored (database_of (labels ++ plan.labels.come) (graph_then graph plan.graph) limit) kept o) guide_same
+      subst (λ (l : List (List ℕ)). IsStored (database_of l graph_is limit mode) kept guide_is) (sym labels_are)
+      (subst (λ (g : OemGraph). IsStored (database_of (labels ++ plan.labels.come) g limit mode) kept guide_is) (sym graph_same)
+      (subst (λ (o : GuideGraph). IsStored (database_of (labels ++ plan.labels.come) (graph_then graph plan.graph) limit mode) kept o) guide_same
       (record { valid = leads.valid; indexes = indexes; guided = leads.guided })))

@@ -3,4 +3,5 @@ pub mod IndexLaws
 pub mod NewLaws
 pub mod PreparedLaws
 pub mod LimitLaws
+pub mod ModeLaws
 pub mod CommitLaws

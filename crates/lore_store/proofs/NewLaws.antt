@@ -3,7 +3,7 @@ use Rattle.std.proofs.Common.{◌≡◌, ℕ, List, [], sym, subst, arith}
 use Rattle.std.specs.List.{AllPairs, Contains}
 use Rattle.std.specs.List.Sorted.{IsStrictlySortedBy}
 use Rattle.std.proofs.lemmas.List.Elements.{All-contains, Contains-get_or}
-use Rattle.lore_store.specs.Types.{NODES, Edge}
+use Rattle.lore_store.specs.Types.{Auto, NODES, Edge}
 use Rattle.lore_base.specs.TargetSets.{AreMoreThan, IsLedTo}
 use Rattle.lore_base.specs.Databases.{OemGraph, IsValid, new_database, new_graph}
 use Rattle.lore_base.proofs.MemberLaws.{Contains-none}
@@ -72,10 +72,10 @@ new_indexes kept links entries = record { links = new_links kept.links.links lin
 
 pub new_stored : (labels : List (List ℕ)) (graph : OemGraph) (kept : Indexes) (guide : GuideGraph)
     → labels ≡ [] → graph ≡ new_graph → AreIndexes new_graph kept → guide.nodes ≡ [] → StandsFor guide [] []
-    → IsStored (database_of labels graph NODES) kept guide
+    → IsStored (database_of labels graph NODES Auto) kept guide
 new_stored labels graph kept guide no_label is indexes nodes stands =
-    subst (λ (l : List (List ℕ)). IsStored (database_of l graph NODES) kept guide) (sym no_label)
-    (subst (λ (g : OemGraph). IsStored (database_of [] g NODES) kept guide) (sym is)
+    subst (λ (l : List (List ℕ)). IsStored (database_of l graph NODES Auto) kept guide) (sym no_label)
+    (subst (λ (g : OemGraph). IsStored (database_of [] g NODES Auto) kept guide) (sym is)
     (record {
       valid = new_valid;
       indexes = indexes;

@@ -1,6 +1,6 @@
 -- Stores, and what a prepared change leads to.
 use Rattle.std.specs.Prelude.{ℕ, ◌≤◌, List, [], ◌∷◌, ◌++◌, Option, Some, None}
-use Rattle.lore_store.specs.Types.{Auto, NODES, Refusal}
+use Rattle.lore_store.specs.Types.{Mode, NODES, Refusal}
 use Rattle.lore_base.specs.TargetSets.{AreMoreThan}
 use Rattle.lore_store.specs.Types.refusals
 use Rattle.lore_store.specs.declared.indexes.Indexes.{Indexes}
@@ -12,9 +12,9 @@ use Rattle.oem_graph.specs.Graphs.{RoomyGraph}
 use Rattle.oem_graph.specs.Plans.{PlannedGraph, graph_then, HasRoom}
 use Rattle.oem_labels.specs.Labels.{PlannedLabels, LeadsFrom}
 
--- the database of these label texts, this graph and this limit on the guide's nodes
-abbrev pub database_of : List (List ℕ) → OemGraph → ℕ → Database
-database_of labels graph limit = record { labels = labels; graph = graph; nodes = limit; mode = Auto }
+-- the database of these label texts, this graph, this limit on the guide's nodes and this plan mode
+abbrev pub database_of : List (List ℕ) → OemGraph → ℕ → Mode → Database
+database_of labels graph limit mode = record { labels = labels; graph = graph; nodes = limit; mode = mode }
 
 -- a database; the graph with its room that it is kept in; its indexes; and its guide
 pub record RoomyDatabase : Type 0 where

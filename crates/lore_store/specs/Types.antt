@@ -1,5 +1,6 @@
 -- The declared types that the definitions of this crate cite, with their variants, and the limits, under one module.
 pub use Rattle.lore_base.specs.declared.edges.Edge.{Edge}
+pub use Rattle.lore_base.specs.declared.modes.Mode.{Mode}
 pub use Rattle.lore_base.specs.declared.modes.Mode.TheVariants.{Auto}
 pub use Rattle.lore_base.specs.declared.change_set.Changes.{Changes}
 pub use Rattle.lore_base.specs.declared.refusals.Refusal.{Refusal}

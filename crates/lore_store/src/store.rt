@@ -20,7 +20,7 @@ use crate::prepared::Prepared;
 use dataguide::Guide;
 use link_index::LinkIndex;
 use lore_base::limits::{EDGES, NAMES, NODES, OBJECTS};
-use lore_base::{Changes, NoMemory, OidBuf, Steps};
+use lore_base::{Changes, Mode, NoMemory, OidBuf, Steps};
 use oem_graph::{Graph, GraphPlan};
 use oem_labels::LabelTable;
 use oem_reach::dead_objects;
@@ -29,8 +29,8 @@ use std::marker::Model;
 use std::sync::ledger::Ledger;
 use value_index::ValueIndex;
 
-/// One valid database: its graph, its table of labels, its limit on the guide's nodes, its guide, and
-/// the indexes of its links and values, all as they would be built from it. Contracts see it as that
+/// One valid database: its graph, its table of labels, its limit on the guide's nodes, its plan mode,
+/// its guide, and the indexes of its links and values, all as they would be built from it. Contracts see it as that
 /// database and what it is kept in, with the room of each part.
 #[derive(Drop)]
 pub struct Store {
@@ -39,6 +39,7 @@ pub struct Store {
     indexes: Indexes,
     guide: Guide,
     limit: u32,
+    mode: Mode,
 }
 
 impl Model for Store {
@@ -47,14 +48,14 @@ impl Model for Store {
     ghost Value = { RoomyDatabase };
 
     ghost view = { λ s. record {
-      db = database_of s.labels s.graph.graph s.limit;
+      db = database_of s.labels s.graph.graph s.limit s.mode;
       kept = s.graph;
       indexes = s.indexes;
       guide = s.guide;
     } };
 
     ghost invariant = { λ s.
-        IsStored (database_of s.labels s.graph.graph s.limit) s.indexes s.guide };
+        IsStored (database_of s.labels s.graph.graph s.limit s.mode) s.indexes s.guide };
 }
 
 impl Store {
@@ -68,6 +69,7 @@ impl Store {
             indexes: Indexes::new(alloc),
             guide: Guide::new(alloc),
             limit: NODES,
+            mode: Mode::Auto,
         }
     }
 
@@ -130,6 +132,21 @@ impl Store {
         }
         self.limit = limit;
         true
+    }
+
+    /// How plans are chosen for selects.
+    pub fn mode(&self) -> Mode
+        ensures { result ≡ self.now.db.mode }
+    {
+        self.mode
+    }
+
+    /// Sets how plans are chosen. Takes no memory.
+    pub fn set_mode(&mut self, mode: Mode)
+        ensures set { self.new.db ≡ record self.old.db { mode = mode } }
+        ensures same { self.new ≡ record self.old { db = self.new.db } }
+    {
+        self.mode = mode;
     }
 
     /// Works out what these changes, which fit the database, lead to: what no name walks to then

@@ -1,13 +1,12 @@
 -- Rows: ordered by their cells, so a select has one answer.
-use Rattle.std.proofs.Common.{◌≡◌, ℕ, ◌↔◌, List, sym, ap, ◌∙◌}
-use Rattle.std.specs.List.{Contains}
+use Rattle.std.proofs.Common.{◌≡◌, List, sym, ap, ◌∙◌}
 use Rattle.std.specs.Cmp.{IsTotalOrder}
-use Rattle.std.specs.Ordering.{nat_cmp, ordering_reverse}
-use Rattle.std.specs.declared.cmp.Ordering.TheVariants.{Less, Equal, Greater}
+use Rattle.std.specs.Ordering.{ordering_reverse}
+use Rattle.std.specs.declared.cmp.Ordering.TheVariants.{Less, Greater}
 use Rattle.std.proofs.lemmas.Cmp.{nat_cmp_total, on_total, lists_total}
 use Rattle.lore_base.proofs.ListLaws.{AllPairs-unique}
 use Rattle.lorel_bind.specs.Types.{Oid}
-use Rattle.lorel_bind.specs.Answers.{IsRow, row_cmp, IsAnswer}
+use Rattle.lorel_bind.specs.Answers.{row_cmp}
 use Rattle.lorel_bind.specs.Laws.{HasOneAnswer}
 
 pub row_cmp_total : IsTotalOrder row_cmp

@@ -1,5 +1,5 @@
 -- Binding a condition: by the form of the condition, and one path.
-use Rattle.std.proofs.Common.{◌≡◌, ℕ, suc, ◌+◌, ◌<◌, ◌≤◌, arith, List, [], ◌∷◌, ◌++◌, length, take, drop, map, Bor, subst, refl, sym, ap, ◌∙◌}
+use Rattle.std.proofs.Common.{◌≡◌, ℕ, suc, ◌+◌, ◌<◌, ◌≤◌, arith, List, [], ◌∷◌, ◌++◌, length, take, drop, map, Bor, subst, sym, ap, ◌∙◌}
 use Rattle.std.specs.List.{AllZip}
 use Rattle.std.proofs.lemmas.List.{drop-map}
 use Rattle.std.specs.List.{take-map}
@@ -24,16 +24,14 @@ use Rattle.lorel_bind.specs.Bindings.{StandsForAny, IsBoundPath, Correspond, dep
 use Rattle.lorel_bind.specs.inside.Scopes.{enclosed, IsScope, names_of}
 use Rattle.lorel_bind.specs.inside.Views.{root_tree, place_tree, place_trees, prefix_of, ranges_of, texts}
 use Rattle.lorel_bind.specs.inside.Slots.{CanStartAny, StartsAny, CanBind}
-use Rattle.lorel_bind.specs.inside.Binders.{Serves, Binds, BindsRooted, BindsCond, BindsEach}
+use Rattle.lorel_bind.specs.inside.Binders.{Binds, BindsRooted, BindsCond, BindsEach}
 use Rattle.lorel_bind.specs.declared.conditions.Binder.{Binder}
 use Rattle.lorel_bind.specs.declared.places.Place.{Place}
 use Rattle.lorel_bind.specs.declared.bound.BoundPath.{BoundPath}
 use Rattle.lorel_bind.specs.declared.bound.BoundCond.{BoundCond}
 use Rattle.lorel_bind.specs.declared.bound.BoundCond.TheViews as v
-use Rattle.lorel_bind.specs.declared.bound.BoundCond.TheOpen as made
-use Rattle.lorel_bind.specs.declared.bound.BoundCond.TheVariants as rolled
-use Rattle.lorel_bind.specs.declared.bound.BoundCond.TheFolds.{fold-roll-BoundCond}
 use Rattle.lorel_bind.proofs.PlaceLaws.{place_from}
+use Rattle.lorel_bind.proofs.BoundLaws.{exists_cond, for_all_cond}
 use Rattle.lorel_bind.proofs.TextLaws.{cond_in-body, exists_tree, for_all_tree}
 
 -- ---- the plain data of conditions by their forms
@@ -47,14 +45,6 @@ same_tree left right =
 
 abbrev BoundTree : Type 0
 BoundTree = CondOf BoundPathTree
-
-exists_made : (path body : _) → bound_cond (v.Exists path body) ≡ exists (bound_path path) (bound_cond body.value)
-exists_made path body =
-    ap bound_cond (sym (rolled.rolls-Exists path body)) ∙ fold-roll-BoundCond BoundTree (List BoundTree) b.cond_step b.conds_step (made.Exists path body)
-
-for_all_made : (path body : _) → bound_cond (v.ForAll path body) ≡ for_all (bound_path path) (bound_cond body.value)
-for_all_made path body =
-    ap bound_cond (sym (rolled.rolls-ForAll path body)) ∙ fold-roll-BoundCond BoundTree (List BoundTree) b.cond_step b.conds_step (made.ForAll path body)
 
 -- behind the condition that is read next the others nest no deeper
 pub deep_read : (conds : List Cond) (around i : ℕ) (cond : Cond) → i < length conds
@@ -77,7 +67,7 @@ module _ (binder : Binder) (around : List (Bor (List ℕ))) where
       let text : cond_tree cond ≡ t.exists variable (rooted_tree path) (cond_tree read) =
       ap cond_tree is ∙ exists_tree variable path body ∙ ap (λ (c : Cond). t.exists variable (rooted_tree path) (cond_tree c)) (sym whole) in
       let form : bound_cond whole_made ≡ exists (bound_path bound) (bound_cond made) =
-      ap bound_cond is_made ∙ exists_made bound inside ∙ ap (λ (c : BoundCond). exists (bound_path bound) (bound_cond c)) kept in
+      exists_cond whole_made made bound inside is_made (sym kept) in
       subst (λ (tree : CondTree). Correspond (Binds binder plain) (cond_in within (length around) tree) (bound_cond whole_made)) (sym text)
       (subst (λ (c : BoundTree). Correspond (Binds binder plain) (cond_in within (length around) (t.exists variable (rooted_tree path) (cond_tree read))) c) (sym form) (
         first plain scope serves,
@@ -94,7 +84,7 @@ module _ (binder : Binder) (around : List (Bor (List ℕ))) where
       let text : cond_tree cond ≡ t.for_all variable (rooted_tree path) (cond_tree read) =
       ap cond_tree is ∙ for_all_tree variable path body ∙ ap (λ (c : Cond). t.for_all variable (rooted_tree path) (cond_tree c)) (sym whole) in
       let form : bound_cond whole_made ≡ for_all (bound_path bound) (bound_cond made) =
-      ap bound_cond is_made ∙ for_all_made bound inside ∙ ap (λ (c : BoundCond). for_all (bound_path bound) (bound_cond c)) kept in
+      for_all_cond whole_made made bound inside is_made (sym kept) in
       subst (λ (tree : CondTree). Correspond (Binds binder plain) (cond_in within (length around) tree) (bound_cond whole_made)) (sym text)
       (subst (λ (c : BoundTree). Correspond (Binds binder plain) (cond_in within (length around) (t.for_all variable (rooted_tree path) (cond_tree read))) c) (sym form) (
         first plain scope serves,

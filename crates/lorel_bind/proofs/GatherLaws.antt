@@ -1,8 +1,6 @@
 -- Plain ranges: of the ranges that are made there is one list with each place once.
-use Rattle.std.proofs.Common.{◌≡◌, ◌⊎◌, inl, inr, List, [], ◌∷◌, ◌++◌, refl, sym, ◌∙◌}
-use Rattle.std.specs.List.{Contains}
-use Rattle.lorel_trees.specs.Trees.{SelectTree}
-use Rattle.lorel_bind.specs.Ranges.{Range, made_ranges, places, AreGathered, ArePlain}
+use Rattle.std.proofs.Common.{◌≡◌, inl, inr, List, [], ◌∷◌, ◌++◌, refl, sym, ◌∙◌}
+use Rattle.lorel_bind.specs.Ranges.{Range, made_ranges, places, AreGathered}
 use Rattle.lorel_bind.specs.Laws.{HasOnePlain, HasSomePlain}
 use Rattle.lorel_bind.proofs.ToldLaws.{told_member}
 use Rattle.lorel_bind.proofs.PlaceLaws.{told_place}

@@ -1,8 +1,8 @@
 -- Leaves: fused ranges have no more than the paths of from items and items, and the rest of a path no more than the path.
-use Rattle.std.proofs.Common.{◌≡◌, ℕ, zero, suc, ◌+◌, ◌≤◌, inl, inr, List, [], ◌∷◌, ◌++◌, map, Option, Some, None, refl, sym, ap, ◌∙◌, arith}
-use Rattle.std.specs.List.{AllZip, flat_map, sum_by}
+use Rattle.std.proofs.Common.{◌≡◌, ℕ, zero, suc, ◌+◌, ◌≤◌, inl, inr, List, [], ◌∷◌, ◌++◌, Option, Some, None, refl, sym, ap, ◌∙◌, arith}
+use Rattle.std.specs.List.{flat_map, sum_by}
 use Rattle.std.proofs.lemmas.List.Sums.{sum_by-cons, sum_by-append}
-use Rattle.lore_base.specs.Paths.{PathTree, seq, trees_of, leaves, leaves_of}
+use Rattle.lore_base.specs.Paths.{PathTree, trees_of, leaves_of}
 use Rattle.lorel_trees.specs.Trees.{FromTree, SelectTree}
 use Rattle.lorel_bind.specs.Places.{ranged, Place, at_root, beyond, Scope, place_of, scope_behind, cell_places}
 use Rattle.lorel_bind.specs.Conditions.{cond_places}

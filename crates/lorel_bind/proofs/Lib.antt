@@ -25,6 +25,8 @@ pub mod SlotRowLaws
 pub mod LeafLaws
 pub mod RunLaws
 pub mod SlotLaws
+pub mod BindingLaws
+pub mod BoundLaws
 pub mod BindLaws
 pub mod ScopeLaws
 pub mod TextLaws

@@ -1,12 +1,12 @@
 -- Ranges in order: what stands before a range and behind it, and one more range at the end.
-use Rattle.std.proofs.Common.{◌≡◌, ◌≢◌, ℕ, ◌⊎◌, inl, inr, List, [], ◌∷◌, ◌++◌, map, All, subst, refl, sym, ap, ◌∙◌, append_assoc}
+use Rattle.std.proofs.Common.{◌≢◌, inl, inr, List, [], ◌∷◌, ◌++◌, All, subst, sym, ◌∙◌, append_assoc}
 use Rattle.std.specs.List.{Contains}
 use Rattle.std.proofs.lemmas.List.{append-nil}
-use Rattle.std.proofs.lemmas.List.Elements.{All-contains, All-nil, All-cons, All-head, All-tail, All-weaker, All-append, Contains-append_left, Contains-append_right, Contains-push, Contains-push_cases, Contains-append_cases}
-use Rattle.lore_base.proofs.MemberLaws.{Contains-same, Contains-head, Contains-tail}
-use Rattle.lorel_bind.specs.Places.{Place, at_root}
+use Rattle.std.proofs.lemmas.List.Elements.{All-contains, All-nil, All-cons, All-head, All-tail, All-weaker, Contains-append_left, Contains-push, Contains-push_cases}
+use Rattle.lore_base.proofs.MemberLaws.{Contains-same}
+use Rattle.lorel_bind.specs.Places.{Place}
 use Rattle.lorel_bind.specs.Ranges.{Range, places, joined}
-use Rattle.lorel_bind.specs.inside.Orders.{IsNamed, IsOpen, IsFound, IsPlaced, AreOrdered}
+use Rattle.lorel_bind.specs.inside.Orders.{IsOpen, IsFound, IsPlaced, AreOrdered}
 use Rattle.lorel_bind.proofs.ListLaws.{Contains-between}
 
 -- a start that is found among some places is found among more

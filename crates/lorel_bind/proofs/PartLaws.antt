@@ -8,7 +8,7 @@ use Rattle.lore_base.specs.declared.paths.Path.TheFolds.{fold-roll-Path}
 use Rattle.lore_base.specs.declared.paths.PathList.{PathList}
 use Rattle.lore_base.specs.Paths.{PathTree, seq, alt, trees_of, path_tree, path_trees, path_step, list_step}
 
-trees_same : (xs ys : List PathTree) → trees_of xs ≡ trees_of ys → xs ≡ ys
+pub trees_same : (xs ys : List PathTree) → trees_of xs ≡ trees_of ys → xs ≡ ys
 trees_same [] [] same = refl
 trees_same [] (y ∷ ys) same = cc
 trees_same (x ∷ xs) [] same = cc
@@ -18,10 +18,10 @@ trees_same (x ∷ xs) (y ∷ ys) same =
     let first : x ≡ y = cc in
     cc
 
-seq_tree : (parts : PathList) → path_tree (Seq parts) ≡ seq (trees_of (path_trees parts))
+pub seq_tree : (parts : PathList) → path_tree (Seq parts) ≡ seq (trees_of (path_trees parts))
 seq_tree parts = ap path_tree (sym (rolls-Seq parts)) ∙ fold-roll-Path PathTree (List PathTree) path_step list_step (layer.Seq parts)
 
-alt_tree : (parts : PathList) → path_tree (Alt parts) ≡ alt (trees_of (path_trees parts))
+pub alt_tree : (parts : PathList) → path_tree (Alt parts) ≡ alt (trees_of (path_trees parts))
 alt_tree parts = ap path_tree (sym (rolls-Alt parts)) ∙ fold-roll-Path PathTree (List PathTree) path_step list_step (layer.Alt parts)
 
 -- a test of the parts is one of the path

@@ -1,17 +1,17 @@
 -- The plain ranges of a select stand in order.
-use Rattle.std.proofs.Common.{◌≡◌, ℕ, ◌⊎◌, inl, inr, List, [], ◌∷◌, ◌++◌, map, Option, Some, None, All, subst, refl, sym, ap, ◌∙◌, append_assoc}
+use Rattle.std.proofs.Common.{◌≡◌, ℕ, ◌⊎◌, inl, inr, List, [], ◌∷◌, ◌++◌, Option, Some, None, All, subst, refl, sym, ap, ◌∙◌, append_assoc}
 use Rattle.std.specs.List.{Contains, flat_map}
 use Rattle.std.specs.Str.{bytes_eq}
 use Rattle.std.proofs.lemmas.Bool.{cond_both}
 use Rattle.std.proofs.lemmas.List.{append-nil, map-append}
-use Rattle.std.proofs.lemmas.List.Elements.{All-nil, All-cons, All-head, All-tail, All-append, All-contains, All-weaker, Contains-append_left, Contains-append_right, Contains-push, Contains-append_cases}
+use Rattle.std.proofs.lemmas.List.Elements.{All-nil, All-cons, All-head, All-tail, All-contains, Contains-append_left, Contains-append_right, Contains-push, Contains-append_cases}
 use Rattle.lore_base.specs.Paths.{PathTree}
 use Rattle.lore_base.proofs.MemberLaws.{Contains-none, Contains-head, Contains-tail, Contains-cases, Contains-same}
 use Rattle.lorel_trees.specs.Trees.{FromTree, ItemTree, SelectTree}
 use Rattle.lorel_trees.specs.Trees as t
-use Rattle.lorel_bind.specs.Places.{Root, named, ranged, quantified, Place, at_root, beyond, Scope, root_of, place_of, scope_behind, scope_of, item_places, cell_places}
+use Rattle.lorel_bind.specs.Places.{Root, ranged, quantified, Place, at_root, beyond, Scope, root_of, place_of, scope_behind, scope_of, item_places, cell_places}
 use Rattle.lorel_bind.specs.Ranges.{Range, prefix_ranges, path_ranges, from_item_ranges, from_ranges, made_ranges, places, AreGathered, ArePlain}
-use Rattle.lorel_bind.specs.inside.Orders.{IsNamed, IsOpen, IsFound, IsPlaced, AreOrdered}
+use Rattle.lorel_bind.specs.inside.Orders.{IsOpen, IsFound, AreOrdered}
 use Rattle.lorel_bind.proofs.OrderLaws.{IsFound-wider, AreOrdered-push}
 
 -- ---- what a select makes

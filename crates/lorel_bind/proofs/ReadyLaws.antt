@@ -1,22 +1,20 @@
 -- What is ready to be bound: the fused ranges are those of the select, and each place that is asked for has a start.
-use Rattle.std.proofs.Common.{◌≡◌, ℕ, zero, suc, ◌↔◌, ◌<◌, ◌≤◌, inl, inr, List, [], ◌∷◌, ◌++◌, length, map, Option, Some, None, All, subst, refl, sym, ap, ◌∙◌, append_assoc, arith}
+use Rattle.std.proofs.Common.{◌≡◌, ℕ, zero, suc, ◌↔◌, ◌<◌, ◌≤◌, inl, inr, List, [], ◌∷◌, ◌++◌, length, Option, Some, None, All, subst, refl, sym, ap, ◌∙◌, append_assoc, arith}
 use Rattle.std.specs.List.{Contains, AllZip}
 use Rattle.std.proofs.lemmas.List.{map-append}
-use Rattle.std.proofs.lemmas.List.Elements.{All-nil, All-cons, All-head, All-tail, All-append, All-contains, Contains-append_left, Contains-append_right, Contains-append_cases, Contains-get_or}
+use Rattle.std.proofs.lemmas.List.Elements.{All-nil, All-cons, All-head, All-tail, All-append, All-contains, Contains-append_left, Contains-append_right, Contains-append_cases}
 use Rattle.std.proofs.lemmas.Option.{slice_get-get_or}
-use Rattle.lore_base.specs.Names.{object_of}
 use Rattle.lore_base.specs.Paths.{PathTree}
-use Rattle.lore_base.proofs.MemberLaws.{Contains-head, Contains-tail, Contains-cases, Contains-same}
+use Rattle.lore_base.proofs.MemberLaws.{Contains-head, Contains-tail, Contains-same}
 use Rattle.lorel_trees.specs.Trees.{SelectTree}
-use Rattle.lorel_bind.specs.Types.{Oid, RANGES, ITEMS, LEAVES}
+use Rattle.lorel_bind.specs.Types.{Oid, RANGES}
 use Rattle.lorel_bind.specs.Types.starts
 use Rattle.lorel_bind.specs.Types.bound_starts
-use Rattle.lorel_bind.specs.Types.refusals
-use Rattle.lorel_bind.specs.Places.{Root, named, quantified, Place, at_root, cell_places}
+use Rattle.lorel_bind.specs.Places.{Place, at_root, cell_places}
 use Rattle.lorel_bind.specs.Conditions.{OperandOf, constant, at, CondOf, or, and, not, exists, for_all, compare, same, CondsOf, no_cond, cond, operand_paths, paths_of, paths_of_all, paths_in, cond_of, cond_places}
 use Rattle.lorel_bind.specs.Ranges.{Range, places, joined, ArePlain, IsUsed, IsFixed, IsFusable, Fuses, FusesTimes, AreFused}
-use Rattle.lorel_bind.specs.Refusals.{text_places, ranged_identifiers, StartsNowhere, HasTooMany, HasManyRanges, IsRefusedBy, IsAccepted}
-use Rattle.lorel_bind.specs.Bound.{RangeTree, BoundPathTree, BoundTree}
+use Rattle.lorel_bind.specs.Refusals.{text_places, ranged_identifiers, StartsNowhere, HasTooMany, IsRefusedBy, IsAccepted}
+use Rattle.lorel_bind.specs.Bound.{BoundTree}
 use Rattle.lorel_bind.specs.Bindings.{StandsFor, IsBoundRange, IsBoundPath, CorrespondOperands, Correspond, CorrespondEach, CorrespondIf, IsBinding}
 use Rattle.lorel_bind.specs.declared.faults.BindFault.TheVariants.{TooManyRanges}
 use Rattle.lorel_bind.specs.inside.Orders.{IsFound, AreOrdered}
@@ -152,7 +150,7 @@ module _ (names : List (List ℕ × Oid)) (query : SelectTree) (plain fused : Li
   all_bound : All (λ place. IsBoundName names place.root) (text_places query)
   all_bound = names_bound names query somewhere
 
-  starts_can : All (λ range. CanStart names fused range.start) fused
+  pub starts_can : All (λ range. CanStart names fused range.start) fused
   starts_can =
       let ordered = fused_ordered (IsUsed query plain) plain fused (plain_ordered query plain made) fuses in
       let found = found_among (places fused) [] fused ordered (λ place here. here) in
@@ -167,7 +165,7 @@ module _ (names : List (List ℕ × Oid)) (query : SelectTree) (plain fused : Li
   cell_can cell there (inl known) = known_starts names fused cell (inl known)
   cell_can cell there (inr here) = known_starts names fused cell (inr (used_stays (IsUsed query plain) plain fused cell (inl there) fuses here))
 
-  cells_can : All (CanStart names fused) (cell_places query)
+  pub cells_can : All (CanStart names fused) (cell_places query)
   cells_can = All-from_members (CanStart names fused) (cell_places query)
       (λ cell there. cell_can cell there (cells_known names query plain made all_bound cell there))
 
@@ -187,7 +185,7 @@ module _ (names : List (List ℕ × Oid)) (query : SelectTree) (plain fused : Li
         ]
       ]
 
-  paths_can : All (CanBind names fused plain) (cond_places query)
+  pub paths_can : All (CanBind names fused plain) (cond_places query)
   paths_can = All-from_members (CanBind names fused plain) (cond_places query) (λ path there fixed rest is_fixed. fixed_can path fixed rest there is_fixed)
 
 -- ---- conditions

@@ -1,5 +1,5 @@
--- Laws of the query language: ranges, answers and refusals are determined and exist, and neither fusing nor binding
--- changes a row.
+-- Laws of the query language: ranges, bindings, answers and refusals are determined and exist, and neither fusing nor
+-- binding changes a row.
 use Rattle.std.specs.Prelude.{◌≡◌, ◌⊎◌, ◌↔◌, ℕ, List}
 use Rattle.lorel_bind.specs.Types.{Oid, Refusal}
 use Rattle.lore_base.specs.Databases.{Database}
@@ -37,6 +37,16 @@ FusingKeepsRows = (db : Database) (query : SelectTree) (plain fused : List Range
 abbrev pub BindingKeepsRows : Type 0
 BindingKeepsRows = (db : Database) (query : SelectTree) (bound : BoundTree) → IsBinding db.graph.names query bound
     → (row : List Oid) → IsRow db query row ↔ IsSlotRow db bound row
+
+-- a select has one binding over some names
+abbrev pub HasOneBinding : Type 0
+HasOneBinding = (names : List (List ℕ × Oid)) (query : SelectTree) (bound other : BoundTree)
+    → IsBinding names query bound → IsBinding names query other → bound ≡ other
+
+-- and has one where no cause of refusal applies
+abbrev pub HasSomeBinding : Type 0
+HasSomeBinding = (names : List (List ℕ × Oid)) (query : SelectTree) → IsAccepted names query
+    → (bound : BoundTree) × IsBinding names query bound
 
 -- a select has one answer
 abbrev pub HasOneAnswer : Type 0

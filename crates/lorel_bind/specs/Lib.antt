@@ -8,5 +8,6 @@ pub mod Refusals
 pub mod Bound
 pub mod Bindings
 pub mod SlotRows
+pub mod Plans
 pub mod Laws
 pub mod inside

@@ -1,5 +1,5 @@
 -- Why a select is refused before it runs: the first cause that applies.
-use Rattle.std.specs.Prelude.{◌≡◌, ◌≢◌, ℕ, ◌<◌, ◌⊎◌, List, [], ◌∷◌, ◌++◌, length, sum_by, Option, Some, None, MatchOption, AllPairs, Contains}
+use Rattle.std.specs.Prelude.{◌≡◌, ◌≢◌, ℕ, ◌<◌, ◌⊎◌, List, [], ◌∷◌, ◌++◌, length, sum_by, Option, Some, None, AllPairs, Contains}
 use Rattle.std.specs.List.{flat_map}
 use Rattle.lorel_bind.specs.Types.{Oid, Refusal, RANGES, ITEMS, LEAVES}
 use Rattle.lorel_bind.specs.Types.refusals

@@ -1,8 +1,9 @@
-//! Laws of the query language: ranges, answers and refusals are determined and exist, and neither
-//! fusing nor binding changes a row.
+//! Laws of the query language: ranges, bindings, answers and refusals are determined and exist, and
+//! neither fusing nor binding changes a row.
 
 ghost use Rattle.lorel_bind.specs.Laws.{HasOnePlain, HasSomePlain, HasOneFused, HasSomeFused};
 ghost use Rattle.lorel_bind.specs.Laws.{FusingKeepsRows, BindingKeepsRows, HasOneAnswer, HasSomeAnswer};
+ghost use Rattle.lorel_bind.specs.Laws.{HasOneBinding, HasSomeBinding};
 ghost use Rattle.lorel_bind.specs.Laws.{HasOneVerdict, HasSomeVerdict};
 
 /// A select has one list of plain ranges.
@@ -23,6 +24,16 @@ pub fn one_list_of_fused_ranges()
 /// The plain ranges of a select can be fused.
 pub fn some_list_of_fused_ranges()
     ensures { HasSomeFused }
+{}
+
+/// A select has one binding.
+pub fn one_binding()
+    ensures { HasOneBinding }
+{}
+
+/// A select that is accepted has a binding.
+pub fn some_binding()
+    ensures { HasSomeBinding }
 {}
 
 /// A select has one answer.

@@ -11,6 +11,7 @@ pub use bound::{
     RangeList, Start,
 };
 pub use faults::BindFault;
+pub use plans::{Plan, PlanKind, PlanStep, PlanSteps};
 
 mod binding;
 mod bound;
@@ -22,6 +23,7 @@ mod fusing;
 pub mod laws;
 mod links;
 mod places;
+mod plans;
 mod slots;
 mod text;
 mod variables;

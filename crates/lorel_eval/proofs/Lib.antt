@@ -2,5 +2,6 @@ pub mod MeetingLaws
 pub mod SubjectLaws
 pub mod ScanLaws
 pub mod SideLaws
-pub mod CondLaws
 pub mod ReachedLaws
+pub mod ReadyLaws
+pub mod TestLaws

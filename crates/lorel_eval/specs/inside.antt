@@ -1,3 +1,4 @@
 -- Definitions that no public contract cites.
 pub mod Subjects
+pub mod Ready
 pub mod Sides

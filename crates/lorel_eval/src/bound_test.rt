@@ -1,4 +1,4 @@
-ghost use Rattle.std.specs.Prelude.{◌≡◌, ◌≤◌, option_map};
+ghost use Rattle.std.specs.Prelude.{◌≡◌, ◌≤◌, option_map, IfOk};
 ghost use Rattle.std.specs.Option.{option_copied};
 ghost use Rattle.lorel_bind.specs.Bound.{bound_cond};
 ghost use Rattle.lorel_bind.specs.Conditions.{paths_in};
@@ -7,6 +7,8 @@ ghost use Rattle.lorel_eval.specs.Types.{LEAVES};
 ghost use Rattle.lorel_eval.specs.Tests.{rest_leaves};
 
 use crate::conditions::cond_holds;
+use crate::making_ready::ready_cond;
+use crate::ready_conds::ReadyCond;
 use crate::subject::Subject;
 use index_traits::{Adjacent, Row, RowTest, ValueOf};
 use lore_base::{NoMemory, Oid, Steps};
@@ -18,16 +20,19 @@ use std::sync::ledger::Ledger;
 
 /// A bound condition over a database, or no condition, which holds of every row. Contracts see the
 /// label texts, the edges, the objects with their values, and the condition.
+///
+/// Where its paths aren't made ready, each row that is tested has them made ready anew.
 #[derive(Drop)]
 pub struct Test<'a, A: Adjacent, G: ValueOf> {
     cond: Option<&'a BoundCond>,
+    ready: Option<ReadyCond<'a>>,
     graph: &'a A,
     values: &'a G,
     labels: &'a LabelTable,
 }
 
 impl<'a, A: Adjacent, G: ValueOf> Model for Test<'a, A, G> {
-    ghost use Rattle.std.specs.Prelude.{◌≤◌, option_map};
+    ghost use Rattle.std.specs.Prelude.{◌≡◌, ◌≤◌, Some, option_map, IfSome};
     ghost use Rattle.std.specs.Option.{option_copied};
     ghost use Rattle.std.specs.Coded.{codes};
     ghost use Rattle.lorel_bind.specs.contracts.bound.BoundCond as bound_cond_contract;
@@ -35,6 +40,7 @@ impl<'a, A: Adjacent, G: ValueOf> Model for Test<'a, A, G> {
     ghost use Rattle.lorel_bind.specs.Conditions.{paths_in};
     ghost use Rattle.lorel_eval.specs.Types.{LEAVES};
     ghost use Rattle.lorel_eval.specs.Tests.{CondOver, rest_leaves};
+    ghost use Rattle.lorel_eval.specs.inside.Ready.{ready_tree};
 
     ghost Value = { CondOver };
 
@@ -48,7 +54,9 @@ impl<'a, A: Adjacent, G: ValueOf> Model for Test<'a, A, G> {
     } };
 
     ghost invariant = { λ test.
-        rest_leaves (paths_in (option_map bound_cond (option_copied test.cond))) ≤ LEAVES };
+        let cond = option_map bound_cond (option_copied test.cond) in
+        (rest_leaves (paths_in cond) ≤ LEAVES)
+        × IfSome test.ready (λ ready. Some (ready_tree ready) ≡ cond) };
 }
 
 impl<'a, A: Adjacent, G: ValueOf> Test<'a, A, G> {
@@ -68,10 +76,39 @@ impl<'a, A: Adjacent, G: ValueOf> Test<'a, A, G> {
     {
         Test {
             cond,
+            ready: None,
             graph,
             values,
             labels,
         }
+    }
+
+    /// The test with the paths of its condition made ready once, for many rows. Their rests have at
+    /// most 64 leaves together.
+    pub fn ready(
+        alloc: Global,
+        cond: Option<&'a BoundCond>,
+        graph: &'a A,
+        values: &'a G,
+        labels: &'a LabelTable,
+    ) -> Result<Test<'a, A, G>, NoMemory>
+        requires { rest_leaves (paths_in (option_map bound_cond (option_copied cond))) ≤ LEAVES }
+        ensures labels { IfOk result (λ test. test.labels ≡ labels.now) }
+        ensures edges { IfOk result (λ test. test.edges ≡ A.edges graph.now) }
+        ensures objects { IfOk result (λ test. test.objects ≡ G.objects values.now) }
+        ensures cond { IfOk result (λ test. test.cond ≡ option_copied cond.entry) }
+    {
+        let ready = match cond {
+            Some(cond) => Some(ready_cond(alloc, cond)?),
+            None => None,
+        };
+        Ok(Test {
+            cond,
+            ready,
+            graph,
+            values,
+            labels,
+        })
     }
 }
 
@@ -95,6 +132,12 @@ impl<'a, A: Adjacent, G: ValueOf> RowTest for Test<'a, A, G> {
             row,
         };
         let around: [Oid; 0] = [];
-        cond_holds(alloc, &subject, &around, cond, steps)
+        match &self.ready {
+            Some(ready) => cond_holds(alloc, &subject, &around, ready, steps),
+            None => {
+                let ready = ready_cond(alloc, cond)?;
+                cond_holds(alloc, &subject, &around, &ready, steps)
+            }
+        }
     }
 }

@@ -1,17 +1,16 @@
-ghost use Rattle.std.specs.Prelude.{◌↔◌, ◌≤◌, IsTrue, IfOk};
+ghost use Rattle.std.specs.Prelude.{◌↔◌, IsTrue, IfOk};
 ghost use Rattle.lore_base.specs.Comparisons.{Compares};
-ghost use Rattle.lorel_bind.specs.Bound.{bound_operand};
-ghost use Rattle.lorel_bind.specs.Conditions.{operand_paths, compare};
-ghost use Rattle.lorel_eval.specs.Types.{Value as TheValue, LEAVES};
-ghost use Rattle.lorel_eval.specs.Tests.{rest_leaves};
+ghost use Rattle.lorel_bind.specs.Conditions.{compare};
+ghost use Rattle.lorel_eval.specs.Types.{Value as TheValue};
+ghost use Rattle.lorel_eval.specs.inside.Ready.{ready_operand};
 ghost use Rattle.lorel_eval.specs.inside.Subjects.{GivesIn, HoldsIn};
 ghost use Rattle.lorel_eval.specs.inside.Sides.{HasSuch, SomeHasSuch};
 ghost use Rattle.lorel_eval.specs.inside.Sides.{SideGives, ComparesWith, SidesCompare};
 
+use crate::ready_conds::ReadyOperand;
 use crate::subject::Subject;
 use index_traits::{Adjacent, ValueOf};
 use lore_base::{NoMemory, Oid, OidBuf, Op, Steps, Value};
-use lorel_bind::BoundOperand;
 use oem_atom::compare;
 use std::alloc::Global;
 use std::sync::ledger::Ledger;
@@ -21,15 +20,13 @@ pub(crate) fn comparison_holds<A: Adjacent, G: ValueOf, L: Ledger>(
     alloc: Global,
     subject: &Subject<A, G>,
     objects: &[Oid],
-    left: &BoundOperand,
+    left: &ReadyOperand,
     op: Op,
-    right: &BoundOperand,
+    right: &ReadyOperand,
     steps: &mut Steps<L>,
 ) -> Result<bool, NoMemory>
-    requires left { rest_leaves (operand_paths (bound_operand left.now)) ≤ LEAVES }
-    requires right { rest_leaves (operand_paths (bound_operand right.now)) ≤ LEAVES }
     ensures { IfOk result (λ answer. IsTrue answer ↔ HoldsIn subject.now objects.now
-        (compare (bound_operand left.now) op (bound_operand right.now))) }
+        (compare (ready_operand left.now) op (ready_operand right.now))) }
 {
     let left = side_of(alloc, subject, objects, left, steps)?;
     let right = side_of(alloc, subject, objects, right, steps)?;
@@ -48,16 +45,15 @@ fn side_of<'o, A: Adjacent, G: ValueOf, L: Ledger>(
     alloc: Global,
     subject: &Subject<A, G>,
     objects: &[Oid],
-    operand: &'o BoundOperand,
+    operand: &ReadyOperand<'o>,
     steps: &mut Steps<L>,
 ) -> Result<Side<'o>, NoMemory>
-    requires { rest_leaves (operand_paths (bound_operand operand.now)) ≤ LEAVES }
     ensures { IfOk result (λ side. (value : TheValue) → SideGives subject.now.objects side value
-        ↔ GivesIn subject.now objects.now (bound_operand operand.now) value) }
+        ↔ GivesIn subject.now objects.now (ready_operand operand.now) value) }
 {
     match operand {
-        BoundOperand::Atom(value) => Ok(Side::Own(value)),
-        BoundOperand::At(path) => {
+        ReadyOperand::Atom(value) => Ok(Side::Own(*value)),
+        ReadyOperand::At(path) => {
             let found = subject.reached(alloc, objects, path, steps)?;
             Ok(Side::Objects(found))
         }

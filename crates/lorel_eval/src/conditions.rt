@@ -1,16 +1,15 @@
-ghost use Rattle.std.specs.Prelude.{◌≡◌, ◌↔◌, ◌≤◌, [], ◌∷◌, ◌++◌, Contains, IsTrue, IfOk};
-ghost use Rattle.lorel_bind.specs.Bound.{bound_cond, bound_conds, conds_from};
-ghost use Rattle.lorel_bind.specs.Conditions.{paths_of, paths_of_all};
-ghost use Rattle.lorel_eval.specs.Types.{Oid as TheOid, LEAVES};
-ghost use Rattle.lorel_eval.specs.Tests.{rest_leaves};
+ghost use Rattle.std.specs.Prelude.{◌≡◌, ◌↔◌, [], ◌∷◌, ◌++◌, Contains, IsTrue, IfOk};
+ghost use Rattle.lorel_bind.specs.Bound.{conds_from};
+ghost use Rattle.lorel_eval.specs.Types.{Oid as TheOid};
+ghost use Rattle.lorel_eval.specs.inside.Ready.{ready_tree, ready_trees};
 ghost use Rattle.lorel_eval.specs.inside.Subjects.{HoldsIn, SomeHoldsIn, AllHoldIn};
 
 use crate::comparisons::comparison_holds;
 use crate::meeting::paths_meet;
+use crate::ready_conds::{ReadyCond, ReadyCondList};
 use crate::subject::Subject;
 use index_traits::{Adjacent, ValueOf};
 use lore_base::{NoMemory, Oid, OidBuf, Steps};
-use lorel_bind::{BoundCond, BoundCondList};
 use std::alloc::Global;
 use std::sync::ledger::Ledger;
 
@@ -21,29 +20,28 @@ pub(crate) fn cond_holds<A: Adjacent, G: ValueOf, L: Ledger>(
     alloc: Global,
     subject: &Subject<A, G>,
     objects: &[Oid],
-    cond: &BoundCond,
+    cond: &ReadyCond,
     steps: &mut Steps<L>,
 ) -> Result<bool, NoMemory>
-    requires { rest_leaves (paths_of (bound_cond cond.now)) ≤ LEAVES }
     ensures { IfOk result (λ answer.
-        IsTrue answer ↔ HoldsIn subject.now objects.now (bound_cond cond.now)) }
+        IsTrue answer ↔ HoldsIn subject.now objects.now (ready_tree cond.now)) }
 {
     match cond {
-        BoundCond::Or(members) => some_holds(alloc, subject, objects, members, steps),
-        BoundCond::And(members) => all_hold(alloc, subject, objects, members, steps),
-        BoundCond::Not(body) => Ok(!cond_holds(alloc, subject, objects, body, steps)?),
-        BoundCond::Exists { path, body } => {
+        ReadyCond::Or(members) => some_holds(alloc, subject, objects, members, steps),
+        ReadyCond::And(members) => all_hold(alloc, subject, objects, members, steps),
+        ReadyCond::Not(body) => Ok(!cond_holds(alloc, subject, objects, body, steps)?),
+        ReadyCond::Exists { path, body } => {
             let found = subject.reached(alloc, objects, path, steps)?;
             some_makes(alloc, subject, objects, found.as_slice(), body, steps)
         }
-        BoundCond::ForAll { path, body } => {
+        ReadyCond::ForAll { path, body } => {
             let found = subject.reached(alloc, objects, path, steps)?;
             every_makes(alloc, subject, objects, found.as_slice(), body, steps)
         }
-        BoundCond::Compare { left, op, right } => {
+        ReadyCond::Compare { left, op, right } => {
             comparison_holds(alloc, subject, objects, left, *op, right, steps)
         }
-        BoundCond::Same { left, right } => {
+        ReadyCond::Same { left, right } => {
             paths_meet(alloc, subject, objects, left, right, steps)
         }
     }
@@ -55,12 +53,11 @@ fn some_holds<A: Adjacent, G: ValueOf, L: Ledger>(
     alloc: Global,
     subject: &Subject<A, G>,
     objects: &[Oid],
-    members: &BoundCondList,
+    members: &ReadyCondList,
     steps: &mut Steps<L>,
 ) -> Result<bool, NoMemory>
-    requires { rest_leaves (paths_of_all (conds_from (bound_conds members.now))) ≤ LEAVES }
     ensures { IfOk result (λ answer.
-        IsTrue answer ↔ SomeHoldsIn subject.now objects.now (conds_from (bound_conds members.now))) }
+        IsTrue answer ↔ SomeHoldsIn subject.now objects.now (conds_from (ready_trees members.now))) }
 {
     'members: for member in members.as_slice() {
         if cond_holds(alloc, subject, objects, member, steps)? {
@@ -76,12 +73,11 @@ fn all_hold<A: Adjacent, G: ValueOf, L: Ledger>(
     alloc: Global,
     subject: &Subject<A, G>,
     objects: &[Oid],
-    members: &BoundCondList,
+    members: &ReadyCondList,
     steps: &mut Steps<L>,
 ) -> Result<bool, NoMemory>
-    requires { rest_leaves (paths_of_all (conds_from (bound_conds members.now))) ≤ LEAVES }
     ensures { IfOk result (λ answer.
-        IsTrue answer ↔ AllHoldIn subject.now objects.now (conds_from (bound_conds members.now))) }
+        IsTrue answer ↔ AllHoldIn subject.now objects.now (conds_from (ready_trees members.now))) }
 {
     'members: for member in members.as_slice() {
         if !cond_holds(alloc, subject, objects, member, steps)? {
@@ -98,12 +94,11 @@ fn some_makes<A: Adjacent, G: ValueOf, L: Ledger>(
     subject: &Subject<A, G>,
     objects: &[Oid],
     found: &[Oid],
-    body: &BoundCond,
+    body: &ReadyCond,
     steps: &mut Steps<L>,
 ) -> Result<bool, NoMemory>
-    requires { rest_leaves (paths_of (bound_cond body.now)) ≤ LEAVES }
     ensures { IfOk result (λ answer. IsTrue answer ↔ ((oid : TheOid) × Contains found.now oid
-        × HoldsIn subject.now (objects.now ++ oid ∷ []) (bound_cond body.now))) }
+        × HoldsIn subject.now (objects.now ++ oid ∷ []) (ready_tree body.now))) }
 {
     'found: for oid in found {
         let within = with_object(alloc, objects, *oid)?;
@@ -121,12 +116,11 @@ fn every_makes<A: Adjacent, G: ValueOf, L: Ledger>(
     subject: &Subject<A, G>,
     objects: &[Oid],
     found: &[Oid],
-    body: &BoundCond,
+    body: &ReadyCond,
     steps: &mut Steps<L>,
 ) -> Result<bool, NoMemory>
-    requires { rest_leaves (paths_of (bound_cond body.now)) ≤ LEAVES }
     ensures { IfOk result (λ answer. IsTrue answer ↔ ((oid : TheOid) → Contains found.now oid
-        → HoldsIn subject.now (objects.now ++ oid ∷ []) (bound_cond body.now))) }
+        → HoldsIn subject.now (objects.now ++ oid ∷ []) (ready_tree body.now))) }
 {
     'found: for oid in found {
         let within = with_object(alloc, objects, *oid)?;

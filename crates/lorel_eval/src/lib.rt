@@ -2,6 +2,7 @@
 //!
 //! A path of the condition goes on from an object that is fixed, and a comparison holds where some of
 //! the objects that it reaches compare so (Abiteboul et al. 1997, path expressions in conditions).
+//! `Test::ready` makes the paths ready once for many rows.
 #![tactic(auto)]
 
 pub use bound_test::Test;
@@ -9,5 +10,7 @@ pub use bound_test::Test;
 mod bound_test;
 mod comparisons;
 mod conditions;
+mod making_ready;
 mod meeting;
+mod ready_conds;
 mod subject;

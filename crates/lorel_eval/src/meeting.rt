@@ -1,14 +1,13 @@
-ghost use Rattle.std.specs.Prelude.{◌↔◌, ◌<◌, ◌≤◌, AllPairs, Contains, IsTrue, IfOk};
-ghost use Rattle.lore_base.specs.Paths.{path_tree, leaves};
-ghost use Rattle.lorel_bind.specs.Bound.{bound_path};
+ghost use Rattle.std.specs.Prelude.{◌↔◌, ◌<◌, AllPairs, Contains, IsTrue, IfOk};
 ghost use Rattle.lorel_bind.specs.Conditions.{same};
-ghost use Rattle.lorel_eval.specs.Types.{Oid as TheOid, LEAVES};
+ghost use Rattle.lorel_eval.specs.Types.{Oid as TheOid};
+ghost use Rattle.lorel_eval.specs.inside.Ready.{ready_path};
 ghost use Rattle.lorel_eval.specs.inside.Subjects.{HoldsIn};
 
+use crate::ready_conds::ReadyPath;
 use crate::subject::Subject;
 use index_traits::{Adjacent, ValueOf};
 use lore_base::{NoMemory, Oid, Steps};
-use lorel_bind::BoundPath;
 use std::alloc::Global;
 use std::sync::ledger::Ledger;
 
@@ -17,14 +16,12 @@ pub(crate) fn paths_meet<A: Adjacent, G: ValueOf, L: Ledger>(
     alloc: Global,
     subject: &Subject<A, G>,
     objects: &[Oid],
-    left: &BoundPath,
-    right: &BoundPath,
+    left: &ReadyPath,
+    right: &ReadyPath,
     steps: &mut Steps<L>,
 ) -> Result<bool, NoMemory>
-    requires left { leaves (path_tree left.now.rest) ≤ LEAVES }
-    requires right { leaves (path_tree right.now.rest) ≤ LEAVES }
     ensures { IfOk result (λ answer. IsTrue answer ↔ HoldsIn subject.now objects.now
-        (same (bound_path left.now) (bound_path right.now))) }
+        (same (ready_path left.now) (ready_path right.now))) }
 {
     let left = subject.reached(alloc, objects, left, steps)?;
     let right = subject.reached(alloc, objects, right, steps)?;

@@ -1,16 +1,14 @@
-ghost use Rattle.std.specs.Prelude.{◌≡◌, ◌≤◌, slice_get, IfOk};
-ghost use Rattle.lore_base.specs.Paths.{path_tree, leaves};
+ghost use Rattle.std.specs.Prelude.{◌≡◌, slice_get, IfOk};
 ghost use Rattle.lore_base.specs.TargetSets.{ListsInOrder};
-ghost use Rattle.lorel_bind.specs.Bound.{bound_path};
-ghost use Rattle.lorel_eval.specs.Types.{LEAVES};
+ghost use Rattle.lorel_eval.specs.inside.Ready.{ready_path};
 ghost use Rattle.lorel_eval.specs.inside.Subjects.{start_of, ReachedIn};
 
+use crate::ready_conds::ReadyPath;
 use index_traits::{Adjacent, Row, ValueOf};
 use lore_base::limits::RANGES;
 use lore_base::{NoMemory, Oid, OidBuf, Steps};
-use lorel_bind::{BoundPath, BoundStart};
+use lorel_bind::BoundStart;
 use oem_labels::LabelTable;
-use product_walk::Route;
 use std::alloc::Global;
 use std::marker::Model;
 use std::sync::ledger::Ledger;
@@ -65,18 +63,17 @@ impl<'a, A: Adjacent, G: ValueOf> Subject<'a, A, G> {
         &self,
         alloc: Global,
         objects: &[Oid],
-        path: &BoundPath,
+        path: &ReadyPath,
         steps: &mut Steps<L>,
     ) -> Result<OidBuf, NoMemory>
-        requires { leaves (path_tree path.now.rest) ≤ LEAVES }
-        ensures { IfOk result (ListsInOrder (ReachedIn self.now objects.now (bound_path path.now))) }
+        ensures { IfOk result (ListsInOrder (ReachedIn self.now objects.now (ready_path path.now))) }
     {
         let mut found = OidBuf::new(alloc);
         let Some(start) = self.start_of(objects, path.start) else {
             return Ok(found);
         };
-        let route = Route::new(alloc, &path.rest)?;
-        route.reach(alloc, self.graph, self.labels, start, &mut found, steps)?;
+        path.route
+            .reach(alloc, self.graph, self.labels, start, &mut found, steps)?;
         Ok(found)
     }
 }

@@ -9,34 +9,47 @@ use Rattle.std.proofs.Math.Seq.{take-append_seam, drop-append_seam}
 use Rattle.lore_base.specs.Lists.{Extends, ExtendsBy}
 use Rattle.lore_base.specs.Paths.{PathTree, PathTrees, seq, step, more, none, Fits, Reaches}
 use Rattle.lore_base.specs.TargetSets.{ListsInOrder}
-use Rattle.lore_base.specs.Walks.{Walk}
+use Rattle.lore_base.specs.Walks.{Walk, edge_of}
 use Rattle.lore_base.proofs.MemberLaws.{Contains-none, Contains-head, Contains-cases, Contains-same}
 use Rattle.lore_base.proofs.TargetLaws.{ListsInOrder-same}
 use Rattle.lore_base.proofs.WalkLaws.{Walk-append, Walk-split}
 use Rattle.graph_search.proofs.SumLaws.{sum_by-within}
 use Rattle.product_walk.specs.Types.{Oid, Label, Edge, Pattern}
-use Rattle.product_walk.specs.inside.Arcs.{along, AreArcs}
-use Rattle.product_walk.specs.inside.Ways.{IsFittingChild, FromSome, IsLevel, ExtendsByAll, TakesTimes}
+use Rattle.product_walk.specs.ProductWalks.{ReachesInto, WalksInto}
+use Rattle.product_walk.specs.inside.Arcs.{along, against, AreArcs}
+use Rattle.product_walk.specs.inside.Ways.{GoesBy, IsFittingEnd, FromSome, IsLevel, ExtendsByAll, TakesTimes}
 
--- one label reaches the children by those that fit
-pub fitting_reaches : (labels : List (List ℕ)) (edges out : List Edge) (pattern : Pattern) (from : Oid) → AreArcs (along edges) (λ edge. edge.child) from out
-    → (oid : Oid) → IsFittingChild labels pattern out oid ↔ Reaches labels edges (step pattern) from oid
-fitting_reaches labels edges out pattern from arcs oid = (
-  λ h.
-      let edge : Edge = h.0 in
-      (edge.label ∷ [], (edge.label, refl, h.2), (oid, (arcs edge.label oid).1 (edge, h.1, refl, h.3), refl)),
-  λ h.
-      let label : Label = h.1.0 in
-      let walked = subst (λ (word : List Label). Walk edges from word oid) h.1.1 h.2 in
-      let found = (arcs label walked.0).0 walked.1 in
-      (found.0, found.1, subst (Fits labels pattern) (sym found.2) h.1.2, found.3 ∙ walked.2),
+-- the edges that show all arcs show those by a label that fits
+pub fitting_goes : (labels : List (List ℕ)) (goes : Oid → Label → Oid → Type 0) (far : Edge → Oid) (edges : List Edge) (pattern : Pattern) (from : Oid)
+    → AreArcs goes far from edges → (oid : Oid) → IsFittingEnd far labels pattern edges oid ↔ GoesBy labels goes pattern from oid
+fitting_goes labels goes far edges pattern from arcs oid = (
+  λ h. (let edge : Edge = h.0 in (edge.label, (arcs edge.label oid).1 (edge, h.1, refl, h.3), h.2)),
+  λ h. (let found = (arcs h.0 oid).0 h.1 in (found.0, found.1, subst (Fits labels pattern) (sym found.2) h.2, found.3)),
 )
 
--- the child of one edge more, if its label fits
-pub children_more : (labels : List (List ℕ)) (pattern : Pattern) (edges : List Edge) (edge : Edge) (fit : Bool) (label : Label) (old middle new : List Oid)
-    → label ≡ edge.label → IsTrue fit ↔ Fits labels pattern label → ExtendsByAll (IsFittingChild labels pattern edges) old middle
-    → ExtendsByAll (λ other. (edge.child ≡ other) × IsTrue fit) middle new → ExtendsByAll (IsFittingChild labels pattern (edges ++ edge ∷ [])) old new
-children_more labels pattern edges edge fit label old middle new named told earlier now = (
+-- one label reaches the children by those that fit
+pub goes_reaches : (labels : List (List ℕ)) (edges : List Edge) (pattern : Pattern) (x y : Oid)
+    → GoesBy labels (along edges) pattern x y ↔ Reaches labels edges (step pattern) x y
+goes_reaches labels edges pattern x y = (
+  λ h. (h.0 ∷ [], (h.0, refl, h.2), (y, h.1, refl)),
+  λ h.
+      let label : Label = h.1.0 in
+      let walked = subst (λ (word : List Label). Walk edges x word y) h.1.1 h.2 in
+      (label, subst (λ (o : Oid). Contains edges (edge_of x label o)) walked.2 walked.1, h.1.2),
+)
+
+-- what some object leads to by one relation, it leads to by another like it
+pub from_alike : (P Q : Oid → Oid → Type 0) (level : List Oid) → ((x y : Oid) → P x y ↔ Q x y) → (oid : Oid) → FromSome P level oid ↔ FromSome Q level oid
+from_alike P Q level same oid = (
+  λ h. (h.0, h.1, (same h.0 oid).0 h.2),
+  λ h. (h.0, h.1, (same h.0 oid).1 h.2),
+)
+
+-- the far end of one edge more, if its label fits
+pub ends_more : (far : Edge → Oid) (labels : List (List ℕ)) (pattern : Pattern) (edges : List Edge) (edge : Edge) (end : Oid) (fit : Bool) (label : Label) (old middle new : List Oid)
+    → end ≡ far edge → label ≡ edge.label → IsTrue fit ↔ Fits labels pattern label → ExtendsByAll (IsFittingEnd far labels pattern edges) old middle
+    → ExtendsByAll (λ other. (end ≡ other) × IsTrue fit) middle new → ExtendsByAll (IsFittingEnd far labels pattern (edges ++ edge ∷ [])) old new
+ends_more far labels pattern edges edge end fit label old middle new is named told earlier now = (
   earlier.0 ++ now.0,
   now.1 ∙ ap (λ (l : List Oid). l ++ now.0) earlier.1 ∙ append_assoc old earlier.0 now.0,
   λ oid. (
@@ -46,17 +59,38 @@ children_more labels pattern edges edge fit label old middle new named told earl
           (found.0, Contains-append_left edges (edge ∷ []) found.0 found.1, found.2, found.3)
       | inr back ↦
           let here = (now.2 oid).0 back in
-          (edge, Contains-push edges edge, subst (Fits labels pattern) named (told.0 here.1), here.0)
+          (edge, Contains-push edges edge, subst (Fits labels pattern) named (told.0 here.1), sym is ∙ here.0)
     ],
     λ h. elim (Contains-push_cases edges edge h.0 h.1) [
       | inl front ↦ Contains-append_left earlier.0 now.0 oid ((earlier.2 oid).1 (h.0, front, h.2, h.3))
       | inr same ↦ Contains-append_right earlier.0 now.0 oid ((now.2 oid).1 (
-        ap (λ (e : Edge). e.child) same ∙ h.3,
+        is ∙ ap far same ∙ h.3,
         told.1 (subst (Fits labels pattern) (ap (λ (e : Edge). e.label) (sym same) ∙ sym named) h.2),
       ))
     ],
   ),
 )
+
+-- so do lists of the same objects
+pub from_members : (Leads : Oid → Oid → Type 0) (level other : List Oid) → ((oid : Oid) → Contains level oid ↔ Contains other oid)
+    → (oid : Oid) → FromSome Leads level oid ↔ FromSome Leads other oid
+from_members Leads level other same oid = (
+  λ h. (h.0, (same h.0).0 h.1, h.2),
+  λ h. (h.0, (same h.0).1 h.1, h.2),
+)
+
+-- and a single object alone
+pub from_only : (Leads : Oid → Oid → Type 0) (level : List Oid) (other : Oid) → length level ≡ 1
+    → (oid : Oid) → Leads (get_or level 0 other) oid ↔ FromSome Leads level oid
+from_only Leads [] other one oid = absurd (omega (arith, one))
+from_only Leads (only ∷ []) other one oid = (
+  λ h. (only, Contains-head only [], h),
+  λ h. elim (Contains-cases only [] h.0 h.1) [
+    | inl same ↦ subst (λ (o : Oid). Leads o oid) (sym same) h.2
+    | inr rest ↦ absurd (Contains-none h.0 rest)
+  ],
+)
+from_only Leads (first ∷ second ∷ level) other one oid = absurd (omega (arith, one))
 
 -- objects that some of one more lead to
 pub from_more : (Leads : Oid → Oid → Type 0) (level : List Oid) (next : Oid) (middle new : List Oid) → ((oid : Oid) → Contains middle oid ↔ FromSome Leads level oid)
@@ -178,6 +212,30 @@ module _ (labels : List (List ℕ)) (edges : List Edge) where
           Contains-same level found.0 oid ((none_reaches found.0 oid).0 found.2) found.1,
     );
   }
+
+  -- no part leads back from the objects themselves
+  pub back_start : (to level : List Oid) → ListsInOrder (Contains to) level → ListsInOrder (ReachesInto labels edges (seq none) to) level
+  back_start to level lists = ListsInOrder-same (Contains to) (ReachesInto labels edges (seq none) to) level (λ oid. (
+    λ at. (oid, at, (none_reaches oid oid).1 refl),
+    λ h. Contains-same to h.0 oid (sym ((none_reaches oid h.0).0 h.2)) h.1,
+  )) lists
+
+  -- and one label more from there to the parents by those that fit
+  pub back_next : (pattern : Pattern) (others : PathTrees) (to level next : List Oid) → ListsInOrder (ReachesInto labels edges (seq others) to) level
+      → ListsInOrder (FromSome (GoesBy labels (against edges) pattern) level) next → ListsInOrder (ReachesInto labels edges (seq (more (step pattern) others)) to) next
+  back_next pattern others to level next here lists =
+      ListsInOrder-same (FromSome (GoesBy labels (against edges) pattern) level) (ReachesInto labels edges (seq (more (step pattern) others)) to) next (λ oid. (
+        λ h.
+            let rest = (here.exact h.0).0 h.1 in
+            (rest.0, rest.1, (then_reaches (step pattern) others oid rest.0).1 (h.0, (goes_reaches labels edges pattern oid h.0).0 h.2, rest.2)),
+        λ h.
+            let parted = (then_reaches (step pattern) others oid h.0).0 h.2 in
+            (parted.0, (here.exact parted.0).1 (h.0, h.1, parted.2), (goes_reaches labels edges pattern oid parted.0).1 parted.1),
+      )) lists
+
+  -- what a path is reached from, it is walked from
+  pub walks_back : (path : PathTree) (to level : List Oid) → ListsInOrder (ReachesInto labels edges path to) level → (oid : Oid) → Contains level oid → WalksInto edges to oid
+  walks_back path to level lists oid at = (let h = (lists.exact oid).0 at in (h.0, h.1, (h.2.0, h.2.2)))
 
 -- one read more of each object
 pub times_more : (count : ℕ) (reads : Oid → ℕ) (Passes : Oid → Type 0) (before middle after : ℕ) (level : List Oid) → TakesTimes count reads Passes before middle

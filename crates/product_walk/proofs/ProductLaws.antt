@@ -19,11 +19,11 @@ use Rattle.lore_base.proofs.MemberLaws.{Contains-none, Contains-head, Contains-c
 use Rattle.graph_search.specs.Closures.{IsMet, LeadAlong, IsLedTo, LeadsOn, IsClosure, Lists}
 use Rattle.graph_search.proofs.MeetingLaws.{IsMet-none, IsMet-one, IsMet-append_left, IsMet-append_right, IsMet-append_cases}
 use Rattle.graph_search.proofs.PriceLaws.{IsPriced, sum_by-places}
-use Rattle.path_expr.specs.Machines.{Machine, IsIn, IsBounded, Moves, Runs, Accepts, StepsTo, IsStep}
+use Rattle.path_expr.specs.Machines.{Machine, IsIn, IsBounded, Moves, Runs, Accepts, ReadsBackwards, StepsTo, IsStep}
 use Rattle.product_walk.specs.Types.{Oid, Label, Edge, States, StateMarks, END}
-use Rattle.product_walk.specs.ProductWalks.{IsWalked, WalksInto, IsAcceptedFrom, IsAcceptedInto, TakesReads}
+use Rattle.product_walk.specs.ProductWalks.{IsWalked, WalksInto, IsAcceptedFrom, TakesReads}
 use Rattle.product_walk.specs.inside.Arcs.{along, against, WalkBy, AreArcs}
-use Rattle.product_walk.specs.inside.Products.{Leads, CanBe, IsNext}
+use Rattle.product_walk.specs.inside.Products.{Leads, CanBe, IsNext, ReadsTurned, ReadsInto}
 use Rattle.product_walk.specs.inside.StateSets.{HasState, marks, reads_on}
 use Rattle.product_walk.proofs.StateLaws.{reads_on-false, reads_on-true}
 
@@ -222,19 +222,36 @@ module _ (edges : List Edge) where
     ]
 
   -- against the edges from some starts, by a machine that reads words backwards
-  module _ (labels : List (List ℕ)) (machine turned : Machine) (to : List Oid) where
-    pub ends_against : ((word : List Label) → Accepts labels turned word ↔ Accepts labels machine (reverse word)) → (oid : Oid)
-        → CanBe labels turned (against edges) (λ there. Contains to there.0 × IsIn turned.start there.1) (oid, END) ↔ IsAcceptedInto labels edges machine to oid
-    ends_against turns oid = (
-      λ can. ((can.0).0, can.2.0, (reverse can.1, (turns can.1).0 ((can.0).1, can.2.1, can.3), Walk-against can.1 oid (can.0).0 can.4)),
+  module _ (labels : List (List ℕ)) (turned : Machine) (to : List Oid) where
+    pub ends_against : (oid : Oid)
+        → CanBe labels turned (against edges) (λ there. Contains to there.0 × IsIn turned.start there.1) (oid, END) ↔ ReadsInto edges (ReadsTurned labels turned) to oid
+    ends_against oid = (
+      λ can.
+          let accepted = subst (Accepts labels turned) (sym (reverse-reverse can.1)) ((can.0).1, can.2.1, can.3) in
+          ((can.0).0, can.2.0, (reverse can.1, accepted, Walk-against can.1 oid (can.0).0 can.4)),
       λ into.
           let word : List Label = into.2.0 in
-          let accepted = (turns (reverse word)).1 (subst (Accepts labels machine) (sym (reverse-reverse word)) into.2.1) in
+          let accepted = into.2.1 in
           ((into.0, accepted.0), reverse word, (into.1, accepted.1), accepted.2, against-Walk word oid into.0 into.2.2),
     )
 
     pub walked_against : (there : Oid × ℕ) → CanBe labels turned (against edges) (λ t. Contains to t.0 × IsIn turned.start t.1) there → WalksInto edges to there.0
     walked_against there can = ((can.0).0, can.2.0, (reverse can.1, Walk-against can.1 there.0 (can.0).0 can.4))
+
+  -- words that pass alike are walked alike
+  pub reads_alike : (P Q : List Label → Type 0) (to : List Oid) → ((word : List Label) → P word ↔ Q word) → (oid : Oid) → ReadsInto edges P to oid ↔ ReadsInto edges Q to oid
+  reads_alike P Q to same oid = (
+    λ h. (h.0, h.1, (h.2.0, (same h.2.0).0 h.2.1, h.2.2)),
+    λ h. (h.0, h.1, (h.2.0, (same h.2.0).1 h.2.1, h.2.2)),
+  )
+
+-- a word that is read backwards twice is read as it stands
+pub turned_accepts : (labels : List (List ℕ)) (machine turned : Machine) → ReadsBackwards machine turned
+    → (word : List Label) → ReadsTurned labels turned word ↔ Accepts labels machine word
+turned_accepts labels machine turned turns word = (
+  λ h. subst (Accepts labels machine) (reverse-reverse word) ((turns labels (reverse word)).0 h),
+  λ h. (turns labels (reverse word)).1 (subst (Accepts labels machine) (sym (reverse-reverse word)) h),
+)
 
 -- a search reads at most once for each object and state
 pub takes_reads : (reads most : Oid → ℕ) (Passes : Oid → Type 0) (met : List (Oid × StateMarks)) (leads : Oid × ℕ → Oid × ℕ → Type 0) (starts : List (Oid × StateMarks))

@@ -1,6 +1,7 @@
 -- Walks whose words an automaton accepts, and how often they read edges (Mendelzon and Wood 1995).
 use Rattle.std.specs.Prelude.{◌==◌, ℕ, ◌+◌, ◌*◌, ◌≤◌, List, length, filter, sum_by, Contains}
 use Rattle.product_walk.specs.Types.{Oid, Label, Edge, END}
+use Rattle.lore_base.specs.Paths.{PathTree, Reaches}
 use Rattle.lore_base.specs.Walks.{Walk, out_of}
 use Rattle.path_expr.specs.Machines.{Machine, Accepts}
 
@@ -19,6 +20,10 @@ IsAcceptedFrom labels edges machine x y = (word : List Label) × Accepts labels 
 -- a word that the machine accepts is walked from the object to a member of the list
 abbrev pub IsAcceptedInto : List (List ℕ) → List Edge → Machine → List Oid → Oid → Type 0
 IsAcceptedInto labels edges machine to x = (y : Oid) × Contains to y × IsAcceptedFrom labels edges machine x y
+
+-- the path reaches a member of the list from the object
+abbrev pub ReachesInto : List (List ℕ) → List Edge → PathTree → List Oid → Oid → Type 0
+ReachesInto labels edges path to x = (y : Oid) × Contains to y × Reaches labels edges path x y
 
 -- what it costs to read the edges that leave an object, and those that enter it
 abbrev pub reads_out : List Edge → Oid → ℕ

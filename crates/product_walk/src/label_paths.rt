@@ -1,11 +1,13 @@
 ghost use Rattle.std.specs.Prelude.{◌≡◌, ◌↔◌, List, length, map, All, IsTrue, IfOk, OnOk};
 ghost use Rattle.lore_base.specs.Paths.{step, seq, trees_of, path_tree, Reaches};
 ghost use Rattle.lore_base.specs.TargetSets.{ListsInOrder};
-ghost use Rattle.product_walk.specs.ProductWalks.{IsWalked, reads_out};
+ghost use Rattle.product_walk.specs.ProductWalks.{ReachesInto, IsWalked, WalksInto, reads_out};
+ghost use Rattle.product_walk.specs.inside.Arcs.{reads_entering};
 ghost use Rattle.product_walk.specs.inside.Ways.{IsLabel, TakesTimes};
 
-use crate::children::LabelStep;
-use index_traits::Adjacent;
+use crate::direction::{Against, Along};
+use crate::label_step::{LabelStep, in_order};
+use index_traits::{Adjacent, Links};
 use lore_base::{LabelTest, NoMemory, Oid, OidBuf, Path, Pattern, Steps};
 use std::alloc::Global;
 use std::sync::ledger::Ledger;
@@ -60,11 +62,41 @@ pub(crate) fn reached_in_turn<A: Adjacent, T: LabelTest, L: Ledger>(
     level.push(from)?;
     'paths: for path in paths {
         let step = LabelStep {
-            graph,
+            direction: Along { graph },
             labels,
             pattern: label_of(path),
         };
-        level = step.children_of(alloc, level.as_slice(), steps)?;
+        level = step.ends_of(alloc, level.as_slice(), steps)?;
+    }
+    Ok(level)
+}
+
+// The objects from which labels, one after another, lead to one of the objects, ascending, each
+// once.
+pub(crate) fn reaching_in_turn<K: Links, T: LabelTest, L: Ledger>(
+    alloc: Global,
+    links: &K,
+    labels: &T,
+    paths: &[Path],
+    to: &[Oid],
+    steps: &mut Steps<L>,
+) -> Result<OidBuf, NoMemory>
+    requires { All IsLabel paths.now }
+    ensures objects { let path = seq (trees_of (map path_tree paths.now)) in
+        let reaches = ReachesInto (T.texts labels.now) (K.edges links.now) path to.now in
+        IfOk result (ListsInOrder reaches) }
+    ensures steps { OnOk result (TakesTimes (length paths.now)
+        (reads_entering (K.edges links.now)) (WalksInto (K.edges links.now) to.now)
+        steps.old steps.new) }
+{
+    let mut level = in_order(alloc, to)?;
+    'taken: for taken in 0..paths.len() {
+        let step = LabelStep {
+            direction: Against { links },
+            labels,
+            pattern: label_of(&paths[paths.len() - 1 - taken]),
+        };
+        level = step.ends_of(alloc, level.as_slice(), steps)?;
     }
     Ok(level)
 }

@@ -7,8 +7,9 @@ ghost use Rattle.product_walk.specs.Types.{LEAVES};
 ghost use Rattle.product_walk.specs.ProductWalks.{IsWalked, TakesReads, reads_out};
 ghost use Rattle.product_walk.specs.inside.Ways.{IsWay};
 
-use crate::children::LabelStep;
+use crate::direction::Along;
 use crate::label_paths::{are_labels, reached_in_turn};
+use crate::label_step::LabelStep;
 use crate::searches::forward;
 use index_traits::Adjacent;
 use lore_base::{LabelTest, NoMemory, Oid, OidBuf, Path, PathList, Pattern, Steps};
@@ -26,7 +27,7 @@ pub struct Route<'a> {
 
 // How a path is walked.
 #[derive(Drop)]
-enum Way<'a> {
+pub(crate) enum Way<'a> {
     // No word but the empty one: the object itself is reached.
     Stay,
     // One label: the children of the object by it are reached.
@@ -93,11 +94,11 @@ impl<'a> Route<'a> {
             Way::Stay => buf.push(from),
             Way::Child(pattern) => {
                 let step = LabelStep {
-                    graph,
+                    direction: Along { graph },
                     labels,
                     pattern,
                 };
-                step.append_children(alloc, from, buf, steps)
+                step.append_ends(alloc, from, buf, steps)
             }
             Way::InTurn(parts) => {
                 let found = reached_in_turn(alloc, graph, labels, parts, from, steps)?;
@@ -109,7 +110,7 @@ impl<'a> Route<'a> {
 }
 
 // The way of a path that needs no automaton.
-fn short_way(path: &Path) -> Option<Way<'_>>
+pub(crate) fn short_way(path: &Path) -> Option<Way<'_>>
     requires { leaves (path_tree path.now) ≤ LEAVES }
     ensures { IfSome result (IsWay (path_tree path.now)) }
 {

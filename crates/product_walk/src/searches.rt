@@ -6,6 +6,7 @@ ghost use Rattle.path_expr.specs.Machines.{IsIn};
 ghost use Rattle.product_walk.specs.Types.{Oid as TheOid, END};
 ghost use Rattle.product_walk.specs.ProductWalks.{IsAcceptedFrom, IsAcceptedInto, IsWalked};
 ghost use Rattle.product_walk.specs.ProductWalks.{WalksInto, TakesReads, reads_out, reads_in};
+ghost use Rattle.product_walk.specs.inside.Products.{ReadsInto, ReadsTurned};
 ghost use Rattle.product_walk.specs.inside.StateSets.{HasState, marks};
 
 use crate::direction::{Against, Along, Direction};
@@ -96,6 +97,33 @@ pub fn forward<A: Adjacent, T: LabelTest, L: Ledger>(
     append_ended(alloc, met.as_slice(), buf)
 }
 
+// Appends the objects from which a word is walked to some object of `to` that the automaton accepts
+// when it is read backwards; otherwise as `backward`.
+pub(crate) fn turned_back<K: Links, T: LabelTest, L: Ledger>(
+    alloc: Global,
+    links: &K,
+    to: &OidBuf,
+    turned: &Automaton,
+    labels: &T,
+    buf: &mut OidBuf,
+    steps: &mut Steps<L>,
+) -> Result<(), NoMemory>
+    ensures objects { OnOk result (ExtendsBy (ListsInOrder (ReadsInto (K.edges links.now)
+        (ReadsTurned (T.texts labels.now) turned.now) to.now)) buf.old buf.new) }
+    ensures steps { OnOk result (TakesReads (reads_in (K.edges links.now))
+        (WalksInto (K.edges links.now) to.now) steps.old steps.new) }
+    ensures err { OnErr result (Extends buf.old buf.new) }
+{
+    let mut product = Product {
+        direction: Against { links },
+        mover: Mover::new(alloc, turned, labels),
+        edges: EdgeBuf::new(alloc),
+    };
+    let starts = starting_at(alloc, to.as_slice(), turned.starts())?;
+    let met = search(alloc, &mut product, starts.as_slice(), steps)?;
+    append_ended(alloc, met.as_slice(), buf)
+}
+
 /// Appends to `buf`, ascending, each once, the objects from which a word that the automaton accepts is
 /// walked to some object of `to`.
 ///
@@ -119,12 +147,5 @@ pub fn backward<K: Links, T: LabelTest, L: Ledger>(
     ensures err { OnErr result (Extends buf.old buf.new) }
 {
     let turned = automaton.reversed(alloc)?;
-    let mut product = Product {
-        direction: Against { links },
-        mover: Mover::new(alloc, &turned, labels),
-        edges: EdgeBuf::new(alloc),
-    };
-    let starts = starting_at(alloc, to.as_slice(), turned.starts())?;
-    let met = search(alloc, &mut product, starts.as_slice(), steps)?;
-    append_ended(alloc, met.as_slice(), buf)
+    turned_back(alloc, links, to, &turned, labels, buf, steps)
 }

@@ -1,12 +1,17 @@
-ghost use Rattle.std.specs.Prelude.{◌≡◌, ◌<◌};
+ghost use Rattle.std.specs.Prelude.{◌≡◌, ◌<◌, ◌≤◌};
+ghost use Rattle.lorel_bind.specs.Bound.{bound_cond};
+ghost use Rattle.lorel_bind.specs.Conditions.{paths_of};
+ghost use Rattle.lorel_eval.specs.Types.{LEAVES};
+ghost use Rattle.lorel_eval.specs.Tests.{rest_leaves};
 
 use crate::leaf_room::room_behind;
-use crate::people::{graph, labels, row, values};
+use crate::people::{Numbered, graph, labels, row, values};
 use crate::words::cond_of;
-use index_traits::RowTest;
-use lore_base::{Steps, TryCopy};
+use index_traits::{NaiveEdges, RowTest};
+use lore_base::{NoMemory, Steps, TryCopy};
 use lorel_bind::BoundCond;
 use lorel_eval::Test;
+use oem_labels::LabelTable;
 use std::alloc::Global;
 use std::marker::Brand;
 use std::sync::ledger::{Blank, Ledger};
@@ -28,6 +33,45 @@ fn holds<L: Ledger>(alloc: Global, cond: Option<&BoundCond>, blank: Blank) -> Re
     let labels = labels(alloc)?;
     let test = Test::new(cond, &graph, &values, &labels);
     Ok(test.holds(alloc, &row(alloc), &mut Steps::<L>::new(blank))?)
+}
+
+// The same of a condition whose paths are made ready once.
+fn holds_ready<L: Ledger>(alloc: Global, cond: &BoundCond, blank: Blank) -> Result<bool, Fail>
+    requires name { blank.name ≡ L.name }
+    requires parts { blank.parts ≡ L.parts }
+    requires some { 0 < blank.parts }
+{
+    if room_behind(cond, 64).is_none() {
+        return Err(Fail::new("the condition has too many leaves"));
+    }
+    let graph = graph(alloc)?;
+    let values = values(alloc)?;
+    let labels = labels(alloc)?;
+    Ok(ready_answer(
+        alloc,
+        cond,
+        &graph,
+        &values,
+        &labels,
+        &mut Steps::<L>::new(blank),
+    )?)
+}
+
+fn ready_answer<L: Ledger>(
+    alloc: Global,
+    cond: &BoundCond,
+    graph: &NaiveEdges,
+    values: &Numbered,
+    labels: &LabelTable,
+    steps: &mut Steps<L>,
+) -> Result<bool, NoMemory>
+    requires { rest_leaves (paths_of (bound_cond cond.now)) ≤ LEAVES }
+{
+    let test = Test::ready(alloc, Some(cond), graph, values, labels)?;
+    let answer = test.holds(alloc, &row(alloc), steps);
+    // A drop that is written out is proved once.
+    drop(test);
+    answer
 }
 
 #[test]
@@ -103,6 +147,8 @@ fn conditions_hold_of_these_people(rt: HostRuntime) -> Result<(), Fail> {
         let cond = cond_of(rt.alloc(), words)?.try_copy(rt.alloc())?;
         let answer = holds::<Brand>(rt.alloc(), Some(&cond), Blank::new(1))?;
         assert_eq!(rt; answer, wanted, "at {words:?}");
+        let answer = holds_ready::<Brand>(rt.alloc(), &cond, Blank::new(1))?;
+        assert_eq!(rt; answer, wanted, "made ready at {words:?}");
     }
     Ok(())
 }

@@ -1,35 +1,50 @@
-use crate::runs::print_runs;
+use crate::runs::{print_modes, print_runs};
 use lore_base::NoMemory;
 use std::alloc::Global;
+
+/// A script, and whether it is run in each mode of plans.
+#[derive(Drop)]
+struct Case {
+    script: Vec<u8>,
+    in_modes: bool,
+}
 
 /// What all cases print.
 pub(crate) fn answers(alloc: Global, input: &[u8]) -> Result<Vec<u8>, NoMemory> {
     let mut printed = Vec::new(alloc);
-    let mut script = None;
+    let mut case = None;
     for line in input
         .strip_suffix(b"\n")
         .unwrap_or(input)
         .split(|byte| *byte == b'\n')
     {
         if line.starts_with(b"=== ") {
-            finish(alloc, script, &mut printed)?;
+            finish(alloc, case, &mut printed)?;
             put_line(&mut printed, line)?;
-            script = Some(Vec::new(alloc));
-        } else if let Some(bytes) = &mut script {
-            add(bytes, line)?;
+            case = Some(Case {
+                script: Vec::new(alloc),
+                in_modes: line.starts_with(b"=== modes: "),
+            });
+        } else if let Some(case) = &mut case {
+            add(&mut case.script, line)?;
         }
     }
-    finish(alloc, script, &mut printed)?;
+    finish(alloc, case, &mut printed)?;
     Ok(printed)
 }
 
 // Runs the script of a case, which has one line end too many.
-fn finish(alloc: Global, script: Option<Vec<u8>>, printed: &mut Vec<u8>) -> Result<(), NoMemory> {
-    let Some(bytes) = script else {
+fn finish(alloc: Global, case: Option<Case>, printed: &mut Vec<u8>) -> Result<(), NoMemory> {
+    let Some(Case { script, in_modes }) = case else {
         return Ok(());
     };
-    let bytes = bytes.as_slice();
-    print_runs(alloc, bytes.strip_suffix(b"\n").unwrap_or(bytes), printed)
+    let bytes = script.as_slice();
+    let script = bytes.strip_suffix(b"\n").unwrap_or(bytes);
+    if in_modes {
+        print_modes(alloc, script, printed)
+    } else {
+        print_runs(alloc, script, printed)
+    }
 }
 
 fn put_line(bytes: &mut Vec<u8>, line: &[u8]) -> Result<(), NoMemory> {

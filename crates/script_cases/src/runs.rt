@@ -9,6 +9,9 @@ use std::sync::ledger::{Blank, Ledger};
 /// The most bytes of one read and of one write.
 const PIECES: [u32; 4] = [65_536, 1, 2, 13];
 
+/// The modes of plans, as a script sets them.
+const MODES: [&str; 4] = ["auto", "top", "bottom", "guide"];
+
 /// The most bytes of a script that is read and written in pieces of each size.
 const SHORT: usize = 8_192;
 
@@ -90,6 +93,33 @@ pub(crate) fn print_runs(
     print_end(alloc, &first, printed)?;
     if script.len() <= SHORT {
         compare(alloc, script, &first, printed)?;
+    }
+    Ok(())
+}
+
+// Runs a script in a new session that has set the mode of plans.
+fn run_in_mode(alloc: Global, mode: &str, script: &[u8]) -> Result<Ended, NoMemory> {
+    let mut whole = Vec::new(alloc);
+    let line = format!(in alloc; "set plan {mode};\n")?;
+    whole.extend_from_slice(line.as_bytes())?;
+    whole.extend_from_slice(script)?;
+    run(alloc, whole.as_slice(), PIECES[0], PIECES[0])
+}
+
+/// Prints what the script writes in each mode of plans, and how its run ends: once, and a line for
+/// each mode in which it differs from the first.
+pub(crate) fn print_modes(
+    alloc: Global,
+    script: &[u8],
+    printed: &mut Vec<u8>,
+) -> Result<(), NoMemory> {
+    let first = run_in_mode(alloc, MODES[0], script)?;
+    print_end(alloc, &first, printed)?;
+    for mode in MODES {
+        if !is_same(&first, &run_in_mode(alloc, mode, script)?) {
+            let line = format!(in alloc; "in mode {mode} it differs\n")?;
+            printed.extend_from_slice(line.as_bytes())?;
+        }
     }
     Ok(())
 }

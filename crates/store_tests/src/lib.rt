@@ -7,6 +7,8 @@ mod limits;
 #[cfg(test)]
 mod links;
 #[cfg(test)]
+mod modes;
+#[cfg(test)]
 mod probes;
 #[cfg(test)]
 mod sessions;

@@ -4,7 +4,7 @@ ghost use Rattle.lore_base.specs.Paths.{path_tree, leaves};
 use crate::shapes::{automaton_of, numbers_of, oids_of, paths_of, ring, two_labels};
 use index_traits::{NaiveEdges, Paths};
 use lore_base::{OemText, Oid, Path, Pattern, Steps, leaf_count};
-use product_walk::{NaivePaths, Route, backward, forward};
+use product_walk::{NaivePaths, Route, WayBack, backward, forward};
 use std::alloc::Global;
 use std::marker::Brand;
 use std::sync::ledger::{Blank, Ledger};
@@ -188,21 +188,76 @@ fn reaching<L: Ledger>(
     Ok(numbers_of(alloc, &found)?)
 }
 
+// The same by a path that is made ready once.
+fn led_back<L: Ledger>(
+    alloc: Global,
+    to: &[u32],
+    path: &Path,
+    blank: Blank,
+) -> Result<Vec<u32>, Fail>
+    requires few { leaves (path_tree path.now) ≤ 64 }
+    requires name { blank.name ≡ L.name }
+    requires parts { blank.parts ≡ L.parts }
+    requires some { 0 < blank.parts }
+{
+    let mut found = oids_of(alloc, &[7])?;
+    let way = WayBack::new(alloc, path)?;
+    way.reach_back(
+        alloc,
+        &graph(alloc)?,
+        &two_labels(alloc)?,
+        &oids_of(alloc, to)?,
+        &mut found,
+        &mut Steps::<L>::new(blank),
+    )?;
+    Ok(numbers_of(alloc, &found)?)
+}
+
+// The same by parts one after another that are made ready once.
+fn leading<L: Ledger>(
+    alloc: Global,
+    to: &[u32],
+    path: &[u8],
+    blank: Blank,
+) -> Result<Vec<u32>, Fail>
+    requires name { blank.name ≡ L.name }
+    requires parts { blank.parts ≡ L.parts }
+    requires some { 0 < blank.parts }
+{
+    let paths = paths_of(alloc, path)?;
+    if leaf_count(&paths) > 64 {
+        return Err(Fail::new("the path has too many leaves"));
+    }
+    led_back::<L>(alloc, to, &Path::Seq(paths), blank)
+}
+
+const REACHING: [(&[u32], &str, &[u32]); 11] = [
+    (&[3], "#v", &[7, 1, 2, 4]),
+    (&[3], "nnv", &[7, 2, 4]),
+    (&[1], "n*", &[7, 1, 2, 4]),
+    (&[2], "nv|?", &[7, 1, 2]),
+    (&[3], "nv|?", &[7, 2, 3, 4]),
+    (&[1, 3], "v", &[7, 2, 4]),
+    (&[3, 1, 3], "n+", &[7, 1, 2, 4]),
+    (&[3, 1], "", &[7, 1, 3]),
+    (&[3, 2], "%", &[7, 1, 2, 4]),
+    (&[], "#", &[7]),
+    (&[9], "n*", &[7, 9]),
+];
+
 #[test]
 fn these_objects_are_reached_from(rt: HostRuntime) -> Result<(), Fail> {
-    let table: [(&[u32], &str, &[u32]); 9] = [
-        (&[3], "#v", &[7, 1, 2, 4]),
-        (&[3], "nnv", &[7, 2, 4]),
-        (&[1], "n*", &[7, 1, 2, 4]),
-        (&[2], "nv|?", &[7, 1, 2]),
-        (&[3], "nv|?", &[7, 2, 3, 4]),
-        (&[1, 3], "v", &[7, 2, 4]),
-        (&[3, 1, 3], "n+", &[7, 1, 2, 4]),
-        (&[], "#", &[7]),
-        (&[9], "n*", &[7, 9]),
-    ];
-    for (to, path, wanted) in table {
+    for (to, path, wanted) in REACHING {
         let found = reaching::<Brand>(rt.alloc(), to, path.as_bytes(), Blank::new(1))?;
+        assert_eq!(rt; found.as_slice(), wanted);
+    }
+    Ok(())
+}
+
+#[test]
+fn ways_back_lead_to_the_same(rt: HostRuntime) -> Result<(), Fail> {
+    for (to, path, wanted) in REACHING {
+        let found = leading::<Brand>(rt.alloc(), to, path.as_bytes(), Blank::new(1))?;
         assert_eq!(rt; found.as_slice(), wanted);
     }
     Ok(())

@@ -1,12 +1,12 @@
 -- A guide walked by a machine: nodes under the states that the machine is in there.
-use Rattle.std.specs.Prelude.{◌≡◌, ◌↔◌, ◌==◌, ℕ, zero, suc, ◌<◌, ◌⊎◌, List, Some, true, refl}
+use Rattle.std.specs.Prelude.{◌≡◌, ◌↔◌, ◌==◌, ℕ, zero, suc, ◌<◌, ◌⊎◌, List, Contains, true, refl}
 use Rattle.std.specs.Int.{bit_at}
 use Rattle.std.proofs.Common.{inl, inr, arith}
 use Rattle.std.proofs.lemmas.Bool.{eqb-true}
 use Rattle.std.proofs.lemmas.Nat.Bits.{bit_at-lt}
 use Rattle.path_expr.specs.Machines.{Machine, IsIn, Moves, StepsTo}
 use Rattle.graph_search.specs.Closures.{IsMet}
-use Rattle.dataguide.specs.Guides.{HasSet, HasEdge, edge_at}
+use Rattle.dataguide.specs.Guides.{HasSet, HasEdge}
 use Rattle.guide_query.specs.Types.{Oid, Label, Node, GuideNode, States, StateMarks, END}
 use Rattle.guide_query.specs.GuideReaches.{IsMember}
 
@@ -41,17 +41,24 @@ Leads walked here there =
     (label : Label) × HasEdge walked.nodes here.0 label there.0
     × Moves walked.labels walked.machine here.1 label there.1
 
--- one of the first edges of the node leads to the other one, and its label from one of the states to the state there
-abbrev pub IsNext : WalkedGuide → Node → States → ℕ → Node × ℕ → Type 0
-IsNext walked from states count there =
-    (i : ℕ) × (label : Label) × (i < count) × (edge_at walked.nodes from i ≡ Some (label, there.0))
-    × StepsTo walked.labels walked.machine states label there.1
+-- one of the edges leads to the node there, and its label from one of the states to the state there
+abbrev pub IsNext : WalkedGuide → List (Label × Node) → States → Node × ℕ → Type 0
+IsNext walked edges states there =
+    (label : Label) × Contains edges (label, there.0) × StepsTo walked.labels walked.machine states label there.1
 
--- the nodes before a place that have the set, under these states
-abbrev pub AreStarts : List GuideNode → List Oid → States → ℕ → List (Node × StateMarks) → Type 0
-AreStarts nodes set states place starts = (node : Node) (state : ℕ)
-    → IsMet HasState starts (node, state) ↔ ((node.0 < place) × HasSet nodes node set × IsIn states state)
+-- the nodes that have the set, under these states
+abbrev pub AreStarts : List GuideNode → List Oid → States → List (Node × StateMarks) → Type 0
+AreStarts nodes set states starts = (node : Node) (state : ℕ)
+    → IsMet HasState starts (node, state) ↔ (HasSet nodes node set × IsIn states state)
 
 -- the object is in the set of a node that is met at the end
 abbrev pub IsEnded : List GuideNode → List (Node × StateMarks) → Oid → Type 0
 IsEnded nodes met oid = (node : Node) × IsMet HasState met (node, END) × IsMember nodes node oid
+
+-- no node is met at the end
+abbrev pub NoneEnds : List (Node × StateMarks) → Type 0
+NoneEnds met = (node : Node) → IsMet HasState met (node, END) → ⊥
+
+-- this node is met at the end, and no other one
+abbrev pub IsOnlyEnd : List (Node × StateMarks) → Node → Type 0
+IsOnlyEnd met only = (node : Node) → IsMet HasState met (node, END) ↔ (node ≡ only)

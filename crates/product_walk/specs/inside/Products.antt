@@ -1,6 +1,7 @@
 -- The product of a graph with a machine: objects under the states that the machine is in there.
-use Rattle.std.specs.Prelude.{◌≡◌, ℕ, List, Contains}
-use Rattle.path_expr.specs.Machines.{Machine, Moves, Runs, StepsTo}
+use Rattle.std.specs.Prelude.{◌≡◌, ℕ, List, reverse, Contains}
+use Rattle.lore_base.specs.Walks.{Walk}
+use Rattle.path_expr.specs.Machines.{Machine, Accepts, Moves, Runs, StepsTo}
 use Rattle.product_walk.specs.Types.{Oid, Label, Edge, States}
 use Rattle.product_walk.specs.inside.Arcs.{WalkBy}
 use Rattle.product_walk.specs.inside.Movers.{Moving}
@@ -28,3 +29,15 @@ CanBe labels machine goes Starts there =
 abbrev pub IsNext : List (List ℕ) → Machine → (Edge → Oid) → List Edge → States → Oid × ℕ → Type 0
 IsNext labels machine far edges states there =
     (edge : Edge) × Contains edges edge × (far edge ≡ there.0) × StepsTo labels machine states edge.label there.1
+
+-- the machine accepts the word when it is read backwards
+abbrev pub ReadsTurned : List (List ℕ) → Machine → List Label → Type 0
+ReadsTurned labels turned word = Accepts labels turned (reverse word)
+
+-- a word that passes is walked from one object to another
+abbrev pub ReadsFrom : List Edge → (List Label → Type 0) → Oid → Oid → Type 0
+ReadsFrom edges Passes x y = (word : List Label) × Passes word × Walk edges x word y
+
+-- or from the object to a member of the list
+abbrev pub ReadsInto : List Edge → (List Label → Type 0) → List Oid → Oid → Type 0
+ReadsInto edges Passes to x = (y : Oid) × Contains to y × ReadsFrom edges Passes x y

@@ -8,6 +8,9 @@ use Rattle.product_walk.specs.Types.{Oid, Label, Edge, Pattern, LEAVES}
 use Rattle.product_walk.specs.ProductWalks.{IsWalked}
 use Rattle.product_walk.specs.declared.routes.Way.{Way}
 use Rattle.product_walk.specs.declared.routes.Way.TheVariants.{Stay, Child, InTurn, Search}
+use Rattle.product_walk.specs.declared.ways_back.Turned.{Turned}
+use Rattle.product_walk.specs.declared.ways_back.Turned.TheVariants.{Parent, InTurn as InTurnBack, Search as SearchBack}
+use Rattle.product_walk.specs.inside.Products.{ReadsTurned}
 
 -- two paths spell the same words
 abbrev pub SpellAlike : PathTree → PathTree → Type 0
@@ -27,10 +30,23 @@ IsWay path (InTurn parts) =
     × All IsLabel parts.now × (length parts.now ≤ LEAVES)
 IsWay path (Search machine) = StandsFor machine path
 
+-- a path is walked this way against the edges
+abbrev pub IsTurned : PathTree → Turned → Type 0
+IsTurned path (Parent pattern) = SpellAlike path (step pattern.now)
+IsTurned path (InTurnBack parts) =
+    SpellAlike path (seq (trees_of (map path_tree parts.now)))
+    × All IsLabel parts.now × (length parts.now ≤ LEAVES)
+IsTurned path (SearchBack turned) =
+    (labels : List (List ℕ)) (word : List Label) → ReadsTurned labels turned word ↔ Spells labels path word
+
+-- an arc leads from one object to another by a label that fits
+abbrev pub GoesBy : List (List ℕ) → (Oid → Label → Oid → Type 0) → Pattern → Oid → Oid → Type 0
+GoesBy labels goes pattern from oid = (label : Label) × goes from label oid × Fits labels pattern label
+
 -- one of the edges leads to the object by a label that fits
-abbrev pub IsFittingChild : List (List ℕ) → Pattern → List Edge → Oid → Type 0
-IsFittingChild labels pattern edges oid =
-    (edge : Edge) × Contains edges edge × Fits labels pattern edge.label × (edge.child ≡ oid)
+abbrev pub IsFittingEnd : (Edge → Oid) → List (List ℕ) → Pattern → List Edge → Oid → Type 0
+IsFittingEnd far labels pattern edges oid =
+    (edge : Edge) × Contains edges edge × Fits labels pattern edge.label × (far edge ≡ oid)
 
 -- some of the objects leads to this one
 abbrev pub FromSome : (Oid → Oid → Type 0) → List Oid → Oid → Type 0

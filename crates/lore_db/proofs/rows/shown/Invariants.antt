@@ -4,4 +4,4 @@ use Rattle.lorel_bind.specs.SlotRows.{StartsAt}
 use Rattle.lore_db.proofs.rows.shown.Given as goal
 
 abbrev pub invariant-cells : goal.invariant-cells
-invariant-cells l = AllZip (StartsAt l.row) (take l.cell-index l.cells) l.shown
+invariant-cells l = AllZip (StartsAt l.fn.row) (take l.cell-index l.cells) l.shown

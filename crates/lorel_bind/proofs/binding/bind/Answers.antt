@@ -1,4 +1,4 @@
-use Rattle.std.proofs.Common.{◌≡◌, ◌<◌, ◌≤◌, length, arith}
+use Rattle.std.proofs.Common.{◌<◌, ◌≤◌, length, arith}
 use Rattle.std.proofs.lemmas.List.{length-map}
 use Rattle.lorel_trees.specs.Trees.{select_tree}
 use Rattle.lorel_bind.specs.Types.{RANGES}

@@ -2,7 +2,6 @@ use Rattle.std.proofs.Common.{[], ◌∙◌, subst, ap}
 use Rattle.std.specs.List.{AllZip}
 use Rattle.lorel_trees.specs.Trees.{select_tree}
 use Rattle.lorel_bind.specs.Places.{scope_of}
-use Rattle.lorel_bind.specs.Bound.{bound_tree}
 use Rattle.lorel_bind.specs.inside.Views.{place_trees, ranges_of}
 use Rattle.lorel_bind.specs.inside.Slots.{Starts}
 use Rattle.lorel_bind.proofs.ReadyLaws.{ready_bound}

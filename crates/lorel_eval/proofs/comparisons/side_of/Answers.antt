@@ -1,6 +1,7 @@
 use Rattle.std.proofs.Common.{◌↔◌, sym, ap, subst}
-use Rattle.lorel_bind.specs.Bound.{BoundPathTree, bound_path, bound_operand}
+use Rattle.lorel_bind.specs.Bound.{BoundPathTree}
 use Rattle.lorel_bind.specs.Conditions.{OperandOf}
+use Rattle.lorel_eval.specs.inside.Ready.{ready_path, ready_operand}
 use Rattle.lorel_eval.specs.inside.Subjects.{GivesIn}
 use Rattle.lorel_eval.specs.inside.Sides.{SideGives}
 use Rattle.lorel_eval.specs.declared.comparisons.Side.TheVariants.{Objects}
@@ -12,5 +13,5 @@ returns-in_ok-found-in-At g c = λ value.
     let over = c.args.subject.now in
     let found = c.in_ok-found-in-At.found in
     subst (λ (operand : OperandOf BoundPathTree). SideGives over.objects (Objects found) value ↔ GivesIn over c.args.objects.now operand value)
-    (sym (ap bound_operand c.in-At.is))
-    (objects_give over c.args.objects.now (bound_path c.in-At.path) found value c.in_ok-found-in-At.ensures)
+    (sym (ap ready_operand c.in-At.is))
+    (objects_give over c.args.objects.now (ready_path c.in-At.path) found value c.in_ok-found-in-At.ensures)

@@ -4,10 +4,12 @@ use Rattle.std.proofs.Math.Seq.{drop-cons, drop-length}
 use Rattle.lore_base.specs.Paths.{PathTree, path_tree, trees_of, seq, step, more, Reaches}
 use Rattle.lore_base.specs.declared.paths.Path.{Path}
 use Rattle.lore_base.specs.TargetSets.{ListsInOrder}
+use Rattle.lore_base.proofs.TargetLaws.{ListsInOrder-same}
 use Rattle.product_walk.specs.Types.{Oid}
 use Rattle.product_walk.specs.ProductWalks.{IsWalked, reads_out}
-use Rattle.product_walk.specs.inside.Ways.{IsLabel, FromSome, IsLevel, TakesTimes}
-use Rattle.product_walk.proofs.LevelLaws.{level_start, level_next, level_end, times_more}
+use Rattle.product_walk.specs.inside.Arcs.{along}
+use Rattle.product_walk.specs.inside.Ways.{IsLabel, GoesBy, FromSome, IsLevel, TakesTimes}
+use Rattle.product_walk.proofs.LevelLaws.{goes_reaches, from_alike, level_start, level_next, level_end, times_more}
 use Rattle.product_walk.proofs.label_paths.reached_in_turn.Goals as goal
 
 pub paths-init : goal.paths-init
@@ -33,6 +35,7 @@ paths-preserved g c =
     let part = c.path-item.result in
     let whole = seq (trees_of (map path_tree paths)) in
     let label = step c.label_of.result.now in
+    let goes = GoesBy labels (along edges) c.label_of.result.now in
     let others = trees_of (map path_tree (drop (place + 1) paths)) in
     let front : drop place paths ≡ part ∷ drop (place + 1) paths =
     drop-cons paths place part c.paths-test.true
@@ -42,9 +45,11 @@ paths-preserved g c =
       level =
           level_next labels edges whole label others c.args.from c.paths.level c.in_ok-level.level
           (subst (λ (t : PathTree). IsLevel labels edges whole t c.args.from c.paths.level) left c.paths.invariant.level)
-          (subst (λ (l : List Oid). ListsInOrder (FromSome (Reaches labels edges label) l) c.in_ok-level.level) c.as_slice.ensures c.in_ok-level.ensures.objects);
+          (ListsInOrder-same (FromSome goes c.paths.level) (FromSome (Reaches labels edges label) c.paths.level) c.in_ok-level.level
+          (from_alike goes (Reaches labels edges label) c.paths.level (goes_reaches labels edges c.label_of.result.now))
+          (subst (λ (l : List Oid). ListsInOrder (FromSome goes l) c.in_ok-level.level) c.as_slice.ensures c.in_ok-level.ensures.objects));
       taken =
-          times_more place (reads_out edges) (IsWalked edges c.args.from) c.args.steps.now c.paths.steps c.children_of.new.steps c.paths.level c.paths.invariant.taken
+          times_more place (reads_out edges) (IsWalked edges c.args.from) c.args.steps.now c.paths.steps c.ends_of.new.steps c.paths.level c.paths.invariant.taken
           (c.in_ok-level.ensures.steps ∙ ap (λ (l : List Oid). c.paths.steps + sum_by (reads_out edges) l) c.as_slice.ensures) c.paths.invariant.level.ascending c.paths.invariant.level.walked;
     }
 

@@ -1,6 +1,6 @@
 use Rattle.std.proofs.Common.{◌≡◌, ◌<◌, List, ◌∷◌, [], ◌++◌, length, Contains, sym, subst, arith}
 use Rattle.dataguide.specs.Types.{GuideNode}
-use Rattle.dataguide.specs.Guides.{HasSet, node_number}
+use Rattle.dataguide.specs.Guides.{sets_of, HasSet, node_number}
 use Rattle.dataguide.specs.inside.NodeTables.{IsNodeTable, listed}
 use Rattle.dataguide.proofs.PlaceLaws.{at-map, at-push}
 use Rattle.dataguide.proofs.TableLaws.{table-wider, table-push}
@@ -24,8 +24,11 @@ invariant_of-self-2 c =
     omega (arith, c.len.ensures, c.if-len-limit.false, c.ranges.limit.fits, c.self.inside.nodes.ok.0) in
     let there = subst (λ k. Contains (listed c.push.new.self k) (node_number (length nodes))) c.hash64.ensures
     (subst (λ k. Contains (listed c.push.new.self c.hash64.result) (node_number k)) count c.in_ok-push.ensures.added) in
+    let fresh =
+    subst (λ (l : List GuideNode). ¬ Contains (sets_of l) c.args.set) c.as_slice.ensures.value
+    c.in_default.ensures.none in
     subst (λ (l : List GuideNode). IsNodeTable c.push.new.self l) (sym c.in_ok-push-2.ensures.items)
-    (table-push c.push.new.self nodes node c.new-edges.ensures few there
+    (table-push c.push.new.self nodes node c.new-edges.ensures few there fresh
     (table-wider c.self.inside.by_hash c.push.new.self nodes c.push.ensures.kept c.self.invariant))
 
 pub returns-clause-node : goal.returns-clause-node

@@ -1,13 +1,11 @@
-use Rattle.std.proofs.Common.{ℕ, ◌↔◌, ◌∷◌, [], List, refl, subst, sym}
+use Rattle.std.proofs.Common.{◌↔◌, ◌∷◌, [], List, refl, subst, sym}
 use Rattle.std.proofs.lemmas.Result.{on_ok_weaker}
 use Rattle.lore_base.specs.Paths.{path_tree}
 use Rattle.lore_base.proofs.TargetLaws.{ListsInOrder-same}
-use Rattle.graph_search.specs.Closures.{IsMet, IsClosure}
-use Rattle.dataguide.specs.Guides.{HasSet}
-use Rattle.path_expr.specs.Machines.{IsIn}
+use Rattle.graph_search.specs.Closures.{IsClosure}
 use Rattle.guide_query.specs.Types.{Oid, Node, States, StateMarks}
 use Rattle.guide_query.specs.GuideReaches.{GuideOver, TellsReached}
-use Rattle.guide_query.specs.inside.GuideWalks.{HasState, WalkedGuide, Leads, IsEnded}
+use Rattle.guide_query.specs.inside.GuideWalks.{HasState, WalkedGuide, Leads, AreStarts, IsEnded}
 use Rattle.guide_query.proofs.GuideWalkLaws.{ended-told}
 use Rattle.guide_query.proofs.guide_paths.GuidePathsPaths.select.Goals as goal
 
@@ -21,9 +19,8 @@ returns-clause-objects c =
     let starts = c.in_ok-starts.starts.items in
     let met = c.in_ok-met.met.items in
     let begin =
-    subst (λ (s : States). (node : Node) (state : ℕ)
-    → IsMet HasState starts (node, state) ↔ (HasSet guide.nodes node (named ∷ []) × IsIn s state))
-    c.starts.ensures.exact c.in_ok-starts.ensures in
+    subst (λ (s : States). AreStarts guide.nodes (named ∷ []) s starts) c.starts.ensures.exact
+    c.in_ok-starts.ensures in
     let closure =
     subst (λ (l : List (Node × StateMarks)). IsClosure HasState (Leads walked) l met) c.as_slice.ensures.value
     c.in_ok-met.ensures.found in

@@ -3,11 +3,11 @@ use Rattle.std.specs.Prelude.{ℤ}
 use Rattle.std.specs.Int.{w64, cast_signed, cast_unsigned}
 use Rattle.std.proofs.lemmas.Int.{to_z-of_z}
 use Rattle.lorel_trees.specs.declared.statements.Statement.{Statement}
-use Rattle.lorel_trees.specs.Trees.{load, bind, unname, select, guide, set_nodes, literal_tree, rooted_tree, select_tree, statement_tree}
+use Rattle.lorel_trees.specs.Trees.{load, bind, unname, select, explain, guide, set_nodes, literal_tree, rooted_tree, select_tree, statement_tree}
 use Rattle.lorel_trees.specs.Sound.{IsSound}
 use Rattle.lorel_trees.proofs.FormLaws.{sound_statement}
 use Rattle.lore_db.specs.Statements.{Executes}
-use Rattle.lore_db.proofs.ShallowLaws.{sound_shallow}
+use Rattle.lore_db.proofs.ShallowLaws.{sound_shallow, explain_shallow}
 use Rattle.lore_db.proofs.ExecutionLaws.{unchanged, replied}
 use Rattle.lore_db.proofs.GuideStatementLaws.{shown, shown_told, limited, limited_told}
 use Rattle.lore_db.proofs.db.Db.execute.Goals as goal
@@ -29,6 +29,9 @@ name-requires-clause-name g c =
 
 pub select-requires : goal.select-requires
 select-requires g c = sound_shallow (select_tree c.in-Select.query) (subst (λ (s : Statement). IsSound (statement_tree s)) c.in-Select.is c.requires)
+
+pub explain-requires : goal.explain-requires
+explain-requires g c = explain_shallow (select_tree c.in-Explain.query) (subst (λ (s : Statement). IsSound (statement_tree s)) c.in-Explain.is c.requires)
 
 pub returns-in-Load-clause-ok : goal.returns-in-Load-clause-ok
 returns-in-Load-clause-ok g c =
@@ -53,6 +56,12 @@ returns-in-Select-clause-ok g c =
     subst (λ (s : Statement). IfOk c.reply_of-in-Select.result (λ reply. Executes c.args.self.now (statement_tree s) reply c.args.self.now)) (sym c.in-Select.is)
     (replied c.args.self.now c.args.self.now (select (select_tree c.in-Select.query)) c.select.result c.reply_of-in-Select.result
     c.reply_of-in-Select.ensures c.select.ensures.ok (unchanged c.select.result c.args.self.now) c.select.ensures.refused)
+
+pub returns-in-Explain-clause-ok : goal.returns-in-Explain-clause-ok
+returns-in-Explain-clause-ok g c =
+    subst (λ (s : Statement). IfOk c.reply_of-in-Explain.result (λ reply. Executes c.args.self.now (statement_tree s) reply c.args.self.now)) (sym c.in-Explain.is)
+    (replied c.args.self.now c.args.self.now (explain (select_tree c.in-Explain.query)) c.explain.result c.reply_of-in-Explain.result
+    c.reply_of-in-Explain.ensures c.explain.ensures.ok (unchanged c.explain.result c.args.self.now) c.explain.ensures.refused)
 
 pub returns-in-Assign-clause-ok : goal.returns-in-Assign-clause-ok
 returns-in-Assign-clause-ok g c =

@@ -12,7 +12,7 @@ pub returns-then-is_none-clause-refused : goal.returns-then-is_none-clause-refus
 returns-then-is_none-clause-refused g c =
     let db = c.args.self.now in
     let name = c.args.name.now in
-    let valid = subst (λ (d : Database). IsValid d) c.self.view_is c.self.invariant.valid in
+    let valid = subst (λ (d : Database). IsValid d) c.self.view_is c.self.invariant in
     let is = c.name.ensures ∙ ap (λ (g : OemGraph). object_of g.names name) c.graph.ensures.graph
     ∙ ap (λ (d : Database). object_of d.graph.names name) c.self.view_is in
     unbound_stop db valid name
@@ -22,7 +22,7 @@ pub apply-requires : goal.apply-requires
 apply-requires g c =
     let db = c.args.self.now in
     let name = c.args.name.now in
-    let valid = subst (λ (d : Database). IsValid d) c.self.view_is c.self.invariant.valid in
+    let valid = subst (λ (d : Database). IsValid d) c.self.view_is c.self.invariant in
     let is = c.name.ensures ∙ ap (λ (g : OemGraph). object_of g.names name) c.graph.ensures.graph
     ∙ ap (λ (d : Database). object_of d.graph.names name) c.self.view_is in
     let bound = bound_by db.graph.names name c.name.result c.is_none.result is c.is_none.ensures c.if-is_none.false in
@@ -32,7 +32,7 @@ pub returns-in_err-apply-clause-refused : goal.returns-in_err-apply-clause-refus
 returns-in_err-apply-clause-refused g c =
     let db = c.args.self.now in
     let name = c.args.name.now in
-    let valid = subst (λ (d : Database). IsValid d) c.self.view_is c.self.invariant.valid in
+    let valid = subst (λ (d : Database). IsValid d) c.self.view_is c.self.invariant in
     let is = c.name.ensures ∙ ap (λ (g : OemGraph). object_of g.names name) c.graph.ensures.graph
     ∙ ap (λ (d : Database). object_of d.graph.names name) c.self.view_is in
     let bound = bound_by db.graph.names name c.name.result c.is_none.result is c.is_none.ensures c.if-is_none.false in
@@ -44,7 +44,7 @@ pub returns-clause-ok : goal.returns-clause-ok
 returns-clause-ok g c =
     let db = c.args.self.now in
     let name = c.args.name.now in
-    let valid = subst (λ (d : Database). IsValid d) c.self.view_is c.self.invariant.valid in
+    let valid = subst (λ (d : Database). IsValid d) c.self.view_is c.self.invariant in
     let is = c.name.ensures ∙ ap (λ (g : OemGraph). object_of g.names name) c.graph.ensures.graph
     ∙ ap (λ (d : Database). object_of d.graph.names name) c.self.view_is in
     let bound = bound_by db.graph.names name c.name.result c.is_none.result is c.is_none.ensures c.if-is_none.false in

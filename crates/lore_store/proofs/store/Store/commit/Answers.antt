@@ -28,7 +28,7 @@ pub invariant_of-self : goal.invariant_of-self
 invariant_of-self c =
     let graph = c.self.inside.graph.graph in
     let leads = leads_inside _ _ _ _ c.self.view_is c.prepared.view_is c.requires.leads in
-    stored_then c.self.inside.labels graph c.self.inside.limit c.self.inside.guide _ leads _ _ _ _ c.commit_new.ensures c.commit.ensures
+    stored_then c.self.inside.labels graph c.self.inside.limit c.self.inside.mode c.self.inside.guide _ leads _ _ _ _ c.commit_new.ensures c.commit.ensures
     (ap (guide_then c.self.inside.guide) c.in-Some.is)
     (c.commit-2.ensures graph (graph_then graph c.prepared.inside.graph) c.self.invariant.indexes leads.indexes)
 
@@ -36,6 +36,6 @@ pub invariant_of-self-in_default : goal.invariant_of-self-in_default
 invariant_of-self-in_default c =
     let graph = c.self.inside.graph.graph in
     let leads = leads_inside _ _ _ _ c.self.view_is c.prepared.view_is c.requires.leads in
-    stored_then c.self.inside.labels graph c.self.inside.limit c.self.inside.guide _ leads _ _ _ _ c.commit_new.ensures c.commit.ensures
+    stored_then c.self.inside.labels graph c.self.inside.limit c.self.inside.mode c.self.inside.guide _ leads _ _ _ _ c.commit_new.ensures c.commit.ensures
     (kept_guide c.self.inside.guide c.prepared.inside.guide c.in_default.not-Some)
     (c.commit-2.ensures graph (graph_then graph c.prepared.inside.graph) c.self.invariant.indexes leads.indexes)

@@ -9,7 +9,7 @@ pub returns-then-link_nothing : goal.returns-then-link_nothing
 returns-then-link_nothing g c =
     let graph = c.self.inside.graph.graph in
     let changes = c.args.changes.now in
-    let rooted = rooted_graph (database_of c.self.inside.labels graph c.self.inside.limit) c.self.invariant.valid in
+    let rooted = rooted_graph (database_of c.self.inside.labels graph c.self.inside.limit c.self.inside.mode) c.self.invariant.valid in
     let fits = subst (λ (store : RoomyDatabase). FitsGraph store.db.graph changes) (sym c.self.view_is) c.requires in
     let none = none_dead graph changes rooted fits (c.link_nothing.ensures c.if-link_nothing.true) in
     subst (λ (store : RoomyDatabase). AreDead store.db.graph changes c.new.result) c.self.view_is

@@ -18,11 +18,11 @@ pub plan_new-requires : goal.plan_new-requires
 plan_new-requires g c =
     let changes = c.args.changes.now in
     let fits = subst (λ (store : RoomyDatabase). Fits store.db changes) (sym c.self.view_is) c.requires.fits in
-    record { few = labels_fit (database_of c.self.inside.labels c.self.inside.graph.graph c.self.inside.limit) changes c.self.invariant.valid fits }
+    record { few = labels_fit (database_of c.self.inside.labels c.self.inside.graph.graph c.self.inside.limit c.self.inside.mode) changes c.self.invariant.valid fits }
 
 pub prepare-requires-2-clause-rooted : goal.prepare-requires-2-clause-rooted
 prepare-requires-2-clause-rooted g c =
-    rooted_graph (database_of c.self.inside.labels c.self.inside.graph.graph c.self.inside.limit) c.self.invariant.valid
+    rooted_graph (database_of c.self.inside.labels c.self.inside.graph.graph c.self.inside.limit c.self.inside.mode) c.self.invariant.valid
 
 pub prepare-requires-2-clause-fits : goal.prepare-requires-2-clause-fits
 prepare-requires-2-clause-fits g c =

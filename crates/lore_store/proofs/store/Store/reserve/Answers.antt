@@ -6,11 +6,11 @@ use Rattle.lore_store.proofs.store.Store.reserve.Goals as goal
 -- what is kept stays, whatever room it has
 pub invariant_of-self-2 : goal.invariant_of-self-2
 invariant_of-self-2 c =
-    let stored : IsStored (database_of c.self.inside.labels c.self.inside.graph.graph c.self.inside.limit) c.reserve-2.new.self c.self.inside.guide =
+    let stored : IsStored (database_of c.self.inside.labels c.self.inside.graph.graph c.self.inside.limit c.self.inside.mode) c.reserve-2.new.self c.self.inside.guide =
     record {
       valid = c.self.invariant.valid;
       indexes = c.reserve-2.ensures.same c.self.inside.graph.graph c.self.invariant.indexes;
       guided = c.self.invariant.guided;
     } in
-    subst (λ (g : OemGraph). IsStored (database_of c.self.inside.labels g c.self.inside.limit) c.reserve-2.new.self c.self.inside.guide)
+    subst (λ (g : OemGraph). IsStored (database_of c.self.inside.labels g c.self.inside.limit c.self.inside.mode) c.reserve-2.new.self c.self.inside.guide)
     (sym c.reserve.ensures.same) stored

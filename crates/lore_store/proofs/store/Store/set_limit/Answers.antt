@@ -8,7 +8,7 @@ pub returns-then-limit-lt1-clause-told : goal.returns-then-limit-lt1-clause-told
 returns-then-limit-lt1-clause-told c = (
   λ told. absurd (true≢false (sym told)),
   λ limit.
-      let db = database_of c.self.inside.labels c.self.inside.graph.graph c.self.inside.limit in
+      let db = database_of c.self.inside.labels c.self.inside.graph.graph c.self.inside.limit c.self.inside.mode in
       let is = subst (λ (s : RoomyDatabase). IsLimit s.db c.args.limit) (sym c.self.view_is) limit in
       elim c.then-limit-lt1.branch [
         | then-limit-lt1-via-then-limit-lt1 w ↦ absurd (omega (arith, w.if-limit-lt1.true, is.low))
@@ -20,7 +20,7 @@ returns-then-limit-lt1-clause-told c = (
 
 pub invariant_of-self : goal.invariant_of-self
 invariant_of-self c =
-    let db = database_of c.self.inside.labels c.self.inside.graph.graph c.self.inside.limit in
+    let db = database_of c.self.inside.labels c.self.inside.graph.graph c.self.inside.limit c.self.inside.mode in
     let is = is_limit db c.self.inside.guide c.self.invariant.guided c.args.limit (omega (arith, c.if-limit-lt1.false))
     (omega (arith, c.if-limit-gt-NODES.false)) (λ above. omega (arith, above, c.len.ensures, c.if-limit-len.false)) in
     record {
@@ -31,7 +31,7 @@ invariant_of-self c =
 
 pub returns-clause-told : goal.returns-clause-told
 returns-clause-told c =
-    let db = database_of c.self.inside.labels c.self.inside.graph.graph c.self.inside.limit in
+    let db = database_of c.self.inside.labels c.self.inside.graph.graph c.self.inside.limit c.self.inside.mode in
     let is = is_limit db c.self.inside.guide c.self.invariant.guided c.args.limit (omega (arith, c.if-limit-lt1.false))
     (omega (arith, c.if-limit-gt-NODES.false)) (λ above. omega (arith, above, c.len.ensures, c.if-limit-len.false)) in
     (λ told. subst (λ (s : RoomyDatabase). IsLimit s.db c.args.limit) c.self.view_is is, λ limit. refl)

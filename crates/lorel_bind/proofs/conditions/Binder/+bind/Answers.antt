@@ -1,6 +1,5 @@
 use Rattle.std.proofs.Common.{◌∙◌, length, map, sym, ap, subst, IfOk, refl}
-use Rattle.lorel_trees.specs.Trees.{cond_tree, rooted_tree, operand_tree}
-use Rattle.lorel_trees.specs.Trees as t
+use Rattle.lorel_trees.specs.Trees.{cond_tree}
 use Rattle.lorel_bind.specs.Bound.{bound_cond, bound_conds}
 use Rattle.lorel_bind.specs.inside.Views.{texts}
 use Rattle.lorel_bind.specs.inside.Binders.{BindsCond}

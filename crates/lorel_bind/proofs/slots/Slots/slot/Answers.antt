@@ -1,4 +1,4 @@
-use Rattle.std.proofs.Common.{◌≡◌, ◌≢◌, ◌∙◌, true≢false, refl, sym, subst, All}
+use Rattle.std.proofs.Common.{◌≢◌, ◌∙◌, true≢false, refl, sym, subst, All}
 use Rattle.std.proofs.lemmas.List.{take_all}
 use Rattle.lorel_bind.specs.inside.Views.{place_tree}
 use Rattle.lorel_bind.proofs.SlotLaws.{All-read, slot_read, no_slot}

@@ -1,9 +1,8 @@
 use Rattle.std.proofs.Common.{subst}
-use Rattle.lore_base.specs.declared.paths.Path.{Path}
 use Rattle.lore_base.specs.Lists.{ExtendsBy}
 use Rattle.lore_base.specs.Paths.{path_tree, Reaches}
 use Rattle.lore_base.specs.TargetSets.{ListsInOrder}
-use Rattle.lorel_bind.specs.Bound.{bound_path}
+use Rattle.lorel_eval.specs.inside.Ready.{ready_path}
 use Rattle.lorel_eval.specs.inside.Subjects.{SlotsOver}
 use Rattle.lorel_eval.proofs.SubjectLaws.{reached_from}
 use Rattle.lorel_eval.proofs.subject.Subject.reached.Goals as goal
@@ -14,9 +13,6 @@ returns g c =
     let start = c.in-Some.start in
     let before = c.new-found.result in
     let found = c.reach.new.buf in
-    let walked = subst (λ (rest : Path). ExtendsBy
-    (ListsInOrder (Reaches c.self.inside.labels.now (g.A.Adjacent.edges c.self.inside.graph.now) (path_tree rest) start)) before found)
-    c.in_ok-route.ensures c.in_ok-reach.ensures.objects in
-    let extends = subst (λ (over : SlotsOver). ExtendsBy (ListsInOrder (Reaches over.labels over.edges (path_tree path.rest) start)) before found)
-    c.self.view_is walked in
-    reached_from c.args.self.now c.args.objects.now (bound_path path) start before found c.in-Some.ensures c.new-found.ensures extends
+    let extends = subst (λ (over : SlotsOver). ExtendsBy (ListsInOrder (Reaches over.labels over.edges (path_tree path.route) start)) before found)
+    c.self.view_is c.in_ok-reach.ensures.objects in
+    reached_from c.args.self.now c.args.objects.now (ready_path path) start before found c.in-Some.ensures c.new-found.ensures extends

@@ -1,14 +1,15 @@
 use Rattle.std.proofs.Common.{◌++◌, List, [], length, map, refl, ap, ◌∙◌, subst, arith}
 use Rattle.std.proofs.lemmas.Result.{on_ok_weaker}
-use Rattle.lore_base.specs.Paths.{path_tree, trees_of, seq, step, Reaches}
+use Rattle.lore_base.specs.Paths.{path_tree, trees_of, seq, Reaches}
 use Rattle.lore_base.specs.declared.paths.Path.{Path}
 use Rattle.lore_base.proofs.TargetLaws.{ListsInOrder-same}
 use Rattle.product_walk.specs.Types.{Oid}
 use Rattle.product_walk.specs.ProductWalks.{IsWalked, IsAcceptedFrom, reads_out}
-use Rattle.product_walk.specs.inside.Ways.{IsWay}
+use Rattle.product_walk.specs.inside.Arcs.{along}
+use Rattle.product_walk.specs.inside.Ways.{GoesBy, IsWay}
 use Rattle.product_walk.proofs.PathLaws.{accepted_reaches}
 use Rattle.product_walk.proofs.ProductLaws.{lists_same}
-use Rattle.product_walk.proofs.WayLaws.{alike_reaches, one_read, few_reads}
+use Rattle.product_walk.proofs.WayLaws.{alike_reaches, by_label, one_read, few_reads}
 use Rattle.product_walk.proofs.routes.Route.reach.Goals as goal
 
 pub returns-in-Child-clause-objects : goal.returns-in-Child-clause-objects
@@ -16,16 +17,15 @@ returns-in-Child-clause-objects g c =
     let labels = g.T.LabelTest.texts c.args.labels.now in
     let edges = g.A.Adjacent.edges c.args.graph.now in
     let path = path_tree c.args.self.now in
-    let label = step c.in-Child.pattern.now in
     let way = subst (IsWay path) c.in-Child.is (subst (λ (p : Path). IsWay (path_tree p) c.self.inside.way) c.self.view_is c.self.invariant) in
-    lists_same c.append_children.result (Reaches labels edges label c.args.from) (Reaches labels edges path c.args.from) c.args.buf.now c.append_children.new.buf
-    (alike_reaches path label way labels edges c.args.from) c.append_children.ensures.objects
+    lists_same c.append_ends.result (GoesBy labels (along edges) c.in-Child.pattern.now c.args.from) (Reaches labels edges path c.args.from) c.args.buf.now c.append_ends.new.buf
+    (by_label path c.in-Child.pattern.now way labels edges c.args.from) c.append_ends.ensures.objects
 
 pub returns-in-Child-clause-steps : goal.returns-in-Child-clause-steps
 returns-in-Child-clause-steps g c =
     let edges = g.A.Adjacent.edges c.args.graph.now in
-    on_ok_weaker c.append_children.result
-    (one_read (reads_out edges) (IsWalked edges c.args.from) c.args.from c.args.steps.now c.append_children.new.steps ([], refl)) c.append_children.ensures.steps
+    on_ok_weaker c.append_ends.result
+    (one_read (reads_out edges) (IsWalked edges c.args.from) c.args.from c.args.steps.now c.append_ends.new.steps ([], refl)) c.append_ends.ensures.steps
 
 pub returns-in_ok-found-in-InTurn-clause-objects : goal.returns-in_ok-found-in-InTurn-clause-objects
 returns-in_ok-found-in-InTurn-clause-objects g c =

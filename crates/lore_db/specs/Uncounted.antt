@@ -1,0 +1,38 @@
+-- Statements that read no edge, so that no step is counted for them.
+use Rattle.std.specs.Prelude.{◌≡◌, ℕ, ◌≤◌, length, Option, Some, None}
+use Rattle.lore_base.specs.Databases.{Database}
+use Rattle.lorel_trees.specs.Trees.{SelectTree, StatementTree, select, explain, guide, set_nodes, set_plan}
+use Rattle.lorel_bind.specs.Bound.{BoundTree}
+use Rattle.lorel_bind.specs.Bindings.{IsBinding}
+use Rattle.lore_db.specs.Types.{PlanKind}
+use Rattle.lore_db.specs.Types.plan_kinds
+use Rattle.lore_db.specs.Plans.{AreCountsOver, IsKindOver}
+
+-- a plan that reads no edge: the guide tells the one range that there is at most, and there is no condition; or the
+-- values that are begun from are none
+abbrev pub IsQuietPlan : BoundTree → PlanKind → Option ℕ → Type 0
+IsQuietPlan bound plan_kinds.Guided candidates = (length bound.ranges ≤ 1) × (bound.cond ≡ None)
+IsQuietPlan bound plan_kinds.Bottom candidates = candidates ≡ Some 0
+IsQuietPlan bound plan_kinds.Top candidates = ⊥
+
+-- the database has such a plan for a bound select
+pub record IsQuietBound (db : Database) (bound : BoundTree) : Type 0 where
+  pub kind : PlanKind
+  pub candidates : Option ℕ
+  pub found : Option ℕ
+  pub counts : AreCountsOver db bound candidates found
+  pub kind_is : IsKindOver db candidates found kind
+  pub quiet : IsQuietPlan bound kind candidates
+
+-- and for a select
+abbrev pub IsQuietSelect : Database → SelectTree → Type 0
+IsQuietSelect db query = (bound : BoundTree) × IsBinding db.graph.names query bound × IsQuietBound db bound
+
+-- a select by such a plan, a plan that is shown, the guide, and what is set
+abbrev pub ReadsNoEdge : Database → StatementTree → Type 0
+ReadsNoEdge db (select query) = IsQuietSelect db query
+ReadsNoEdge db (explain query) = Unit {0}
+ReadsNoEdge db guide = Unit {0}
+ReadsNoEdge db (set_nodes nodes) = Unit {0}
+ReadsNoEdge db (set_plan mode) = Unit {0}
+ReadsNoEdge db statement = ⊥

@@ -1,0 +1,28 @@
+-- A condition that is made ready, in place of the condition itself.
+use Rattle.std.proofs.Common.{◌≡◌, ◌↔◌, List, [], Option, Some, Bool, IsTrue, Result, IfOk, IfSome, sym, ap, subst, ◌∙◌}
+use Rattle.std.specs.Option.{option_map}
+use Rattle.lorel_bind.specs.Bound.{BoundPathTree, bound_cond}
+use Rattle.lorel_bind.specs.Conditions.{CondOf}
+use Rattle.lorel_bind.specs.SlotRows.{HoldsOver}
+use Rattle.lorel_eval.specs.Types.{Oid, BoundCond}
+use Rattle.lorel_eval.specs.Tests.{CondOver}
+use Rattle.lorel_eval.specs.inside.Ready.{ready_tree}
+use Rattle.lorel_eval.specs.inside.Subjects.{HoldsIn}
+use Rattle.lorel_eval.specs.declared.ready_conds.ReadyCond.{ReadyCond}
+
+-- what is made ready stands for the condition that is there
+pub stands_for : (cond : Option BoundCond) (ready : Option ReadyCond) (own : BoundCond) (made : ReadyCond)
+    → IfSome ready (λ one. Some (ready_tree one) ≡ option_map bound_cond cond) → ready ≡ Some made → cond ≡ Some own → ready_tree made ≡ bound_cond own
+stands_for cond ready own made stands is there =
+    let first : Some (ready_tree made) ≡ option_map bound_cond cond = subst (λ (r : Option ReadyCond). IfSome r (λ one. Some (ready_tree one) ≡ option_map bound_cond cond)) is stands in
+    let both : Some (ready_tree made) ≡ Some (bound_cond own) = first ∙ ap (option_map bound_cond) there in
+    cc
+
+-- a condition like the one of a test tells whether that holds
+pub tells_by : {E : Type 0} (over : CondOver) (row : List Oid) (own : BoundCond) (tree : CondOf BoundPathTree) (result : Result Bool E)
+    → over.cond ≡ Some own → tree ≡ bound_cond own
+    → IfOk result (λ answer. IsTrue answer ↔ HoldsIn (record { labels = over.labels; edges = over.edges; objects = over.objects; slots = row }) [] tree)
+    → IfOk result (λ answer. IsTrue answer ↔ HoldsOver over.labels over.edges over.objects row (option_map bound_cond over.cond))
+tells_by over row own tree result there is tells =
+    subst (λ (cond : Option (CondOf BoundPathTree)). IfOk result (λ answer. IsTrue answer ↔ HoldsOver over.labels over.edges over.objects row cond))
+    (ap (λ (one : CondOf BoundPathTree). Some one) is ∙ sym (ap (option_map bound_cond) there)) tells

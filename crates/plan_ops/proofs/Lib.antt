@@ -1,0 +1,12 @@
+pub mod DescribeLaws
+pub mod DescribeLawsProbe
+pub mod DescribeLawsRows
+pub mod DescribeLawsToCome
+pub mod FinishLaws
+pub mod OfferLaws
+pub mod OrderLaws
+pub mod OrderLawsRanges
+pub mod ReadyLaws
+pub mod SlotLaws
+pub mod StackLaws
+pub mod TurnLaws

@@ -1,0 +1,357 @@
+-- A turn of the machine: the last partial row gives way to those that its step makes of it, or is whole and taken away.
+use Rattle.std.proofs.Common.{◌≡◌, ◌≢◌, ◌↔◌, ℕ, zero, suc, ◌+◌, ◌-◌, ◌*◌, ◌^◌, ◌<◌, ◌≤◌, inl, inr, List, [], ◌∷◌, ◌++◌, length, get_or, map, reverse, drop, set, Option, None, Some, refl, sym, ap, ◌∙◌, subst, arith}
+use Rattle.std.specs.List.{All, AllPairs, Contains, slice_get}
+use Rattle.std.specs.Option.{option_to_list, option_map}
+use Rattle.std.proofs.Math.Nat.{mul-le-mul_right}
+use Rattle.std.proofs.lemmas.Option.{none-some, same_Some, slice_get-map, slice_get_within, slice_get_read, slice_get-get_or, get_or_from_slice_get}
+use Rattle.std.proofs.lemmas.List.{length-map, length-reverse, length_push, drop_all}
+use Rattle.std.proofs.lemmas.List.Elements.{All-nil, All-cons, All-append, All-head, All-tail, All-contains, Contains-push}
+use Rattle.std.proofs.lemmas.List.Sums.{sum_by_push, sum_by-append, sum_by-le}
+use Rattle.lore_base.proofs.MemberLaws.{Contains-none}
+use Rattle.lore_base.specs.Paths.{PathTree}
+use Rattle.lorel_bind.specs.Plans.{StepTree, forward, from_guide, from_value, backward, check, filter}
+use Rattle.plan_ops.specs.Types.{Oid, Start, PartialRow, RANGES}
+use Rattle.plan_ops.specs.Types.starts
+use Rattle.plan_ops.specs.Steps.{StepsOver, Meets, Finishes, IsLeft, slot_of}
+use Rattle.plan_ops.specs.Rows.{ComesOf, IsToCome, AreSame, Gives, AreQuiet, IsGuided, FindsNothing, ReadNothing, left_of, work_left}
+use Rattle.plan_ops.specs.declared.offers.Offer.{Offer}
+use Rattle.plan_ops.specs.inside.Offers.{IsOffer, IsReplaced, offered, partial_at}
+use Rattle.plan_ops.specs.inside.Orders.{IsThere, Stands, AreInOrder}
+use Rattle.plan_ops.specs.inside.Ready.{ReadyStep, ready_tree, HasFound, CanBeReady}
+use Rattle.plan_ops.specs.inside.Machines.{IsMachine, IsPopped}
+use Rattle.plan_ops.proofs.StackLaws.{All-by, All-front, map-reverse, Contains-map, Contains-mapped, Contains-reverse, Contains-reversed, AllPairs-front, AllPairs-turned, Comes, IsApart, comes_replaced, apart_replaced, gives_last}
+use Rattle.plan_ops.proofs.SlotLaws.{last_place}
+use Rattle.plan_ops.proofs.FinishLaws.{finished_by_offer, finishes_one, finished_whole}
+
+-- the steps from a place on
+pub drop_at : (steps : List StepTree) (n : ℕ) (step : StepTree) → slice_get steps n ≡ Some step → drop n steps ≡ step ∷ drop (n + 1) steps
+drop_at [] n step at = absurd (none-some step at)
+drop_at (first ∷ others) zero step at = ap (λ (s : StepTree). s ∷ others) (same_Some first step at)
+drop_at (first ∷ others) (suc n) step at =
+    let next : suc (n + 1) ≡ suc n + 1 = omega arith in
+    drop_at others n step at ∙ ap (λ (k : ℕ). step ∷ drop k (first ∷ others)) next
+
+pub ordered_at : (steps : List StepTree) (n : ℕ) → AreInOrder steps → AreInOrder (drop n steps)
+ordered_at steps zero order = order
+ordered_at [] (suc n) order = order
+ordered_at (first ∷ others) (suc n) order = ordered_at others n order.1
+
+-- a step that finds nothing is met by no row
+nothing_meets : (over : StepsOver) (step : StepTree) (later : List StepTree) (row : List Oid) → FindsNothing over (step ∷ later) → Meets over step row → ⊥
+nothing_meets over (forward start path slot) later row nothing met = nothing
+nothing_meets over (from_guide named path slot) later row nothing met = nothing
+nothing_meets over (from_value label op value rest slot) later row nothing met = nothing met.2.0 met.2.2
+nothing_meets over (backward child path parent) later row nothing met = nothing
+nothing_meets over (check child path named) later row nothing met = nothing
+nothing_meets over filter later row nothing met = nothing
+
+finds_nothing_alone : (over : StepsOver) (step : StepTree) (later : List StepTree) → FindsNothing over (step ∷ later) → FindsNothing over (step ∷ [])
+finds_nothing_alone over (forward start path slot) later nothing = nothing
+finds_nothing_alone over (from_guide named path slot) later nothing = nothing
+finds_nothing_alone over (from_value label op value rest slot) later nothing = nothing
+finds_nothing_alone over (backward child path parent) later nothing = nothing
+finds_nothing_alone over (check child path named) later nothing = nothing
+finds_nothing_alone over filter later nothing = nothing
+
+-- steps that read no edge begin with one that reads none
+pub quiet_alone : (over : StepsOver) (step : StepTree) (later : List StepTree) → AreQuiet over (step ∷ later) → AreQuiet over (step ∷ [])
+quiet_alone over step later (inl guided) = inl (All-cons IsGuided step [] (All-head IsGuided step later guided) (All-nil IsGuided))
+quiet_alone over step later (inr nothing) = inr (finds_nothing_alone over step later nothing)
+
+-- what is left to do, of a list at whose end one is taken off or others come
+work_left_push : (count : ℕ) (front : List PartialRow) (last : PartialRow)
+    → work_left count (front ++ last ∷ []) ≡ work_left count front + left_of (count - last.step)
+unfolding work_left
+work_left_push count front last = sum_by_push (λ partial. left_of (count - partial.step)) front last
+
+work_left_more : (count m : ℕ) (front more : List PartialRow) → All (λ partial. left_of (count - partial.step) ≤ m) more
+    → work_left count (front ++ more) ≤ work_left count front + length more * m
+unfolding work_left
+work_left_more count m front more each =
+    let both = sum_by-append (λ partial. left_of (count - partial.step)) front more in
+    let few = sum_by-le (λ partial. left_of (count - partial.step)) m more each in
+    omega (arith, both, few)
+
+left_of_some : (k : ℕ) → 0 < left_of k
+left_of_some zero = omega arith
+left_of_some (suc k) = omega arith
+
+left_of_less : (rows k n : ℕ) → rows < 2 ^ 64 → n ≡ suc k → rows * left_of k < left_of n
+left_of_less rows k n few is =
+    let at : left_of n ≡ 1 + 2 ^ 64 * left_of k = ap left_of is in
+    let most : rows * left_of k ≤ 2 ^ 64 * left_of k = mul-le-mul_right (left_of k) (omega (arith, few)) in
+    omega (arith, at, most)
+
+-- what a turn of the machine leaves
+pub record Turned (over : StepsOver) (steps : List StepTree) (old new : List PartialRow) : Type 0 where
+  pub machine : IsMachine over steps new
+  pub same : AreSame (IsToCome over steps old) (IsToCome over steps new)
+  pub lighter : work_left (length steps) new < work_left (length steps) old
+  pub quiet : ReadNothing over steps old → ReadNothing over steps new
+
+module _ (over : StepsOver) (steps : List StepTree) (old new front : List PartialRow) (last : PartialRow) (step : StepTree) (offer : Offer)
+    (machine : IsMachine over steps old) (at : slice_get steps last.step ≡ Some step) (offers : IsOffer over step last.row offer)
+    (was : old ≡ front ++ last ∷ []) (is : new ≡ front ++ map (partial_at (last.step + 1)) (reverse (offered offer last.row)))
+    (few : length (offered offer last.row) < 2 ^ 64) where
+  abbrev stands : PartialRow → List Oid → Type 0
+  stands = ComesOf over steps
+
+  abbrev later : List StepTree
+  later = drop (last.step + 1) steps
+
+  abbrev rows : List (List Oid)
+  rows = offered offer last.row
+
+  abbrev more : List PartialRow
+  more = map (partial_at (last.step + 1)) (reverse rows)
+
+  abbrev HasEight : PartialRow → Type 0
+  HasEight partial = length partial.row ≡ RANGES
+
+  abbrev Reads : PartialRow → Type 0
+  Reads partial = AreQuiet over (drop partial.step steps)
+
+  cut : drop last.step steps ≡ step ∷ later
+  cut = drop_at steps last.step step at
+
+  stands_well : Stands step later
+  stands_well = (subst AreInOrder cut (ordered_at steps last.step machine.in_order)).0
+
+  there : Contains old last
+  there = subst (λ (l : List PartialRow). Contains l last) (sym was) (Contains-push front last)
+
+  long : length last.row ≡ RANGES
+  long = All-contains HasEight old last machine.eight there
+
+  -- one of those that come is one of the rows
+  come_of : (partial : PartialRow) → Contains more partial → (row : List Oid) × Contains rows row × (partial_at (last.step + 1) row ≡ partial)
+  come_of partial among =
+      let found = Contains-mapped (partial_at (last.step + 1)) (reverse rows) partial among in
+      (found.0, Contains-reversed rows found.0 found.1, found.2)
+
+  one : (row : List Oid) → Comes stands more row ↔ stands last row
+  one row =
+      let by = finished_by_offer over step later last.row rows offers.rows stands_well long row in (
+        λ h.
+            let found = come_of h.0 h.1 in
+            subst (λ (s : List StepTree). Finishes over s last.row row) (sym cut)
+            (by.0 (found.0, found.1, subst (λ (p : PartialRow). Finishes over (drop p.step steps) p.row row) (sym found.2) h.2)),
+        λ h.
+            let found = by.1 (subst (λ (s : List StepTree). Finishes over s last.row row) cut h) in
+            (partial_at (last.step + 1) found.0, Contains-map (partial_at (last.step + 1)) (reverse rows) found.0 (Contains-reverse rows found.0 found.1), found.2),
+      )
+
+  apart_more : AllPairs (IsApart stands) more
+  apart_more =
+      AllPairs-turned (partial_at (last.step + 1)) (λ (a b : List Oid). a ≢ b) (IsApart stands) [] rows
+      (λ a b at_a at_b other row by_b by_a. other (finishes_one over step later last.row a b row stands_well
+      ((offers.rows.exact a).0 at_a).0 ((offers.rows.exact b).0 at_b).0 by_a by_b))
+      offers.rows.apart
+
+  lighter : work_left (length steps) new < work_left (length steps) old
+  lighter =
+      let within : last.step < length steps = slice_get_within steps last.step step at in
+      let k = length steps - (last.step + 1) in
+      let before : work_left (length steps) old ≡ work_left (length steps) front + left_of (length steps - last.step) =
+      ap (work_left (length steps)) was ∙ work_left_push (length steps) front last in
+      let each : All (λ partial. left_of (length steps - partial.step) ≤ left_of k) more =
+      All-by (λ (partial : PartialRow). left_of (length steps - partial.step) ≤ left_of k) more (λ partial among.
+      (let found = come_of partial among in
+      subst (λ (p : PartialRow). left_of (length steps - p.step) ≤ left_of k) found.2 (omega arith))) in
+      let after : work_left (length steps) (front ++ more) ≤ work_left (length steps) front + length more * left_of k =
+      work_left_more (length steps) (left_of k) front more each in
+      let count : length more ≡ length rows = length-map (reverse rows) (partial_at (last.step + 1)) ∙ length-reverse rows in
+      let less : length more * left_of k < left_of (length steps - last.step) =
+      left_of_less (length more) k (length steps - last.step) (omega (arith, few, count)) (omega (arith, within)) in
+      omega (arith, before, after, less, ap (work_left (length steps)) is)
+
+  pub turned : Turned over steps old new
+  turned = record {
+    machine = record {
+      in_order = machine.in_order;
+      can = machine.can;
+      apart = subst (AllPairs (IsApart stands)) (sym is)
+          (apart_replaced stands front more last one apart_more (subst (AllPairs (IsApart stands)) was machine.apart));
+      eight = subst (All HasEight) (sym is) (All-append HasEight front more
+          (All-front HasEight front (last ∷ []) (subst (All HasEight) was machine.eight))
+          (All-by HasEight more (λ partial among.
+          (let found = come_of partial among in
+          subst HasEight found.2 ((offers.rows.exact found.0).0 found.1).0.eight))));
+    };
+    same = λ row. subst (λ (l : List PartialRow). Comes stands l row ↔ Comes stands old row) (sym is)
+        (subst (λ (l : List PartialRow). Comes stands (front ++ more) row ↔ Comes stands l row) (sym was)
+        (comes_replaced stands front more last one row));
+    lighter = lighter;
+    quiet = λ nothing. subst (All Reads) (sym is) (All-append Reads front more
+        (All-front Reads front (last ∷ []) (subst (All Reads) was nothing))
+        (All-by Reads more (λ partial among.
+        (let found = come_of partial among in
+        subst Reads found.2 (elim (subst (AreQuiet over) cut (All-contains Reads old last nothing there)) [
+          | inl guided ↦ inl (All-tail IsGuided step later guided)
+          | inr none ↦ absurd (nothing_meets over step later found.0 none ((offers.rows.exact found.0).0 found.1).1)
+        ])))));
+  }
+
+-- the last partial row is whole
+pub record TookWhole (over : StepsOver) (steps : List StepTree) (old new : List PartialRow) (row : List Oid) : Type 0 where
+  pub machine : IsMachine over steps new
+  pub gives : Gives (IsToCome over steps old) (IsToCome over steps new) row
+  pub lighter : work_left (length steps) new < work_left (length steps) old
+  pub quiet : ReadNothing over steps old → ReadNothing over steps new
+
+pub took_whole : (over : StepsOver) (steps : List StepTree) (old new : List PartialRow) (last : PartialRow) → IsMachine over steps old
+    → length steps ≤ last.step → old ≡ new ++ last ∷ [] → TookWhole over steps old new last.row
+took_whole over steps old new last machine past was = record {
+  machine = record {
+    in_order = machine.in_order;
+    can = machine.can;
+    apart = AllPairs-front (IsApart (ComesOf over steps)) new (last ∷ []) (subst (AllPairs (IsApart (ComesOf over steps))) was machine.apart);
+    eight = All-front (λ (p : PartialRow). length p.row ≡ RANGES) new (last ∷ []) (subst (All (λ (p : PartialRow). length p.row ≡ RANGES)) was machine.eight);
+  };
+  gives = subst (λ (l : List PartialRow). Gives (IsToCome over steps l) (IsToCome over steps new) last.row) (sym was)
+      (gives_last (ComesOf over steps) new last last.row
+      (λ other. subst (λ (s : List StepTree). Finishes over s last.row other ↔ (other ≡ last.row)) (sym (drop_all last.step steps past))
+      (finished_whole over last.row
+      (All-contains (λ (p : PartialRow). length p.row ≡ RANGES) old last machine.eight
+      (subst (λ (l : List PartialRow). Contains l last) (sym was) (Contains-push new last))) other))
+      (subst (AllPairs (IsApart (ComesOf over steps))) was machine.apart));
+  lighter = omega (arith, ap (work_left (length steps)) was, work_left_push (length steps) new last, left_of_some (length steps - last.step));
+  quiet = λ nothing. All-front (λ (p : PartialRow). AreQuiet over (drop p.step steps)) new (last ∷ [])
+      (subst (All (λ (p : PartialRow). AreQuiet over (drop p.step steps))) was nothing);
+}
+
+-- The last partial row was taken off, and others were put in its place.
+pub replaced_by : (next : ℕ) (offer : Offer) (old middle front new : List PartialRow) (top : Option PartialRow) (last : PartialRow) (count : ℕ)
+    → middle ≡ old → middle ≡ front ++ option_to_list top → top ≡ Some last
+    → new ≡ front ++ map (partial_at next) (reverse (offered offer last.row)) → count ≡ length (offered offer last.row) → count < 2 ^ 64
+    → IsReplaced next offer old new
+replaced_by next offer old middle front new top last count same parts is whole counted few = record {
+  front = front;
+  last = last;
+  was = sym same ∙ parts ∙ ap (λ (o : Option PartialRow). front ++ option_to_list o) is;
+  is = whole;
+  few = omega (arith, counted, few);
+}
+
+pub filled_in : (next slot : ℕ) (row oids items : List Oid) (front new : List PartialRow) → items ≡ oids
+    → new ≡ front ++ map (partial_at next) (map (set row slot) (reverse items)) → new ≡ front ++ map (partial_at next) (reverse (map (set row slot) oids))
+filled_in next slot row oids items front new same whole =
+    whole ∙ ap (λ (l : List Oid). front ++ map (partial_at next) (map (set row slot) (reverse l))) same
+    ∙ ap (λ (l : List (List Oid)). front ++ map (partial_at next) l) (map-reverse (set row slot) oids)
+
+-- The last partial row, and the step that it is before.
+
+last_contained : {X : Type 0} (xs : List X) (k : ℕ) (x : X) → slice_get xs k ≡ Some x → Contains xs x
+last_contained xs k x at = (k, slice_get_within xs k x at, get_or_from_slice_get xs k x x at)
+
+same_last : (old front : List PartialRow) (last other : PartialRow) → slice_get old (length old - 1) ≡ Some last → old ≡ front ++ other ∷ [] → last ≡ other
+same_last old front last other at was =
+    let long : length old ≡ length front + 1 = ap length was ∙ length_push front other in
+    last_place front other last (length old - 1) (omega (arith, long))
+    (subst (λ (l : List PartialRow). slice_get l (length old - 1) ≡ Some last) was at)
+
+step_at : (ready : List ReadyStep) (n : ℕ) (step : ReadyStep) → slice_get ready n ≡ Some step → slice_get (map ready_tree ready) n ≡ Some (ready_tree step)
+step_at ready n step at = slice_get-map ready_tree ready n ∙ ap (option_map ready_tree) at
+
+-- what the step asks for before it is taken
+pub stands_alone : (step : StepTree) (later : List StepTree) → Stands step later → Stands step []
+stands_alone (forward start path slot) later stands = ((stands.0.0, left slot), there start slot stands.1)
+  where
+    left : (own : ℕ) → IsLeft [] own
+    left own = All-nil (λ step. slot_of step ≢ Some own)
+
+    there : (from : Start) (own : ℕ) → IsThere later from own → IsThere [] from own
+    there (starts.Named named) own is = tt
+    there (starts.Slot other) own is = ((is.0.0, left other), is.1)
+stands_alone (from_guide named path slot) later stands = (stands.0, All-nil (λ step. slot_of step ≢ Some slot))
+stands_alone (from_value label op value rest slot) later stands = (stands.0, All-nil (λ step. slot_of step ≢ Some slot))
+stands_alone (backward child path parent) later stands =
+    ((stands.0.0, All-nil (λ step. slot_of step ≢ Some parent)), (stands.1.0, All-nil (λ step. slot_of step ≢ Some child)), stands.2)
+stands_alone (check child path named) later stands = (stands.0, All-nil (λ step. slot_of step ≢ Some child))
+stands_alone filter later stands = refl
+
+pub stands_there : (ready : List ReadyStep) (n : ℕ) (step : ReadyStep) → AreInOrder (map ready_tree ready) → slice_get ready n ≡ Some step
+    → Stands (ready_tree step) []
+stands_there ready n step order at =
+    let steps = map ready_tree ready in
+    stands_alone (ready_tree step) (drop (n + 1) steps)
+    (subst AreInOrder (drop_at steps n (ready_tree step) (step_at ready n step at)) (ordered_at steps n order)).0
+
+pub found_there : (reaches : PathTree → Oid → Oid → Type 0) (ready : List ReadyStep) (n : ℕ) (step : ReadyStep) → All (HasFound reaches) ready
+    → slice_get ready n ≡ Some step → HasFound reaches step
+found_there reaches ready n step found at = All-contains (HasFound reaches) ready step found (last_contained ready n step at)
+
+pub can_there : (ready : List ReadyStep) (n : ℕ) (step : ReadyStep) → All CanBeReady (map ready_tree ready) → slice_get ready n ≡ Some step
+    → CanBeReady (ready_tree step)
+can_there ready n step can at =
+    All-contains CanBeReady (map ready_tree ready) (ready_tree step) can (last_contained (map ready_tree ready) n (ready_tree step) (step_at ready n step at))
+
+pub eight_there : (over : StepsOver) (steps : List StepTree) (items : List PartialRow) (last : PartialRow) → IsMachine over steps items
+    → slice_get items (length items - 1) ≡ Some last → length last.row ≡ RANGES
+eight_there over steps items last machine at =
+    All-contains (λ (p : PartialRow). length p.row ≡ RANGES) items last machine.eight (last_contained items (length items - 1) last at)
+
+pub quiet_there : (over : StepsOver) (ready : List ReadyStep) (items : List PartialRow) (last : PartialRow) (step : ReadyStep)
+    → ReadNothing over (map ready_tree ready) items → slice_get items (length items - 1) ≡ Some last → slice_get ready last.step ≡ Some step
+    → AreQuiet over (ready_tree step ∷ [])
+quiet_there over ready items last step nothing at here =
+    let steps = map ready_tree ready in
+    quiet_alone over (ready_tree step) (drop (last.step + 1) steps)
+    (subst (AreQuiet over) (drop_at steps last.step (ready_tree step) (step_at ready last.step step here))
+    (All-contains (λ (p : PartialRow). AreQuiet over (drop p.step steps)) items last nothing (last_contained items (length items - 1) last at)))
+
+pub turns : (over : StepsOver) (ready : List ReadyStep) (step : ReadyStep) (old new : List PartialRow) (last : PartialRow) (offer : Offer)
+    → IsMachine over (map ready_tree ready) old → slice_get old (length old - 1) ≡ Some last → slice_get ready last.step ≡ Some step
+    → IsOffer over (ready_tree step) last.row offer → IsReplaced (last.step + 1) offer old new → Turned over (map ready_tree ready) old new
+turns over ready step old new last offer machine at here offers replaced =
+    let steps = map ready_tree ready in
+    let same : replaced.last ≡ last = sym (same_last old replaced.front last replaced.last at replaced.was) in
+    turned over steps old new replaced.front last (ready_tree step) offer machine (step_at ready last.step step here) offers
+    (subst (λ (p : PartialRow). old ≡ replaced.front ++ p ∷ []) same replaced.was)
+    (subst (λ (p : PartialRow). new ≡ replaced.front ++ map (partial_at (last.step + 1)) (reverse (offered offer p.row))) same replaced.is)
+    (subst (λ (p : PartialRow). length (offered offer p.row) < 2 ^ 64) same replaced.few)
+
+pub took : (over : StepsOver) (ready : List ReadyStep) (old new : List PartialRow) (last : PartialRow) (row : List Oid)
+    → IsMachine over (map ready_tree ready) old → slice_get old (length old - 1) ≡ Some last → length ready ≤ last.step
+    → IsPopped old new row → TookWhole over (map ready_tree ready) old new row
+took over ready old new last row machine at past taken =
+    let steps = map ready_tree ready in
+    let same : last ≡ taken.last = same_last old new last taken.last at taken.was in
+    subst (TookWhole over steps old new) (ap (λ (p : PartialRow). p.row) same ∙ sym taken.is)
+    (took_whole over steps old new last machine (omega (arith, past, length-map ready ready_tree))
+    (subst (λ (p : PartialRow). old ≡ new ++ p ∷ []) (sym same) taken.was))
+
+-- What holds of the first list where it holds of one with the same rows to come.
+
+pub gives_before : (before middle after : List Oid → Type 0) (row : List Oid) → AreSame before middle → Gives middle after row → Gives before after row
+gives_before before middle after row same gives = record {
+  came = (same row).0 gives.came;
+  others = λ other. (
+    λ h. let got = (gives.others other).0 h in ((same other).0 got.0, got.1),
+    λ h. (gives.others other).1 ((same other).1 h.0, h.1),
+  );
+}
+
+pub same_before : (before middle after : List Oid → Type 0) → AreSame before middle → AreSame middle after → AreSame before after
+same_before before middle after first second row = ((λ h. (first row).0 ((second row).0 h)), (λ h. (second row).1 ((first row).1 h)))
+
+pub none_before : (over : StepsOver) (steps : List StepTree) (items : List PartialRow) (before : List Oid → Type 0)
+    → AreSame before (IsToCome over steps items) → items ≡ [] → (row : List Oid) → (before row → ⊥) × (IsToCome over steps items row → ⊥)
+none_before over steps items before same empty row =
+    let none = λ (come : IsToCome over steps items row). Contains-none come.0 (subst (λ (l : List PartialRow). Contains l come.0) empty come.1) in
+    (λ h. none ((same row).1 h), none)
+
+-- how the end of a list is read
+pub read_last : (slice items : List PartialRow) (last : PartialRow) → Some last ≡ slice_get slice (length slice - 1) → slice ≡ items
+    → slice_get items (length items - 1) ≡ Some last
+read_last slice items last at same = subst (λ (l : List PartialRow). slice_get l (length l - 1) ≡ Some last) same (sym at)
+
+pub empty_last : (slice items : List PartialRow) → None ≡ slice_get slice (length slice - 1) → slice ≡ items → items ≡ []
+empty_last [] items at same = sym same
+empty_last (x ∷ xs) items at same =
+    absurd (none-some (get_or (x ∷ xs) (length (x ∷ xs) - 1) x) (at ∙ slice_get-get_or (x ∷ xs) (length (x ∷ xs) - 1) x (omega arith)))
+
+-- how a step is read
+pub read_step : (ready : List ReadyStep) (n : ℕ) (step : ReadyStep) → (n < length ready) × ((d : ReadyStep) → step ≡ get_or ready n d)
+    → slice_get ready n ≡ Some step
+read_step ready n step at = slice_get_read ready (length ready) n step refl at.0 (at.1 step)

@@ -1,0 +1,72 @@
+ghost use Rattle.std.specs.Prelude.{◌≡◌, ◌+◌, ◌<◌, ◌≤◌, [], ◌∷◌, ◌++◌, map, reverse, vec_len};
+ghost use Rattle.std.specs.Prelude.{slice_set, vec_capacity, OnOk, OnErr};
+ghost use Rattle.plan_ops.specs.Types.{RANGES};
+ghost use Rattle.plan_ops.specs.inside.Offers.{FillsSlot, IsReplaced, offered, partial_at};
+
+use crate::offers::Offer;
+use index_traits::Row;
+use lore_base::{NoMemory, Oid};
+
+/// A row whose slots are filled up to a step of the plan, which is to be taken next.
+#[derive(Drop)]
+pub struct PartialRow {
+    pub(crate) step: usize,
+    pub(crate) row: Row,
+}
+
+/// Replaces the last partial row by what a step makes of it, each before the step with this number,
+/// so that the rows that the offer gives first are the last. Where memory is refused all stays.
+pub(crate) fn replace_last(
+    partials: &mut Vec<PartialRow>,
+    next: usize,
+    offer: Offer,
+) -> Result<(), NoMemory>
+    requires some { 0 < vec_len partials.old }
+    requires slot { FillsSlot offer }
+    ensures ok { OnOk result (IsReplaced next offer partials.old.items partials.new.items) }
+    ensures err { OnErr result (partials.new.items ≡ partials.old.items) }
+{
+    partials.reserve(offer.count())?;
+    let Some(PartialRow { row, .. }) = partials.pop() else {
+        unreachable!();
+    };
+    match offer {
+        Offer::Fill { slot, oids } => push_filled(partials, next, &row, slot, oids.into_items()),
+        Offer::Keep => push(partials, next, row),
+        Offer::Reject => {}
+    }
+    Ok(())
+}
+
+// Puts the row behind the others. There is room.
+fn push(partials: &mut Vec<PartialRow>, next: usize, row: Row)
+    requires { vec_len partials.old < vec_capacity partials.old }
+    ensures items { partials.new.items ≡ partials.old.items ++ partial_at next row ∷ [] }
+    ensures len { vec_len partials.new ≡ vec_len partials.old + 1 }
+    ensures capacity { vec_capacity partials.old ≤ vec_capacity partials.new }
+{
+    let Ok(()) = partials.push(PartialRow { step: next, row }) else {
+        unreachable!();
+    };
+}
+
+// Puts the row with each of the objects in the slot behind the others, that with the first object
+// last. There is room.
+fn push_filled(
+    partials: &mut Vec<PartialRow>,
+    next: usize,
+    row: &Row,
+    slot: u32,
+    mut oids: Vec<Oid>,
+)
+    requires room { vec_len partials.old + vec_len oids ≤ vec_capacity partials.old }
+    requires slot { slot < RANGES }
+    ensures { partials.new.items ≡ partials.old.items
+        ++ map (partial_at next) (map (slice_set row.now slot) (reverse oids.items)) }
+{
+    'oids: while let Some(oid) = oids.pop() {
+        let mut filled = row.copy();
+        filled.set(slot, oid);
+        push(partials, next, filled);
+    }
+}

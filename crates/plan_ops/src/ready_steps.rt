@@ -1,0 +1,114 @@
+ghost use Rattle.std.specs.Prelude.{◌≡◌, map, All, IfOk};
+ghost use Rattle.lorel_bind.specs.Plans.{step_tree};
+ghost use Rattle.plan_ops.specs.inside.Ready.{CanBeReady, HasFound, ready_tree};
+
+use crate::step_objects::selected;
+use index_traits::Paths;
+use lore_base::{Label, NoMemory, Oid, OidBuf, Op, Path, Value};
+use lorel_bind::{PlanStep, Start};
+use product_walk::{Route, WayBack};
+use std::alloc::Global;
+
+/// A step of a plan whose path is made ready once, or the guide asked, and then taken for many rows.
+#[derive(Drop)]
+pub(crate) enum ReadyStep<'a> {
+    Forward {
+        start: Start,
+        route: Route<'a>,
+        slot: u32,
+    },
+    FromGuide {
+        named: Oid,
+        path: &'a Path,
+        objects: OidBuf,
+        slot: u32,
+    },
+    FromValue {
+        label: Option<Label>,
+        op: Op,
+        value: &'a Value,
+        rest: WayBack<'a>,
+        slot: u32,
+    },
+    Backward {
+        child: u32,
+        way: WayBack<'a>,
+        parent: u32,
+    },
+    Check {
+        child: u32,
+        way: WayBack<'a>,
+        named: Oid,
+    },
+    Filter,
+}
+
+/// The steps with their paths made ready, and with what the guide tells.
+pub(crate) fn ready_steps<'a, P: Paths>(
+    alloc: Global,
+    paths: &P,
+    steps: &'a [PlanStep],
+) -> Result<Vec<ReadyStep<'a>>, NoMemory>
+    requires { All CanBeReady (map step_tree steps.now) }
+    ensures trees { IfOk result (λ ready. map ready_tree ready.items ≡ map step_tree steps.now) }
+    ensures found { IfOk result (λ ready. All (HasFound (P.reaches paths.now)) ready.items) }
+{
+    let mut ready = Vec::with_capacity(alloc, steps.len())?;
+    'steps: for step in steps {
+        ready.push(ready_step(alloc, paths, step)?)?;
+    }
+    Ok(ready)
+}
+
+// The step with its path made ready, and with what the guide tells.
+fn ready_step<'a, P: Paths>(
+    alloc: Global,
+    paths: &P,
+    step: &'a PlanStep,
+) -> Result<ReadyStep<'a>, NoMemory>
+    requires { CanBeReady (step_tree step.now) }
+    ensures tree { IfOk result (λ ready. ready_tree ready ≡ step_tree step.now) }
+    ensures found { IfOk result (HasFound (P.reaches paths.now)) }
+{
+    match step {
+        PlanStep::Forward { start, path, slot } => Ok(ReadyStep::Forward {
+            start: *start,
+            route: Route::new(alloc, path)?,
+            slot: *slot,
+        }),
+        PlanStep::FromGuide { named, path, slot } => Ok(ReadyStep::FromGuide {
+            named: *named,
+            path,
+            objects: selected(alloc, paths, path, *named)?,
+            slot: *slot,
+        }),
+        PlanStep::FromValue {
+            label,
+            op,
+            value,
+            rest,
+            slot,
+        } => Ok(ReadyStep::FromValue {
+            label: *label,
+            op: *op,
+            value,
+            rest: WayBack::new(alloc, rest)?,
+            slot: *slot,
+        }),
+        PlanStep::Backward {
+            child,
+            path,
+            parent,
+        } => Ok(ReadyStep::Backward {
+            child: *child,
+            way: WayBack::new(alloc, path)?,
+            parent: *parent,
+        }),
+        PlanStep::Check { child, path, named } => Ok(ReadyStep::Check {
+            child: *child,
+            way: WayBack::new(alloc, path)?,
+            named: *named,
+        }),
+        PlanStep::Filter => Ok(ReadyStep::Filter),
+    }
+}

@@ -1,0 +1,73 @@
+ghost use Rattle.plan_ops.specs.Steps.{steps_over};
+
+use crate::offers::{Offer, Offers};
+use crate::ready_steps::ReadyStep;
+use crate::step_objects::{candidates, is_among, leading_to, leading_to_some, object_at, reached};
+use index_traits::{Adjacent, Links, Paths, Row, RowTest, Values};
+use lore_base::{NoMemory, Steps, TryCopy};
+use oem_labels::LabelTable;
+use std::alloc::Global;
+use std::sync::ledger::Ledger;
+
+/// What rows are found of.
+#[derive(Drop)]
+pub(crate) struct Sources<'a, A, K, V, P, T> {
+    pub(crate) graph: &'a A,
+    pub(crate) links: &'a K,
+    pub(crate) values: &'a V,
+    pub(crate) paths: &'a P,
+    pub(crate) test: &'a T,
+    pub(crate) labels: &'a LabelTable,
+}
+
+impl<'a, A: Adjacent, K: Links, V: Values, P: Paths, T: RowTest> Offers
+    for Sources<'a, A, K, V, P, T> {
+    ghost over = { λ sources. steps_over sources.labels.now (A.edges sources.graph.now)
+        (K.edges sources.links.now) (V.entries sources.values.now) (P.reaches sources.paths.now)
+        (T.passes sources.test.now) };
+
+    fn offer<L: Ledger>(
+        &self,
+        alloc: Global,
+        step: &ReadyStep<'_>,
+        row: &Row,
+        steps: &mut Steps<L>,
+    ) -> Result<Offer, NoMemory> {
+        match step {
+            ReadyStep::Forward { start, route, slot } => {
+                let from = object_at(*start, row);
+                let oids = reached(alloc, self.graph, self.labels, route, from, steps)?;
+                Ok(Offer::Fill { slot: *slot, oids })
+            }
+            ReadyStep::FromGuide { objects, slot, .. } => {
+                let oids = objects.try_copy(alloc)?;
+                Ok(Offer::Fill { slot: *slot, oids })
+            }
+            ReadyStep::FromValue {
+                label,
+                op,
+                value,
+                rest,
+                slot,
+            } => {
+                let ends = candidates(alloc, self.values, *label, *op, value)?;
+                let oids = leading_to_some(alloc, self.links, self.labels, rest, &ends, steps)?;
+                Ok(Offer::Fill { slot: *slot, oids })
+            }
+            ReadyStep::Backward { child, way, parent } => {
+                let to = row.get(*child);
+                let oids = leading_to(alloc, self.links, self.labels, way, to, steps)?;
+                Ok(Offer::Fill {
+                    slot: *parent,
+                    oids,
+                })
+            }
+            ReadyStep::Check { child, way, named } => {
+                let to = row.get(*child);
+                let oids = leading_to(alloc, self.links, self.labels, way, to, steps)?;
+                Ok(Offer::of_test(is_among(&oids, *named)))
+            }
+            ReadyStep::Filter => Ok(Offer::of_test(self.test.holds(alloc, row, steps)?)),
+        }
+    }
+}

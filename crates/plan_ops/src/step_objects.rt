@@ -1,0 +1,129 @@
+ghost use Rattle.std.specs.Prelude.{◌≡◌, ◌↔◌, ◌<◌, ◌≤◌, ◌≢◌, [], AllPairs, Contains};
+ghost use Rattle.std.specs.Prelude.{IsTrue, IfOk, OnOk};
+ghost use Rattle.index_traits.specs.Entries.{IsProbed};
+ghost use Rattle.lore_base.specs.Paths.{path_tree, leaves, Reaches};
+ghost use Rattle.lore_base.specs.TargetSets.{ListsInOrder};
+ghost use Rattle.lorel_bind.specs.Bindings.{IsWithin};
+ghost use Rattle.lorel_bind.specs.Plans.{IsCandidate};
+ghost use Rattle.lorel_bind.specs.SlotRows.{StartsAt};
+ghost use Rattle.product_walk.specs.ProductWalks.{ReachesInto};
+ghost use Rattle.plan_ops.specs.Types.{Complex, LEAVES, RANGES};
+
+use index_traits::{Adjacent, Links, Paths, Row, Values};
+use lore_base::{Label, LabelTest, NoMemory, Oid, OidBuf, Op, Path, Steps, Value};
+use lorel_bind::Start;
+use product_walk::{Route, WayBack};
+use std::alloc::Global;
+use std::sync::ledger::Ledger;
+
+/// The object of a start, of a name or in a slot.
+pub(crate) fn object_at(start: Start, row: &Row) -> Oid
+    requires { IsWithin RANGES start }
+    ensures { StartsAt row.now start result }
+{
+    match start {
+        Start::Named(oid) => oid,
+        Start::Slot(slot) => row.get(slot),
+    }
+}
+
+/// The objects that the path reaches from the object, ascending, each once.
+pub(crate) fn reached<A: Adjacent, T: LabelTest, L: Ledger>(
+    alloc: Global,
+    graph: &A,
+    labels: &T,
+    route: &Route<'_>,
+    from: Oid,
+    steps: &mut Steps<L>,
+) -> Result<OidBuf, NoMemory>
+    ensures { IfOk result (ListsInOrder
+        (Reaches (T.texts labels.now) (A.edges graph.now) (path_tree route.now) from)) }
+{
+    let mut oids = OidBuf::new(alloc);
+    route.reach(alloc, graph, labels, from, &mut oids, steps)?;
+    Ok(oids)
+}
+
+/// The objects that the paths reach from the named object, ascending, each once.
+pub(crate) fn selected<P: Paths>(
+    alloc: Global,
+    paths: &P,
+    path: &Path,
+    named: Oid,
+) -> Result<OidBuf, NoMemory>
+    requires { leaves (path_tree path.now) ≤ LEAVES }
+    ensures { IfOk result (ListsInOrder (P.reaches paths.now (path_tree path.now) named)) }
+{
+    let mut oids = OidBuf::new(alloc);
+    paths.select(alloc, path, named, &mut oids)?;
+    Ok(oids)
+}
+
+/// The objects that have such a value, ascending, each once.
+pub(crate) fn candidates<V: Values>(
+    alloc: Global,
+    values: &V,
+    label: Option<Label>,
+    op: Op,
+    value: &Value,
+) -> Result<OidBuf, NoMemory>
+    requires op { IsProbed op }
+    requires value { value.now ≢ Complex }
+    ensures { IfOk result (ListsInOrder (IsCandidate (V.entries values.now) label op value.now)) }
+{
+    let mut oids = OidBuf::new(alloc);
+    if let Some(label) = label {
+        values.probe(label, op, value, &mut oids)?;
+    }
+    Ok(oids)
+}
+
+/// The objects from which the path reaches one of these, ascending, each once. No step is counted
+/// where there is none of these.
+pub(crate) fn leading_to_some<K: Links, T: LabelTest, L: Ledger>(
+    alloc: Global,
+    links: &K,
+    labels: &T,
+    way: &WayBack<'_>,
+    to: &OidBuf,
+    steps: &mut Steps<L>,
+) -> Result<OidBuf, NoMemory>
+    ensures oids { IfOk result (ListsInOrder (ReachesInto
+        (T.texts labels.now) (K.edges links.now) (path_tree way.now) to.now)) }
+    ensures quiet { to.now ≡ [] → OnOk result (steps.new ≡ steps.old) }
+{
+    let mut oids = OidBuf::new(alloc);
+    if to.is_empty() {
+        return Ok(oids);
+    }
+    way.reach_back(alloc, links, labels, to, &mut oids, steps)?;
+    Ok(oids)
+}
+
+/// The objects from which the path reaches this one, ascending, each once.
+pub(crate) fn leading_to<K: Links, T: LabelTest, L: Ledger>(
+    alloc: Global,
+    links: &K,
+    labels: &T,
+    way: &WayBack<'_>,
+    to: Oid,
+    steps: &mut Steps<L>,
+) -> Result<OidBuf, NoMemory>
+    ensures { IfOk result (ListsInOrder (λ from.
+        Reaches (T.texts labels.now) (K.edges links.now) (path_tree way.now) from to)) }
+{
+    let mut ends = OidBuf::new(alloc);
+    ends.push(to)?;
+    leading_to_some(alloc, links, labels, way, &ends, steps)
+}
+
+/// Whether the object is one of these, which ascend: a binary search.
+pub(crate) fn is_among(oids: &OidBuf, oid: Oid) -> bool
+    requires { AllPairs (λ a b. a.0 < b.0) oids.now }
+    ensures { IsTrue result ↔ Contains oids.now oid }
+{
+    match oids.as_slice().binary_search(&oid) {
+        Ok(_) => true,
+        Err(_) => false,
+    }
+}

@@ -1,0 +1,11 @@
+use Rattle.std.proofs.Common.{IfNone, sym, subst}
+use Rattle.lorel_bind.specs.Bound.{BoundPathTree}
+use Rattle.lorel_bind.specs.Conditions.{CondOf}
+use Rattle.lorel_bind.specs.Plans.{DoesNotFit}
+use Rattle.lorel_bind.proofs.BoundLaws.{compare_cond}
+use Rattle.planner.proofs.probes.fitting.Goals as goal
+
+pub returns-in-Compare-clause-none : goal.returns-in-Compare-clause-none
+returns-in-Compare-clause-none c =
+    let is = compare_cond c.args.cond.now c.in-Compare.left c.in-Compare.op c.in-Compare.right c.in-Compare.is in
+    subst (λ (cond : CondOf BoundPathTree). IfNone c.comparison.result (DoesNotFit cond)) (sym is) c.comparison.ensures.none

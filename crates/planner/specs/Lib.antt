@@ -1,0 +1,4 @@
+pub mod Types
+pub mod Choices
+pub mod Laws
+pub mod inside

@@ -1,6 +1,0 @@
-use Rattle.std.proofs.Common.{◌<◌}
-use Rattle.std.specs.List.{AllAdjacentBelow}
-use Rattle.product_walk.proofs.children.ascends.Given as goal
-
-abbrev pub invariant-places : goal.invariant-places
-invariant-places l = AllAdjacentBelow (λ a b. a.0 < b.0) l.oids l.place
