@@ -1,5 +1,5 @@
 -- Paths reach no more objects than there are edges, and one.
-use Rattle.std.proofs.Common.{◌≡◌, ◌≢◌, ℕ, ◌<◌, ◌≤◌, suc, inl, inr, List, [], ◌∷◌, length, map, All, AllPairs, Contains, ap, subst, arith}
+use Rattle.std.proofs.Common.{◌≢◌, ℕ, ◌≤◌, suc, inl, inr, List, [], ◌∷◌, length, map, All, AllPairs, Contains, ap, arith}
 use Rattle.std.proofs.lemmas.List.{length-map}
 use Rattle.lorel_bind.proofs.ListLaws.{All-from_members}
 use Rattle.lore_base.specs.Walks.{Walk, edge_of}

@@ -5,7 +5,8 @@ use Rattle.lorel_bind.specs.Conditions.{CondOf, paths_in}
 use Rattle.lorel_bind.specs.Bound.{RangeTree, BoundPathTree}
 use Rattle.lorel_bind.specs.Bindings.{AreInOrder, IsBoundWithin}
 
--- each range has four leaves at most, and starts at an object or an earlier range, where so many are earlier than the first
+-- each range has four leaves at most, and starts at an object or an earlier range, where so many are earlier than
+-- the first
 pub record AreShort (count : ℕ) (ranges : List RangeTree) : Type 0 where
   pub in_order : AreInOrder count ranges
   pub few : sum_by (λ range. leaves range.path) ranges ≤ 4 * length ranges

@@ -13,8 +13,8 @@ use std::alloc::Global;
 use std::test::Fail;
 
 // A select as cases write it: the paths of its ranges, and the path, operator and number of the
-// comparison that is its condition, if it has one. A path is `n` or `s` with the number of an object
-// or a slot, a dot, and letters that are labels, with `#` for any word of them.
+// comparison that is its condition, if it has one. A path is `n` or `s` with the number of an
+// object or a slot, a dot, and letters that are labels, with `#` for any word of them.
 pub(crate) type Written = (&'static [&'static str], Option<(&'static str, Op, i64)>);
 
 pub(crate) fn bound_of(alloc: Global, written: Written) -> Result<Bound, Fail>
@@ -92,8 +92,8 @@ fn is_runnable(bound: &Bound) -> bool
     are_short(0, ranges) && is_short(&bound.cond, ranges.len())
 }
 
-// Whether each range is short and starts at an object or an earlier range, where so many are earlier
-// than the first.
+// Whether each range is short and starts at an object or an earlier range, where so many are
+// earlier than the first.
 fn are_short(count: u32, ranges: &[Range]) -> bool
     ensures { OnTrue result (AreShort count (map range_tree ranges.now)) }
 {

@@ -8,9 +8,9 @@
 //! A script of at most 8,192 bytes is read and written in pieces of each size; where two runs
 //! differ, a line says so.
 //!
-//! A script whose line is `=== modes: NAME` is run in each mode of plans instead, in new sessions in
-//! which `set plan` stands in front of it. What it writes is printed once; where a mode differs, a
-//! line says so.
+//! A script whose line is `=== modes: NAME` is run in each mode of plans instead, in new sessions
+//! in which `set plan` stands in front of it. What it writes is printed once; where a mode differs,
+//! a line says so.
 #![tactic(auto)]
 
 mod cases;

@@ -1,5 +1,4 @@
 use Rattle.std.proofs.Common.{length, ap, arith}
-use Rattle.lore_base.specs.declared.edges.Edge.{Edge}
 use Rattle.lorel_bind.specs.Bound.{bound_tree}
 use Rattle.lorel_bind.specs.Plans.{path_to}
 use Rattle.plan_tests.proofs.FewLaws.{few_reached}
