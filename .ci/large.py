@@ -2,21 +2,31 @@
 """Runs the built program on scripts that are large or stand just at a limit. What it has to write is worked out here.
 
 The prover can't refuse a program that gives up with want of memory, nor one whose limits are other numbers than the
-documents name; these cases do.
+documents name; these cases do. Each run may take 4 GiB and a minute of a processor, far more than any needs: so one that keeps what
+it need not, or does for each row what is done once, fails too.
 """
 import hashlib
 import os
+import resource
 import subprocess
 import sys
 
 PROGRAM = os.path.join(os.path.dirname(os.path.abspath(__file__)), "..", "crates", "lore", "out", "lore")
 CHUNK = 67_108_864
 SCRIPT = 1_073_741_824
+MEMORY = 4 * 1_073_741_824
+SECONDS = 60
+
+
+def limit():
+    """Sets how much a run may take."""
+    resource.setrlimit(resource.RLIMIT_AS, (MEMORY, MEMORY))
+    resource.setrlimit(resource.RLIMIT_CPU, (SECONDS, SECONDS))
 
 
 def run(pieces):
     """The status and the bytes that the program writes for a script in pieces, which a thread hands it."""
-    process = subprocess.Popen([PROGRAM], stdin=subprocess.PIPE, stdout=subprocess.PIPE)
+    process = subprocess.Popen([PROGRAM], stdin=subprocess.PIPE, stdout=subprocess.PIPE, preexec_fn=limit)
     writer = os.fork()
     if writer == 0:
         try:
@@ -51,6 +61,12 @@ def doubling(count):
     """A load of a graph with two to the power of the count target sets, for a count of at least 2, and more."""
     body = (f"x &{i} {{ a &{i + 1}, b &{i + 1} }}" if i < count else f"x &{i} 0" for i in range(2, count + 1))
     return f"load Q := &0 {{ a &0, b &0, a &1, x &1 {{ a &2, b &2 }}, {', '.join(body)} }};".encode()
+
+
+def around(count, at):
+    """A load of a ring of objects, all of them members too. From the one at a place `s` leads to a last one."""
+    members = (f"m &{i} {{ n &{i % count + 1}{', s &0' if i == at else ''} }}" for i in range(1, count + 1))
+    return braces("C", [*members, "first &1", "last &0 {}"])
 
 
 def repeated(byte, count):
@@ -156,6 +172,40 @@ def cases():
     lines = "".join(f"C.m{'.n' * i} {1_000 - i}\n" for i in range(1_000))
     yield ("a guide with long paths", [in_turn(1_000), b"guide;"], 0,
            f"ok objects 1001 edges 1999 nodes 1001\nC 1\n{lines}nodes 1001\n".encode())
+    words = "".join(f"{'.n' * i or '.'}\n" for i in range(2_000))
+    yield ("words around a ring", [around(2_000, 0), b"select path-of(P) from C.first X, X.n*@P Y;"], 0,
+           f"ok objects 2002 edges 4002 nodes 2003\n{words}rows 2000\n".encode())
+    words = [".", *(".n" * i for i in range(1, 1_025)), ".n" * 1_023 + ".s", *(".n" * i for i in range(1_025, 2_048))]
+    rows = "".join(f"{' | '.join([word] * 8)}\n" for word in words)
+    eight = f"select {', '.join(['path-of(P)'] * 8)} from C.first X, X(.n|.s)*@P Y;".encode()
+    yield ("as many labels in words as an answer may have, and some more",
+           [around(2_048, 1_024), eight, b"update C.first.s += 0;", eight, b"explain ", eight], 1,
+           f"ok objects 2050 edges 4099 nodes 2051\n{rows}rows 2049\n".encode()
+           + b"ok objects 2051 edges 4100 nodes 2053\nrefused 13 TooManyRows\nplan top - -\n")
+    words = [".", *(".n" * i for i in range(1, 2_345)), ".n" * 2_343 + ".s", *(".n" * i for i in range(2_345, 2_896))]
+    rows = "".join(f"{' | '.join([word] * 4)} | .\n" for word in words)
+    four = f"select {'path-of(P), ' * 4}path-of(Q) from C.first X, X(.n|.s)*@P Y, Y.t?@Q Z;".encode()
+    yield ("as many labels in words as an answer may have, and one more",
+           [around(2_896, 2_344), four, b"update C.first.t += 0;", four], 1,
+           f"ok objects 2898 edges 5795 nodes 2899\n{rows}rows 2897\nok objects 2899 edges 5796 nodes 2900\n".encode()
+           + b"refused 13 TooManyRows\n")
+    sixty = ".n" * 61
+    yield ("far more labels in words than an answer may have",
+           [around(4_000, 0), f"select {', '.join(['path-of(P)'] * 8)} from C.first X, X({sixty})+@P Y;".encode()], 1,
+           b"ok objects 4002 edges 8002 nodes 4003\nrefused 13 TooManyRows\n")
+    yield ("a word of many labels", [around(2_048, 0), f"select path-of(P) from C.first X, X({'.n' * 63})+@P Y where Y == X;".encode()], 0,
+           f"ok objects 2050 edges 4098 nodes 2051\n{'.n' * 129_024}\nrows 1\n".encode())
+    yield ("millions of choices and one word", [braces("N", ["a 0"] * 3_000), b"select path-of(P) from N.a@P X, N.a Y;"], 0,
+           b"ok objects 3001 edges 3000 nodes 2\n.a\nrows 1\n")
+    leaves = ", ".join(["c { v 1 }"] * 10_000)
+    yield ("words to ten thousand ends, which come first",
+           [f"load G := {{ p &1 {{ h &3 {{ {leaves} }} }}, p &2 {{ h &3 }} }};".encode(), b"set plan bottom;",
+            b"select path-of(P) from G.p X, X.#@P Y where Y.v = 1;"], 0,
+           b"ok objects 20004 edges 20004 nodes 5\n" * 2 + b".h.c\nrows 1\n")
+    chain = ", ".join(["G.a V0", *(f"V{i}@P{i + 1} V{i + 1}" for i in range(steps))])
+    yield (f"{steps} path variables", [b"load G := { a 1, a 2 };", f"select V{steps} from {chain};".encode(),
+           f"select path-of(P{steps}), V{steps} from {chain};".encode()], 0,
+           b"ok objects 3 edges 2 nodes 2\n&2 1\n&3 2\nrows 2\n. | &2 1\n. | &3 2\nrows 2\n")
     yield ("sets that double with each object", [doubling(13), doubling(1_000), b"guide;"], 1,
            b"refused 22 GuideNodes\n" * 2 + b"nodes 0\n")
     entries = CHUNK // len(b"label lost\n") - 100

@@ -1,5 +1,5 @@
-//! Tests of how values compare and are printed: each public call with ample memory, with values
-//! from outside the program.
+//! Tests of how values compare, and how values and labels are printed: each public call with ample
+//! memory, with values from outside the program.
 #![tactic(auto)]
 
 #[cfg(test)]

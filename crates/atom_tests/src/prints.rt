@@ -1,7 +1,7 @@
 use crate::atoms::Atom::{Node, Number, Text};
 use crate::atoms::{Atom, value};
 use lore_base::{NoMemory, OemText};
-use oem_atom::print_value;
+use oem_atom::{print_label, print_value};
 use std::alloc::Global;
 use std::test::Fail;
 
@@ -32,6 +32,36 @@ fn values_are_printed(rt: HostRuntime) -> Result<(), Fail> {
     ];
     for (atom, wanted) in table {
         assert_eq!(rt; printed(rt.alloc(), atom)?.as_bytes(), wanted, "{atom:?}");
+    }
+    Ok(())
+}
+
+// The label as it is printed behind a dot that was there.
+fn printed_label(alloc: Global, label: &[u8]) -> Result<OemText, NoMemory> {
+    let mut out = OemText::from_bytes(alloc, b".")?;
+    print_label(label, &mut out)?;
+    Ok(out)
+}
+
+#[test]
+fn labels_are_printed(rt: HostRuntime) -> Result<(), Fail> {
+    let table = [
+        (b"name".as_slice(), b".name".as_slice()),
+        (b"_x9", b"._x9"),
+        (b"select", b".select"),
+        (b"", b".''"),
+        (b"9lives", b".'9lives'"),
+        (b"zip%", b".'zip%'"),
+        (b"opening hours", b".'opening hours'"),
+        (b"it's", b".'it\\'s'"),
+        (b"5 \"feet\"", b".'5 \"feet\"'"),
+        (b"a\\b", b".'a\\\\b'"),
+        (b"\nc\rd\t", b".'\\nc\\rd\\t'"),
+        (b"caf\xc3\xa9", b".'caf\xc3\xa9'"),
+    ];
+    for (label, wanted) in table {
+        let text = printed_label(rt.alloc(), label)?;
+        assert_eq!(rt; text.as_bytes(), wanted, "{label:?}");
     }
     Ok(())
 }

@@ -1,7 +1,7 @@
 ghost use Rattle.std.specs.Prelude.{◌≡◌, ◌↔◌, ℕ, true, [], ◌∷◌, take, OnOk};
 ghost use Rattle.indexmap.specs.IndexMap.{get};
-ghost use Rattle.graph_search.specs.Closures.{IsMet};
-ghost use Rattle.graph_search.specs.inside.Searches.{IsMarked, AreMarks, Grows};
+ghost use Rattle.graph_search.specs.Closures.{IsMet, IsMarked, AreMarks};
+ghost use Rattle.graph_search.specs.inside.Searches.{Grows};
 
 use crate::marks::Marks;
 use indexmap::IndexMap;

@@ -1,18 +1,14 @@
 -- How label paths are printed, and the lines of a guide.
-use Rattle.std.specs.Prelude.{◌≡◌, ℕ, ◌<◌, if◌then◌else◌, List, [], ◌∷◌, ◌++◌, length, codes, decimal, All}
+use Rattle.std.specs.Prelude.{◌≡◌, ℕ, ◌<◌, List, [], ◌∷◌, ◌++◌, length, codes, decimal, All}
 use Rattle.std.specs.List.{AllZip, flat_map}
-use Rattle.lore_base.specs.Names.{is_identifier, IsNameTable}
-use Rattle.lore_base.specs.Quotes.{in_quotes}
+use Rattle.lore_base.specs.Names.{IsNameTable}
+pub use Rattle.lore_base.specs.Printed.{label_text}
 use Rattle.lore_base.specs.TargetSets.{LabelPath, HasTexts, AreTargetSets}
 use Rattle.dataguide.specs.PathOrder.{IsLeastPath, AreInPathOrder}
 use Rattle.dataguide.specs.Guides.{GuideGraph, IsOrderedGuide}
 use Rattle.guide_query.specs.Types.{Oid, Edge}
 
 -- Printing.
-
--- a label: bare where it is an identifier, a reserved word too, and else in single quotes with escapes
-abbrev pub label_text : List ℕ → List ℕ
-label_text label = if is_identifier label then label else in_quotes 39 label
 
 -- a label path: its name, and each label behind a dot
 abbrev pub path_text : List ℕ → List (List ℕ) → List ℕ

@@ -1,5 +1,6 @@
 pub mod NameLaws
 pub mod WordLaws
+pub mod LeastWordLaws
 pub mod ListLaws
 pub mod CauseLaws
 pub mod DecimalLaws

@@ -18,5 +18,6 @@ pub mod PathLaws
 pub mod Comparisons
 pub mod Databases
 pub mod TargetSets
+pub mod LeastWords
 pub mod ChangeSets
 pub mod MemoryEnds

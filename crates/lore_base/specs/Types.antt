@@ -25,4 +25,4 @@ pub use Rattle.lore_base.specs.declared.refusals.Refusal.TheVariants.{TooManyEdg
 pub use Rattle.lore_base.specs.declared.refusals.Refusal.TheVariants.{NotFresh, BadRestore}
 pub use Rattle.lore_base.specs.declared.limits.TheConstants.{TEXT_BYTES, WORD_BYTES, LABELS, NAMES, OBJECTS, EDGES}
 pub use Rattle.lore_base.specs.declared.limits.TheConstants.{NEXT_NUMBER, NODES, NESTING, LEAVES, CHUNK_BYTES}
-pub use Rattle.lore_base.specs.declared.limits.TheConstants.{SCRIPT_BYTES, RANGES, ITEMS, ROWS}
+pub use Rattle.lore_base.specs.declared.limits.TheConstants.{SCRIPT_BYTES, RANGES, ITEMS, ROWS, PATH_LABELS}

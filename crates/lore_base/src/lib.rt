@@ -11,7 +11,7 @@ pub use decimals::read_whole;
 pub use edges::{Edge, Label, Oid};
 pub use faults::Fault;
 pub use leaf_counts::{leaf_count, path_leaf_count};
-pub use lists::{CallList, EdgeBuf, Listing, ObjectList, OidBuf, TextList, TryCopy};
+pub use lists::{CallList, EdgeBuf, Listing, ObjectList, OidBuf, TextList, TryCopy, Word};
 pub use memory_ends::{MemSink, MemSource, SureSink, SureSource};
 pub use modes::Mode;
 pub use name_table::Names;

@@ -39,6 +39,9 @@ pub const ITEMS: usize = 8;
 /// Distinct rows of a select.
 pub const ROWS: usize = 100_000;
 
+/// Labels in the words of all distinct rows of a select.
+pub const PATH_LABELS: usize = 16_777_216;
+
 /// Bytes of one chunk before its `;`.
 pub const CHUNK_BYTES: usize = 67_108_864;
 

@@ -219,6 +219,9 @@ pub type OidBuf = Listing<Oid>;
 /// Edges.
 pub type EdgeBuf = Listing<Edge>;
 
+/// A word: labels, the first one first.
+pub type Word = Listing<Label>;
+
 /// Objects with their values.
 pub type ObjectList = Listing<(Oid, Value)>;
 

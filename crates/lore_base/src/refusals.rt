@@ -18,7 +18,8 @@ pub enum Refusal {
     Unfinished,
     /// A path starts with an identifier that is no name.
     UnknownName,
-    /// A path starts with a variable that isn't in scope.
+    /// A path starts with a variable that isn't in scope, or an item names a path variable that no
+    /// range has.
     UnknownVariable,
     /// One identifier is ranged twice.
     DuplicateVariable,
@@ -28,7 +29,7 @@ pub enum Refusal {
     DuplicateLocal,
     /// A local has no body.
     UndefinedLocal,
-    /// There are too many distinct rows.
+    /// There are too many distinct rows, or too many labels in their words.
     TooManyRows,
     /// A path that has to reach one object reaches none or several.
     NotOne,

@@ -14,16 +14,16 @@ use Rattle.lorel_bind.specs.Answers.{IsAnswer}
 use Rattle.lorel_bind.proofs.AnswerLaws.{has_one_answer}
 use Rattle.oem_labels.specs.Labels.{first_uses}
 use Rattle.oem_text.specs.Literals.{bodies, arcs_of, labels_of, edge_at}
-use Rattle.oem_text.specs.Parts.{LocalCause, local_order}
 use Rattle.oem_text.specs.Parts as text
 use Rattle.updates.specs.Effects.{Pair, changes_by}
 use Rattle.updates.specs.Causes.{IsUpdate}
 use Rattle.updates.proofs.RowLaws.{map_found}
-use Rattle.lore_db.specs.Types.{Oid, Edge, Value, Changes, Refusal, LABELS, NEXT_NUMBER}
+use Rattle.lore_db.specs.Types.{Oid, Edge, Value, Cell, Changes, Refusal, LABELS, NEXT_NUMBER}
 use Rattle.lore_db.specs.Types.refusals
-use Rattle.lore_db.specs.Built.{reads, path_select, makes_changes, is_bound, is_built}
-use Rattle.lore_db.specs.Statements.{pair_of, AreRowsOf, loading, naming, effects, IsUnbound, IsOutOfRange, ChangesCause, Cause, order}
+use Rattle.lore_db.specs.Built.{reads, path_select, makes_changes, is_built}
+use Rattle.lore_db.specs.Statements.{object_cells, pair_of, AreRowsOf, loading, naming, effects, IsUnbound, IsOutOfRange, ChangesCause, Cause, order}
 use Rattle.lore_db.specs.inside.Stages.{bind_order, found_order, fit_order}
+use Rattle.lore_db.proofs.ObjectRowLaws.{one_lists}
 use Rattle.lore_db.proofs.LiteralLaws.{length-objects_of}
 use Rattle.lore_db.proofs.OrderLaws.{AreAlike, told_left, told_right, told_between, clear_between, clear_alike, told_alike}
 use Rattle.lore_db.proofs.ChangedCauseLaws.{cause_same}
@@ -47,10 +47,10 @@ pub one_rows : (db : Database) (statement : StatementTree) (rows other : List (L
     → rows ≡ other
 one_rows db statement rows other are also = by (reads statement) are also
   where
-    by : (query : Option SelectTree) → MatchOption query (rows ≡ []) (λ q. IsAnswer db q rows) → MatchOption query (other ≡ []) (λ q. IsAnswer db q other)
-        → rows ≡ other
+    by : (query : Option SelectTree) → MatchOption query (rows ≡ []) (λ q. IsAnswer db q (map object_cells rows))
+        → MatchOption query (other ≡ []) (λ q. IsAnswer db q (map object_cells other)) → rows ≡ other
     by None a b = a ∙ sym b
-    by (Some query) a b = has_one_answer db query rows other a b
+    by (Some query) a b = one_lists rows other (has_one_answer db query (map object_cells rows) (map object_cells other) a b)
 
 -- the changes over some rows have the cause
 abbrev pub OverRows : Database → StatementTree → Refusal → Type 0
@@ -208,14 +208,14 @@ module _ (db : Database) (valid : IsValid db) where
   unname_told name unbound = inr (λ none. true≢false none, inl (inl unbound, refl))
 
   -- the path has one object, or not
-  pub name_clear : (name : List ℕ) (path : RootedTree) (rows : List (List Oid)) → IsAnswer db (path_select path) rows → length rows ≡ 1
+  pub name_clear : (name : List ℕ) (path : RootedTree) (rows : List (List Cell)) → IsAnswer db (path_select path) rows → length rows ≡ 1
       → IsClear (Cause db (t.bind name path)) found_order → IsClear (Cause db (t.bind name path)) fit_order
   name_clear name path rows answer one clear =
       let single : Cause db (t.bind name path) refusals.NotOne → ⊥ = (λ h.
       h.2 (ap length (has_one_answer db (path_select path) h.0 rows h.1 answer) ∙ one)) in
       clear_both (Cause db (t.bind name path)) found_order (refusals.NotOne ∷ early) clear (single, name_early name path)
 
-  pub name_told : (name : List ℕ) (path : RootedTree) (rows : List (List Oid)) → IsAnswer db (path_select path) rows → length rows ≢ 1
+  pub name_told : (name : List ℕ) (path : RootedTree) (rows : List (List Cell)) → IsAnswer db (path_select path) rows → length rows ≢ 1
       → IsClear (Cause db (t.bind name path)) found_order → IsToldBy (Cause db (t.bind name path)) order (Some refusals.NotOne)
   name_told name path rows answer several clear =
       told_right (Cause db (t.bind name path)) found_order (refusals.NotOne ∷ (early ++ (sizes ++ range))) (Some refusals.NotOne) clear
@@ -229,14 +229,13 @@ update_changes (t.add_link target label right tail) update = refl
 update_changes (t.remove target label right tail) update = refl
 update_changes _ update = absurd (update refl)
 
--- an update reads a select, is built where that is, and takes no name away
-pub update_reads : (statement : StatementTree) → IsUpdate statement → (query : SelectTree) → reads statement ≡ Some query
-    → is_built statement ≡ is_bound (Some query)
-update_reads (t.assign target value tail) update query is = ap is_bound is
-update_reads (t.add_new target label literal tail) update query is = ap is_bound is
-update_reads (t.add_link target label right tail) update query is = ap is_bound is
-update_reads (t.remove target label right tail) update query is = ap is_bound is
-update_reads _ update query is = absurd (update refl)
+-- an update is built, and takes no name away
+pub update_built : (statement : StatementTree) → IsUpdate statement → is_built statement ≡ true
+update_built (t.assign target value tail) update = refl
+update_built (t.add_new target label literal tail) update = refl
+update_built (t.add_link target label right tail) update = refl
+update_built (t.remove target label right tail) update = refl
+update_built _ update = absurd (update refl)
 
 pub update_names : (db : Database) (statement : StatementTree) → IsUpdate statement → IsUnbound db statement → ⊥
 update_names db (t.unname name) update unbound = update refl

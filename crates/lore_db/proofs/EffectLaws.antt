@@ -7,15 +7,16 @@ use Rattle.lore_base.specs.ChangeSets.{IsBound, Fits}
 use Rattle.lore_base.specs.Verdicts.{IsClear}
 use Rattle.lore_base.proofs.NameLaws.{found_bound, bound_found}
 use Rattle.lorel_trees.specs.Trees as t
-use Rattle.lorel_trees.specs.Trees.{StatementTree, SelectTree, RootedTree, TailTree}
+use Rattle.lorel_trees.specs.Trees.{StatementTree, RootedTree, TailTree}
 use Rattle.lorel_trees.specs.Formed.{IsFormedStatement}
 use Rattle.lorel_trees.specs.UpdateRows.{target_select, pair_select}
 use Rattle.lorel_bind.specs.Answers.{IsAnswer}
 use Rattle.lorel_bind.specs.Refusals.{HasUnknownName, HasUnknownVariable}
 use Rattle.updates.specs.Effects.{targets}
 use Rattle.updates.specs.Causes.{IsUpdate, HasTargets}
+use Rattle.updates.proofs.RowLaws.{map_holds}
 use Rattle.lore_db.specs.Types.{Oid}
-use Rattle.lore_db.specs.Statements.{pair_of, AreRowsOf, effects, Cause}
+use Rattle.lore_db.specs.Statements.{object_cells, pair_of, AreRowsOf, effects, Cause}
 use Rattle.lore_db.specs.inside.Stages.{found_order, fit_order}
 use Rattle.lore_db.proofs.LiteralLaws.{length-objects_of}
 use Rattle.lore_db.proofs.FitLaws.{nothing_fits, name_fits, unname_fits, assign_fits, link_fits, unlink_fits, load_fits}
@@ -36,16 +37,18 @@ bound_or_not names name table h = by (object_of names name) refl
 module _ (db : Database) (valid : IsValid db) where
   -- ---- rows of the select of an update
   module _ (target : RootedTree) (tail : TailTree) (rows : List (List Oid)) where
-    one_celled : IsAnswer db (target_select target tail) rows → (HasUnknownName db.graph.names (target_select target tail) → ⊥)
+    one_celled : IsAnswer db (target_select target tail) (map object_cells rows) → (HasUnknownName db.graph.names (target_select target tail) → ⊥)
         → (HasUnknownVariable db.graph.names (target_select target tail) → ⊥) → (row : List Oid) → Contains rows row → IsOneCell db row
     one_celled answer known ranged row there =
-        one_cell db valid target tail (starts_somewhere db.graph.names (target_select target tail) known ranged) row ((answer.exact row).0 there)
+        one_cell db valid target tail (starts_somewhere db.graph.names (target_select target tail) known ranged) row
+        ((answer.exact (object_cells row)).0 (map_holds object_cells rows row there))
 
-    two_celled : (right : RootedTree) → IsAnswer db (pair_select target right tail) rows
+    two_celled : (right : RootedTree) → IsAnswer db (pair_select target right tail) (map object_cells rows)
         → (HasUnknownName db.graph.names (pair_select target right tail) → ⊥) → (HasUnknownVariable db.graph.names (pair_select target right tail) → ⊥)
         → (row : List Oid) → Contains rows row → AreTwoCells db row
     two_celled right answer known ranged row there =
-        two_cells db valid target tail right (starts_somewhere db.graph.names (pair_select target right tail) known ranged) row ((answer.exact row).0 there)
+        two_cells db valid target tail right (starts_somewhere db.graph.names (pair_select target right tail) known ranged) row
+        ((answer.exact (object_cells row)).0 (map_holds object_cells rows row there))
 
   -- ---- each form
   pub effects_fit : (statement : StatementTree) → IsFormedStatement statement → (rows : List (List Oid)) → AreRowsOf db statement rows

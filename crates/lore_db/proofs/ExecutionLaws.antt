@@ -13,7 +13,7 @@ use Rattle.lorel_trees.specs.Trees.{SelectTree, StatementTree}
 use Rattle.lorel_trees.specs.Formed.{IsFormedStatement}
 use Rattle.lorel_bind.specs.Answers.{IsAnswer}
 use Rattle.updates.specs.Causes.{IsUpdate}
-use Rattle.lore_db.specs.Types.{Oid, Changes, Refusal, Reply, Rows}
+use Rattle.lore_db.specs.Types.{Oid, Cell, Changes, Refusal, Reply, Rows}
 use Rattle.lore_db.specs.Types.refusals
 use Rattle.lore_db.specs.Built.{makes_changes}
 use Rattle.lore_db.specs.Statements.{AreRowsOf, effects, IsOutOfRange, Cause, order, Counts, LeadsOn, Performs, Executes}
@@ -34,7 +34,7 @@ module _ (db : Database) (query : SelectTree) where
       clear_both (Cause db (t.select query)) (refusals.NotOne ∷ (early ++ sizes)) range
       (no_changes db (t.select query) refl) (λ h. h, tt)
 
-  pub select_performs : (rows : List (List Oid)) → IsClear (ReadCause db query) read_order → IsAnswer db query rows
+  pub select_performs : (rows : List (List Cell)) → IsClear (ReadCause db query) read_order → IsAnswer db query rows
       → Executes db (t.select query) (Rows rows) db
   select_performs rows clear answer =
       inl (

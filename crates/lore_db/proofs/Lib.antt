@@ -1,7 +1,6 @@
 pub mod ShallowLaws
-pub mod FoundLaws
+pub mod ObjectRowLaws
 pub mod SlotLaws
-pub mod RowLaws
 pub mod SelectLaws
 pub mod StageLaws
 pub mod LabelFitLaws

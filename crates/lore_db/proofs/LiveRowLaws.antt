@@ -1,6 +1,6 @@
 -- The rows of a select are rows of live objects: each is reached from a name. Those of a path have one cell, those of two
 -- paths two.
-use Rattle.std.proofs.Common.{◌≡◌, ◌≢◌, inl, inr, ℕ, List, [], ◌∷◌, ◌++◌, length, map, All, AllPairs, sym, ap, subst, ◌∙◌, append_assoc, append-nil, arith}
+use Rattle.std.proofs.Common.{◌≡◌, ◌≢◌, inl, inr, ℕ, List, [], ◌∷◌, ◌++◌, map, All, AllPairs, sym, ap, subst, ◌∙◌, append_assoc, append-nil, arith}
 use Rattle.std.specs.List.{Contains}
 use Rattle.std.specs.Prelude.{IfSome}
 use Rattle.std.specs.Ordering.{ordering_reverse}
@@ -17,7 +17,7 @@ use Rattle.lorel_trees.specs.Trees.{RootedTree, TailTree, SelectTree}
 use Rattle.lorel_trees.specs.UpdateRows.{target_select, pair_select}
 use Rattle.lorel_bind.specs.Places.{Place, scope_of, place_of, cell_places}
 use Rattle.lorel_bind.specs.Ranges.{Range, places, ArePlain}
-use Rattle.lorel_bind.specs.Answers.{Leads, IsValuation, IsRow, row_cmp, IsAnswer}
+use Rattle.lorel_bind.specs.Answers.{Leads, IsValuation, IsRow, row_cmp}
 use Rattle.lorel_bind.specs.Refusals.{text_places, ranged_identifiers, StartsNowhere, HasUnknownName, HasUnknownVariable}
 use Rattle.lorel_bind.specs.inside.Orders.{AreOrdered}
 use Rattle.lorel_bind.proofs.AnswerLaws.{row_cmp_total}
@@ -25,15 +25,16 @@ use Rattle.lorel_bind.proofs.PlainLaws.{plain_ordered}
 use Rattle.lorel_bind.proofs.RootLaws.{IsBoundName, IsKnown, known_found, names_bound, plain_roots, cells_known}
 use Rattle.lorel_bind.proofs.ToldLaws.{told_member, told_bytes}
 use Rattle.updates.specs.Effects.{Pair, targets}
-use Rattle.updates.proofs.RowLaws.{map_found}
-use Rattle.lore_db.specs.Types.{Oid, Label}
-use Rattle.lore_db.specs.Statements.{pair_of}
+use Rattle.updates.proofs.RowLaws.{map_found, map_holds}
+use Rattle.lore_db.specs.Types.{Oid, Label, Cell}
+use Rattle.lore_db.specs.Statements.{object_cells, pair_of}
+use Rattle.lore_db.proofs.ObjectRowLaws.{one_list, shown_objects}
 
 -- where no path starts at an unknown name or variable, none starts nowhere
 pub starts_somewhere : (names : List (List ℕ × Oid)) (query : SelectTree) → (HasUnknownName names query → ⊥) → (HasUnknownVariable names query → ⊥)
     → (start : List ℕ) → StartsNowhere names query start → ⊥
 starts_somewhere names query known ranged start nowhere = elim (told_member told_bytes (ranged_identifiers query) start) [
-  | inl there ↦ ranged (start, nowhere, there)
+  | inl there ↦ ranged (inl (start, nowhere, there))
   | inr absent ↦ known (start, nowhere, absent)
 ]
 
@@ -84,17 +85,11 @@ module _ (db : Database) (valid : IsValid db) (query : SelectTree) (somewhere : 
         ]
 
     -- each cell shows a live object
-    cells_live : ArePlain query plain → All (λ place. IsLive db.graph.objects (at place)) (cell_places query)
+    pub cells_live : ArePlain query plain → All (λ place. IsLive db.graph.objects (at place)) (cell_places query)
     cells_live gathered = All-of_members (λ (place : Place). IsLive db.graph.objects (at place)) (cell_places query) (λ place there.
         place_live (places plain)
         (ranges_live [] plain (plain_ordered query plain gathered) (plain_roots (IsBoundName db.graph.names) query plain gathered bound) valuation.reached
         (λ p none. absurd (Contains-none p none))) place (cells_known db.graph.names query plain gathered bound place there))
-
-  pub row_live : (row : List Oid) → IsRow db query row → All (IsLive db.graph.objects) row
-  row_live row is =
-      let over = is.2 in
-      subst (All (IsLive db.graph.objects)) (sym over.shown)
-      (All-map (IsLive db.graph.objects) over.at (cell_places query) (cells_live is.0 over.at over.valuation is.1))
 
 -- ---- rows of one path
 -- the row has one object, which is live
@@ -113,29 +108,33 @@ pub record AreTwoCells (db : Database) (row : List Oid) : Type 0 where
 
 module _ (db : Database) (valid : IsValid db) (target : RootedTree) (tail : TailTree) where
   pub one_cell : ((start : List ℕ) → StartsNowhere db.graph.names (target_select target tail) start → ⊥) → (row : List Oid)
-      → IsRow db (target_select target tail) row → IsOneCell db row
+      → IsRow db (target_select target tail) (object_cells row) → IsOneCell db row
   one_cell somewhere row is =
       let over = is.2 in
       let place = place_of (scope_of [] tail.ranges) target in
-      let shown : row ≡ over.at place ∷ [] = over.shown in
-      let live = subst (All (IsLive db.graph.objects)) shown (row_live db valid (target_select target tail) somewhere row is) in
-      record { oid = over.at place; is = shown; live = All-head (IsLive db.graph.objects) (over.at place) [] live }
+      let shown = shown_objects db is.0 over.at (place ∷ []) (object_cells row) over.shown in
+      let live = cells_live db valid (target_select target tail) somewhere is.0 over.at over.valuation is.1 in
+      record {
+        oid = over.at place;
+        is = one_list row (over.at place ∷ []) shown;
+        live = All-head (λ (p : Place). IsLive db.graph.objects (over.at p)) place [] live;
+      }
 
   pub two_cells : (right : RootedTree) → ((start : List ℕ) → StartsNowhere db.graph.names (pair_select target right tail) start → ⊥) → (row : List Oid)
-      → IsRow db (pair_select target right tail) row → AreTwoCells db row
+      → IsRow db (pair_select target right tail) (object_cells row) → AreTwoCells db row
   two_cells right somewhere row is =
       let over = is.2 in
       let first = place_of (scope_of [] tail.ranges) target in
       let second = place_of (scope_of [] tail.ranges) right in
-      let shown : row ≡ over.at first ∷ over.at second ∷ [] = over.shown in
-      let live = subst (All (IsLive db.graph.objects)) shown (row_live db valid (pair_select target right tail) somewhere row is) in
+      let shown = shown_objects db is.0 over.at (first ∷ second ∷ []) (object_cells row) over.shown in
+      let live = cells_live db valid (pair_select target right tail) somewhere is.0 over.at over.valuation is.1 in
       record {
         first = over.at first;
         second = over.at second;
-        is = shown;
-        first_live = All-head (IsLive db.graph.objects) (over.at first) (over.at second ∷ []) live;
-        second_live = All-head (IsLive db.graph.objects) (over.at second) []
-            (All-tail (IsLive db.graph.objects) (over.at first) (over.at second ∷ []) live);
+        is = one_list row (over.at first ∷ over.at second ∷ []) shown;
+        first_live = All-head (λ (p : Place). IsLive db.graph.objects (over.at p)) first (second ∷ []) live;
+        second_live = All-head (λ (p : Place). IsLive db.graph.objects (over.at p)) second []
+            (All-tail (λ (p : Place). IsLive db.graph.objects (over.at p)) first (second ∷ []) live);
       }
 
 -- ---- rows as pairs
@@ -163,37 +162,32 @@ pub live_targets : (db : Database) (rows : List Pair) → All (LiveTarget db) ro
 live_targets db rows live = All-map (IsLive db.graph.objects) (λ (row : Pair). row.0) rows live
 
 -- no row comes before itself
-no_loop : (row : List Oid) → row_cmp row row ≡ Less → ⊥
+no_loop : (row : List Cell) → row_cmp row row ≡ Less → ⊥
 no_loop row below =
     let flip = row_cmp_total.antisymm row row in
     let apart : Less ≡ Greater = sym below ∙ flip ∙ ap ordering_reverse below in
     cc
 
 -- rows of one cell that ascend have distinct objects
-pub targets_once : (db : Database) (rows : List (List Oid)) → AllPairs (λ a b. row_cmp a b ≡ Less) rows
+pub targets_once : (db : Database) (rows : List (List Oid)) → AllPairs (λ a b. row_cmp a b ≡ Less) (map object_cells rows)
     → ((row : List Oid) → Contains rows row → IsOneCell db row) → AllPairs (λ a b. a ≢ b) (targets (map pair_of rows))
 targets_once db [] ascend each = λ i j d low within. absurd (omega (arith, within))
 targets_once db (row ∷ rows) ascend each =
     AllPairs-cons (λ (a b : Oid). a ≢ b) ((pair_of row).0) (targets (map pair_of rows))
     (All-of_members (λ (oid : Oid). (pair_of row).0 ≢ oid) (targets (map pair_of rows)) (apart row rows ascend each))
-    (targets_once db rows (AllPairs-tail (λ (a b : List Oid). row_cmp a b ≡ Less) row rows ascend) (λ other there. each other (Contains-tail row rows other there)))
+    (targets_once db rows (AllPairs-tail (λ (a b : List Cell). row_cmp a b ≡ Less) (object_cells row) (map object_cells rows) ascend)
+    (λ other there. each other (Contains-tail row rows other there)))
   where
-    apart : (row : List Oid) (rows : List (List Oid)) → AllPairs (λ a b. row_cmp a b ≡ Less) (row ∷ rows)
+    apart : (row : List Oid) (rows : List (List Oid)) → AllPairs (λ a b. row_cmp a b ≡ Less) (map object_cells (row ∷ rows))
         → ((r : List Oid) → Contains (row ∷ rows) r → IsOneCell db r) → (oid : Oid) → Contains (targets (map pair_of rows)) oid → (pair_of row).0 ≢ oid
     apart row rows ascend each oid there same =
         let pair = map_found (λ (p : Pair). p.0) (map pair_of rows) oid there in
         let other = map_found pair_of rows pair.0 pair.1 in
-        let below = AllPairs-head (λ (a b : List Oid). row_cmp a b ≡ Less) row rows ascend other.0 other.1 in
+        let below = AllPairs-head (λ (a b : List Cell). row_cmp a b ≡ Less) (object_cells row) (map object_cells rows) ascend (object_cells other.0)
+        (map_holds object_cells rows other.0 other.1) in
         let first = each row (Contains-head row rows) in
         let second = each other.0 (Contains-tail row rows other.0 other.1) in
         let left : (pair_of row).0 ≡ first.oid = ap (λ (r : List Oid). (pair_of r).0) first.is in
         let right : oid ≡ second.oid = sym pair.2 ∙ ap (λ (p : Pair). p.0) (sym other.2) ∙ ap (λ (r : List Oid). (pair_of r).0) second.is in
         let is : other.0 ≡ row = second.is ∙ ap (λ (o : Oid). o ∷ []) (sym (sym left ∙ same ∙ right)) ∙ sym first.is in
-        no_loop row (subst (λ (r : List Oid). row_cmp row r ≡ Less) is below)
-
--- the rows of a path have one cell each
-pub path_rows : (db : Database) (target : RootedTree) (tail : TailTree) (rows : List (List Oid)) → IsAnswer db (target_select target tail) rows
-    → All (λ row. length row ≡ 1) rows
-path_rows db target tail rows answer = All-of_members (λ row. length row ≡ 1) rows (λ row there.
-    let over = ((answer.exact row).0 there).2 in
-    ap length over.shown)
+        no_loop (object_cells row) (subst (λ (r : List Oid). row_cmp (object_cells row) (object_cells r) ≡ Less) is below)

@@ -9,16 +9,19 @@ use Rattle.lore_base.specs.Verdicts.{IsClear, IsToldBy}
 use Rattle.lore_base.proofs.NameLaws.{found_bound, bound_found}
 use Rattle.oem_changes.proofs.RootedLaws.{All-of_members}
 use Rattle.lorel_trees.specs.Trees.{RootedTree, SelectTree, StatementTree, bind, unname}
+use Rattle.lorel_bind.specs.Places.{place_of}
 use Rattle.lorel_bind.specs.Answers.{IsAnswer}
-use Rattle.lore_db.specs.Types.{Oid, Changes, Refusal, Reply}
+use Rattle.updates.proofs.RowLaws.{map_holds}
+use Rattle.lore_db.specs.Types.{Oid, Cell, Changes, Refusal, Reply}
 use Rattle.lore_db.specs.Types.refusals
 use Rattle.lore_db.specs.Built.{path_select}
-use Rattle.lore_db.specs.Statements.{pair_of, naming, unnaming, effects, Cause, order, Counts, Executes}
+use Rattle.lore_db.specs.Statements.{object_cells, pair_of, AreRowsOf, naming, unnaming, effects, Cause, order, Counts, Executes}
 use Rattle.lore_db.specs.inside.Stops.{told}
-use Rattle.lore_db.specs.inside.Stages.{ReadCause, read_order, found_order, change_order, fit_order, IsOnly, IsNotOnly}
+use Rattle.lore_db.specs.inside.Stages.{ReadCause, read_order, found_order, change_order, fit_order, IsOneObject, IsOnly, IsNotOnly}
 use Rattle.lore_db.specs.declared.stops.Stop.{Stop}
 use Rattle.lore_db.proofs.OrderLaws.{told_left}
 use Rattle.lore_db.proofs.FitLaws.{name_fits, unname_fits}
+use Rattle.lore_db.proofs.ObjectRowLaws.{shown_objects}
 use Rattle.lore_db.proofs.LiveRowLaws.{starts_somewhere, IsOneCell, one_cell, one_targets}
 use Rattle.lore_db.proofs.ReadLaws.{read_found, read_clear}
 use Rattle.lore_db.proofs.CauseLaws.{sizes, name_locals, name_clear, name_told, unname_clear, unname_told}
@@ -53,15 +56,14 @@ module _ (db : Database) (valid : IsValid db) (name : List ℕ) (path : RootedTr
       told_left (Cause db naming_tree) found_order change_order told
       (read_found db naming_tree query refl refl (λ unbound. unbound) refl (name_locals db valid name path) told h)
 
-  module _ (rows : List (List Oid)) (answer : IsAnswer db query rows) (clear : IsClear (ReadCause db query) read_order) where
-    each : (row : List Oid) → Contains rows row → IsOneCell db row
-    each row there =
-        one_cell db valid path (record { ranges = []; cond = None }) (starts_somewhere db.graph.names query clear.1.0 clear.1.1.0) row
-        ((answer.exact row).0 there)
+  -- its rows show one object each
+  pub single_cells : (rows : List (List Cell)) → IsAnswer db query rows → All IsOneObject rows
+  single_cells rows answer = All-of_members IsOneObject rows (λ row there.
+      let is = (answer.exact row).0 there in
+      let place = place_of [] path in
+      (is.2.at place, shown_objects db is.0 is.2.at (place ∷ []) row is.2.shown))
 
-    pub single_cells : All (λ row. length row ≡ 1) rows
-    single_cells = All-of_members (λ (row : List Oid). length row ≡ 1) rows (λ row there. ap length (each row there).is)
-
+  module _ (rows : List (List Cell)) (answer : IsAnswer db query rows) (clear : IsClear (ReadCause db query) read_order) where
     found_clear : IsClear (Cause db naming_tree) found_order
     found_clear = read_clear db naming_tree query refl refl (λ unbound. unbound) refl (name_locals db valid name path) clear
 
@@ -70,23 +72,35 @@ module _ (db : Database) (valid : IsValid db) (name : List ℕ) (path : RootedTr
         subst (IsToldBy (Cause db naming_tree) order) (sym h.0) (name_told db valid name path rows answer h.1 found_clear)
 
     module _ (formed : IsName name) (oid : Oid) (only : IsOnly rows oid) (changes : Changes) (is : changes ≡ naming name ((oid, None) ∷ [])) where
-      lists : changes ≡ effects db naming_tree rows
-      lists = is ∙ ap (λ (l : List (List Oid)). naming name (map pair_of l)) (sym only)
+      -- the only row, as objects
+      abbrev objects : List (List Oid)
+      objects = (oid ∷ []) ∷ []
+
+      are : AreRowsOf db naming_tree objects
+      are = subst (IsAnswer db query) only answer
+
+      each : (row : List Oid) → Contains objects row → IsOneCell db row
+      each row there =
+          one_cell db valid path (record { ranges = []; cond = None }) (starts_somewhere db.graph.names query clear.1.0 clear.1.1.0) row
+          ((are.exact (object_cells row)).0 (map_holds object_cells objects row there))
+
+      lists : changes ≡ effects db naming_tree objects
+      lists = is
 
       fit_clear : IsClear (Cause db naming_tree) fit_order
       fit_clear = name_clear db valid name path rows answer (ap length only) found_clear
 
       pub named_fit : Fits db changes
-      named_fit = subst (λ (c : Changes). Fits db c) (sym lists) (name_fits db valid name (map pair_of rows) formed (one_targets db rows each))
+      named_fit = subst (λ (c : Changes). Fits db c) (sym lists) (name_fits db valid name (map pair_of objects) formed (one_targets db objects each))
 
       pub named_stop : (told : Option Refusal) → IsToldBy (DatabaseCause db changes) sizes told → IsToldBy (Cause db naming_tree) order told
       named_stop told h =
-          changes_told db naming_tree rows answer changes (same_as (effects db naming_tree rows) changes lists) fit_clear refl told h
+          changes_told db naming_tree objects are changes (same_as (effects db naming_tree objects) changes lists) fit_clear refl told h
 
       pub named_executes : (after : Database) (reply : Reply) → IsClear (DatabaseCause db changes) sizes → IsAfter db changes after
           → Counts after reply → Executes db naming_tree reply after
       named_executes after reply left leads counts =
-          inl (changes_lead db naming_tree rows answer changes (same_as (effects db naming_tree rows) changes lists) fit_clear refl
+          inl (changes_lead db naming_tree objects are changes (same_as (effects db naming_tree objects) changes lists) fit_clear refl
           (λ outside. outside) after reply left leads counts)
 
 -- ---- a name taken away

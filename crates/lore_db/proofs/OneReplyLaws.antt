@@ -9,7 +9,7 @@ use Rattle.oem_changes.proofs.DeterminedLaws.{one_database_after}
 use Rattle.guide_query.proofs.OneListOfLines.{one_list_of_lines}
 use Rattle.lorel_trees.specs.Trees.{StatementTree, select, explain, guide, set_nodes, set_plan}
 use Rattle.lorel_bind.proofs.AnswerLaws.{has_one_answer}
-use Rattle.lore_db.specs.Types.{Oid, Mode, Refusal, Reply, Changed, Rows, Lines, Refused}
+use Rattle.lore_db.specs.Types.{Oid, Cell, Mode, Refusal, Reply, Changed, Rows, Lines, Refused}
 use Rattle.lore_db.specs.Statements.{effects, Cause, order, Counts, LeadsOn, Shows, Limits, ChoosesBy, Performs, Refuses}
 use Rattle.lore_db.specs.StatementLaws.{ExecutesOnce}
 use Rattle.lore_db.proofs.CauseLaws.{one_rows}
@@ -61,7 +61,7 @@ one_performed : (before : Database) (statement : StatementTree) (reply other : R
     → Performs before statement other later → (reply ≡ other) × (after ≡ later)
 one_performed before (select query) reply other after later h k =
     let same = has_one_answer before query h.1.0 k.1.0 h.1.2 k.1.2 in
-    (h.1.1 ∙ ap (λ (rows : List (List Oid)). Rows rows) same ∙ sym k.1.1, h.0 ∙ sym k.0)
+    (h.1.1 ∙ ap (λ (rows : List (List Cell)). Rows rows) same ∙ sym k.1.1, h.0 ∙ sym k.0)
 one_performed before (explain query) reply other after later h k = one_explained before query reply other after later h k
 one_performed before guide reply other after later h k = one_shown before reply other after later h k
 one_performed before (set_nodes nodes) reply other after later h k = one_limited before nodes reply other after later h k

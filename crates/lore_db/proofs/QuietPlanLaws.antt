@@ -1,32 +1,35 @@
 -- Plans that read no edge: whatever plan was made of a quiet select, the guide tells all of it, or it begins from values
 -- that no object has.
-use Rattle.std.proofs.Common.{◌≡◌, ◌≢◌, ℕ, ◌≤◌, inl, inr, List, [], ◌∷◌, length, Option, Some, None, All, AllPairs, refl, sym, subst, ◌∙◌, arith}
-use Rattle.std.proofs.lemmas.List.Elements.{All-nil, All-cons}
+use Rattle.std.proofs.Common.{◌≡◌, ◌≢◌, ◌↔◌, ◌⊎◌, ℕ, ◌≤◌, inl, inr, List, [], ◌∷◌, length, Option, Some, None, All, AllPairs, refl, sym, subst, ◌∙◌, arith}
+use Rattle.std.proofs.lemmas.List.Elements.{All-nil, All-cons, All-head}
 use Rattle.std.proofs.lemmas.Option.{same_Some}
 use Rattle.lore_base.specs.Databases.{Database}
 use Rattle.lore_base.specs.Paths.{PathTree, Reaches}
 use Rattle.lore_base.specs.TargetSets.{ListsInOrder}
 use Rattle.lore_base.proofs.MemberLaws.{Contains-none}
 use Rattle.lorel_trees.specs.Trees.{SelectTree}
-use Rattle.index_traits.specs.Entries.{AreValueEntries}
+use Rattle.index_traits.specs.Entries.{AreLinks, AreValueEntries}
 use Rattle.index_laws.proofs.SortedEntries.{entries_are_determined}
 use Rattle.lorel_bind.specs.Conditions.{CondOf}
 use Rattle.lorel_bind.specs.Bound.{RangeTree, BoundPathTree, BoundTree}
 use Rattle.lorel_bind.specs.Bindings.{IsBinding, IsWithin, AreInOrder, IsRunnable}
-use Rattle.lorel_bind.specs.Plans.{Probe, StepTree, steps_of, IsChain, IsCandidate, tests, along, guided_step, bottom_steps, AreBottomSteps, AreStepsOf, IsPlanOf}
+use Rattle.lorel_bind.specs.SlotRows.{HoldsOver, ShowsObjects}
+use Rattle.lorel_bind.specs.Plans.{Probe, StepTree, from_value, steps_of, IsChain, IsCandidate, tests, along, guided_step, bottom_steps, AreBottomSteps, AreStepsOf, IsPlanOf}
 use Rattle.lorel_bind.proofs.BindingLaws.{has_one_binding}
 use Rattle.planner.specs.Choices.{IsGivenCount, AreCounted}
 use Rattle.planner.proofs.OneLaws.{has_one_plan}
-use Rattle.plan_ops.specs.Steps.{StepsOver, steps_over}
+use Rattle.plan_ops.specs.Steps.{StepsOver, steps_over, Meets, Finishes, in_eight, IsSought, Agrees}
 use Rattle.plan_ops.specs.Types.{Plan}
-use Rattle.plan_ops.specs.Rows.{RowsLeft, IsGuided, FindsNothing, AreQuiet, ReadNothing}
-use Rattle.lore_db.specs.Types.{Oid, Label, Edge, Start, ValueEntry, PlanKind}
+use Rattle.plan_ops.specs.Rows.{RowsLeft, IsToCome, AreSame, IsGuided, FindsNothing, AreQuiet, ReadNothing}
+use Rattle.plan_ops.proofs.DescribeLaws.{plan_describes}
+use Rattle.lore_db.specs.Types.{Oid, Label, Edge, Value, Start, ValueEntry, PlanKind}
 use Rattle.lore_db.specs.Types.starts
 use Rattle.lore_db.specs.Types.plan_kinds
 use Rattle.lore_db.specs.Plans.{AreCountsOver, IsKindOver}
 use Rattle.lore_db.specs.Uncounted.{IsQuietPlan, IsQuietBound, IsQuietSelect}
+use Rattle.lore_db.specs.inside.Starts.{HasNamedStarts}
 use Rattle.lore_db.proofs.ExplainLaws.{one_counts, one_kind}
-use Rattle.lore_db.proofs.RowLaws.{AreQuietLeft}
+use Rattle.lore_db.proofs.StageLaws.{Tells, agrees_over, over_of, AreLeft, along_parts}
 
 -- ---- by the guide: one range at most, which starts at a name, and no condition
 guided_start : (start : Start) (path : PathTree) → IsWithin 0 start → IsGuided (guided_step start path 0)
@@ -58,6 +61,20 @@ module _ (over : StepsOver) where
       → FindsNothing over (bottom_steps named probe label ranges further)
   finds_nothing named probe label [] further chain none = absurd chain
   finds_nothing named probe label (first ∷ others) further chain none = none
+
+  -- no row is finished by steps of which the first finds nothing,
+  none_finishes : (steps : List StepTree) (partial row : List Oid) → FindsNothing over steps → Finishes over steps partial row → ⊥
+  none_finishes (from_value label op value rest slot ∷ steps) partial row nothing finishes =
+      let met = All-head (λ step. Meets over step row) (from_value label op value rest slot) steps finishes.met in
+      nothing met.2.0 met.2.2
+  none_finishes _ partial row nothing finishes = absurd nothing
+
+  -- and so none is sought
+  none_sought : (objects : List (Oid × Value)) (bound : BoundTree) (kind : PlanKind) (steps : List StepTree) → AllPairs (λ a b. a ≢ b) over.labels
+      → IsRunnable bound → AreStepsOf over.labels bound kind steps → Agrees over objects bound → FindsNothing over steps
+      → (row : List Oid) → IsSought over.labels over.edges over.passes bound row → ⊥
+  none_sought objects bound kind steps distinct runnable are agrees nothing row sought =
+      none_finishes steps (in_eight []) row nothing ((plan_describes over objects bound kind steps distinct runnable are agrees row).1 sought)
 
   -- what was counted is what the steps begin from, since a select has one list of steps of a kind
   counted_steps : (labels : List (List ℕ)) → AllPairs (λ a b. a ≢ b) labels → (entries : List ValueEntry) → entries ≡ over.entries
@@ -97,14 +114,25 @@ module _ (db : Database) (bound : BoundTree) (runnable : IsRunnable bound) (over
       inl (subst (All IsGuided) (sym are) (guided_steps bound.ranges bound.cond quiet.0 quiet.1 runnable.in_order))
   steps_quiet plan_kinds.Bottom candidates found steps counts quiet are = inr (bottom_steps_quiet candidates found steps counts quiet are)
 
-  -- the plan of a quiet select has steps that read no edge, since there is one kind of plan and one pair of counts
-  plan_quiet : (kind : PlanKind) (candidates found : Option ℕ) (steps : List StepTree) → AreCountsOver db bound candidates found
-      → IsKindOver db candidates found kind → AreStepsOf db.labels bound kind steps → IsQuietBound db bound → AreQuiet over steps
-  plan_quiet kind candidates found steps counts kind_is are quiet =
+  -- the plan that was made of a quiet select is quiet, since there is one kind of plan and one pair of counts
+  own_quiet : (kind : PlanKind) (candidates found : Option ℕ) → AreCountsOver db bound candidates found
+      → IsKindOver db candidates found kind → IsQuietBound db bound → IsQuietPlan bound kind candidates
+  own_quiet kind candidates found counts kind_is quiet =
       let same = one_counts db bound quiet.candidates quiet.found candidates found quiet.counts counts in
       let alike = one_kind db quiet.candidates quiet.found candidates found quiet.kind kind same.0 same.1 quiet.kind_is kind_is in
-      steps_quiet kind candidates found steps counts
-      (subst (λ (k : PlanKind). IsQuietPlan bound k candidates) alike (subst (IsQuietPlan bound quiet.kind) same.0 quiet.quiet)) are
+      subst (λ (k : PlanKind). IsQuietPlan bound k candidates) alike (subst (IsQuietPlan bound quiet.kind) same.0 quiet.quiet)
+
+  -- by a quiet plan no cell shows a word, or no row is sought
+  cells_quiet : (kind : PlanKind) (candidates found : Option ℕ) (steps : List StepTree) → AreCountsOver db bound candidates found
+      → IsQuietPlan bound kind candidates → over.labels ≡ db.labels → AreStepsOf db.labels bound kind steps → Agrees over db.graph.objects bound
+      → ShowsObjects bound ⊎ ((row : List Oid) → IsSought over.labels over.edges over.passes bound row → ⊥)
+  cells_quiet plan_kinds.Top candidates found steps counts quiet labelled are agrees = absurd quiet
+  cells_quiet plan_kinds.Guided candidates found steps counts quiet labelled are agrees = inl quiet.2
+  cells_quiet plan_kinds.Bottom candidates found steps counts quiet labelled are agrees =
+      inr (none_sought over db.graph.objects bound plan_kinds.Bottom steps
+      (subst (AllPairs (λ a b. a ≢ b)) (sym labelled) counts.apart) runnable
+      (subst (λ (l : List (List ℕ)). AreStepsOf l bound plan_kinds.Bottom steps) (sym labelled) are) agrees
+      (bottom_steps_quiet candidates found steps counts quiet are))
 
 -- what is quiet as a select is quiet as it is bound, since it is bound in one way
 pub bound_quiet : (db : Database) (query : SelectTree) (bound : BoundTree) → IsBinding db.graph.names query bound → IsQuietSelect db query
@@ -121,12 +149,38 @@ module _ {A K V P T : Type 0} (rows : RowsLeft A K V P T) (labels : List (List �
   abbrev over : StepsOver
   over = steps_over labels (edges_of graph) (links_of links) (entries_of values) (reaches_of paths) (passes_of test)
 
-  -- no edge is read for the rows of a quiet select
-  pub quiet_rows : (db : Database) (bound : BoundTree) → IsRunnable bound → AreValueEntries db.graph.objects db.graph.edges (entries_of values)
-      → AreCountsOver db bound plan.candidates plan.found → IsKindOver db plan.candidates plan.found plan.kind → IsPlanOf db.labels bound plan
-      → (AreQuiet over (steps_of rows.plan) → ReadNothing over (steps_of rows.plan) rows.partials)
-      → IsQuietBound db bound → AreQuietLeft edges_of links_of entries_of reaches_of passes_of rows
-  quiet_rows db bound runnable are_entries counts kind_is are read quiet =
-      let steps = plan_quiet db bound runnable over are_entries plan.kind plan.candidates plan.found (steps_of plan) counts kind_is are quiet in
-      let nothing = read (subst (λ (p : Plan). AreQuiet over (steps_of p)) (sym made.6) steps) in
-      rw (made.5, made.0, made.1, made.2, made.3, made.4) nothing
+  abbrev Left : List Oid → Type 0
+  Left = AreLeft edges_of links_of entries_of reaches_of passes_of rows
+
+  module _ (db : Database) (bound : BoundTree) (runnable : IsRunnable bound)
+      (are_entries : AreValueEntries db.graph.objects db.graph.edges (entries_of values))
+      (counts : AreCountsOver db bound plan.candidates plan.found) (kind_is : IsKindOver db plan.candidates plan.found plan.kind)
+      (planned : IsPlanOf db.labels bound plan) (quiet : IsQuietBound db bound) where
+    its_quiet : IsQuietPlan bound plan.kind plan.candidates
+    its_quiet = own_quiet db bound runnable over are_entries plan.kind plan.candidates plan.found counts kind_is quiet
+
+    -- no edge is read for the rows of a quiet select
+    pub quiet_rows : (AreQuiet over (steps_of rows.plan) → ReadNothing over (steps_of rows.plan) rows.partials)
+        → ReadNothing (over_of edges_of links_of entries_of reaches_of passes_of rows) (steps_of rows.plan) rows.partials
+    quiet_rows read =
+        let steps = steps_quiet db bound runnable over are_entries plan.kind plan.candidates plan.found (steps_of plan) counts its_quiet planned in
+        let nothing = read (subst (λ (p : Plan). AreQuiet over (steps_of p)) (sym made.6) steps) in
+        along_parts rows labels graph links values paths test plan made edges_of links_of entries_of reaches_of passes_of
+        (λ kept. ReadNothing kept (steps_of rows.plan) rows.partials) nothing
+
+    -- nor for their cells: they show no word, or no row comes
+    pub quiet_cells : HasNamedStarts db.graph.names bound → labels ≡ db.labels → edges_of graph ≡ db.graph.edges
+        → AreLinks db.graph.edges (links_of links) → Tells db (reaches_of paths)
+        → ((slots : List Oid) → passes_of test slots ↔ HoldsOver db.labels db.graph.edges db.graph.objects slots bound.cond)
+        → ((objects : List (Oid × Value)) → Agrees over objects bound
+        → AreSame (IsSought labels over.edges over.passes bound) (IsToCome over (steps_of rows.plan) rows.partials))
+        → ShowsObjects bound ⊎ ((slots : List Oid) → Left slots → ⊥)
+    quiet_cells starts_named l e are_links tells passes to_come =
+        let agrees = agrees_over db bound over l e passes are_links are_entries starts_named tells in
+        let same = along_parts rows labels graph links values paths test plan made edges_of links_of entries_of reaches_of passes_of
+        (λ kept. AreSame (IsSought labels over.edges over.passes bound) (IsToCome kept (steps_of rows.plan) rows.partials))
+        (to_come db.graph.objects agrees) in
+        elim (cells_quiet db bound runnable over are_entries plan.kind plan.candidates plan.found (steps_of plan) counts its_quiet l planned agrees) [
+          | inl objects ↦ inl objects
+          | inr none ↦ inr (λ slots left. none slots ((same slots).0 left))
+        ]

@@ -1,8 +1,8 @@
 -- A statement that is executed over a select is refused for what the select is refused for.
-use Rattle.std.proofs.Common.{◌≡◌, ◌≢◌, ◌↔◌, inl, inr, Bool, true, false, if◌then◌else◌, true≢false, ◌<◌, ◌≤◌, List, [], ◌∷◌, length, Option, Some, None, AllPairs, All, refl, sym, ap, subst, ◌∙◌, arith}
+use Rattle.std.proofs.Common.{◌≡◌, ◌≢◌, ◌↔◌, inl, inr, true, true≢false, List, [], ◌∷◌, Option, Some, None, AllPairs, All, sym, subst, ◌∙◌, arith}
 use Rattle.std.specs.Prelude.{MatchOption}
 use Rattle.std.specs.List.{Contains}
-use Rattle.graph_search.proofs.SumLaws.{length-within}
+use Rattle.graph_search.proofs.SumLaws.{sum_by-within, length-within}
 use Rattle.lore_base.specs.Databases.{Database}
 use Rattle.lore_base.specs.Verdicts.{IsClear, IsToldBy}
 use Rattle.lorel_trees.specs.Trees.{SelectTree, StatementTree}
@@ -11,52 +11,47 @@ use Rattle.lorel_bind.specs.Refusals as binding
 use Rattle.lorel_bind.specs.Refusals.{IsAccepted}
 use Rattle.lorel_bind.proofs.AnswerLaws.{has_one_answer}
 use Rattle.lorel_bind.proofs.SomeAnswerLaws.{has_some_answer}
-use Rattle.lore_db.specs.Types.{Oid, Refusal, ROWS}
+use Rattle.answers.specs.Answers.{row_labels, IsTooMuch}
+use Rattle.lore_db.specs.Types.{Cell, Refusal}
 use Rattle.lore_db.specs.Types.refusals
-use Rattle.lore_db.specs.Built.{reads, binds, has_path_variable, is_bound, is_built}
+use Rattle.lore_db.specs.Built.{reads, binds, is_built}
 use Rattle.lore_db.specs.Statements.{IsUnbound, OfBinds, HasTooManyRows, Cause}
 use Rattle.lore_db.specs.inside.Stages.{ReadCause, bind_order, read_order, found_order}
 use Rattle.lore_db.proofs.OrderLaws.{AreAlike, told_between, clear_between, clear_alike, told_alike}
 use Rattle.lore_db.proofs.LiveRowLaws.{starts_somewhere}
 
--- ---- answers that are too long
--- an answer that is not too long is the one answer
-pub few_rows : (db : Database) (query : SelectTree) (rows : List (List Oid)) → IsAnswer db query rows → length rows ≤ ROWS → HasTooManyRows db query → ⊥
-few_rows db query rows answer few many =
-    let same = has_one_answer db query many.0 rows many.1 answer in
-    let more : ROWS < length rows = subst (λ (l : List (List Oid)). ROWS < length l) same many.2 in
-    omega (arith, more, few)
+-- ---- answers that are too much
+-- an answer that is not too much is the one answer
+pub few_rows : (db : Database) (query : SelectTree) (rows : List (List Cell)) → IsAnswer db query rows → (IsTooMuch rows → ⊥)
+    → HasTooManyRows db query → ⊥
+few_rows db query rows answer few many = few (subst IsTooMuch (has_one_answer db query many.0 rows many.1 answer) many.2)
 
--- the answer is as long as any list of different rows of it
-pub many_rows : (db : Database) (query : SelectTree) (rows : List (List Oid)) → IsAccepted db.graph.names query → AllPairs (λ a b. a ≢ b) rows
-    → ((answer : List (List Oid)) → IsAnswer db query answer → All (Contains answer) rows) → ROWS < length rows → HasTooManyRows db query
+-- different rows of an answer are no longer than it is, and have no more labels
+within_answer : (rows answer : List (List Cell)) → AllPairs (λ a b. a ≢ b) rows → All (Contains answer) rows → IsTooMuch rows → IsTooMuch answer
+within_answer rows answer apart there (inl many) = let fits = length-within rows answer apart there in inl (omega (arith, many, fits))
+within_answer rows answer apart there (inr many) =
+    let fits = sum_by-within row_labels rows answer apart there in inr (omega (arith, many, fits))
+
+pub many_rows : (db : Database) (query : SelectTree) (rows : List (List Cell)) → IsAccepted db.graph.names query → AllPairs (λ a b. a ≢ b) rows
+    → ((answer : List (List Cell)) → IsAnswer db query answer → All (Contains answer) rows) → IsTooMuch rows → HasTooManyRows db query
 many_rows db query rows accepted apart there many =
     let answer = has_some_answer db query (starts_somewhere db.graph.names query accepted.0 accepted.1.0) in
-    let fits = length-within rows answer.0 apart (there answer.0 answer.1) in
-    (answer.0, answer.1, omega (arith, many, fits))
+    (answer.0, answer.1, within_answer rows answer.0 apart (there answer.0 answer.1) many)
 
--- ---- path variables
-unread : (test : Bool) → (if test then false else true) ≡ false → test ≡ true
-unread true h = refl
-unread false h = absurd (true≢false h)
+-- ---- binding
+pub bind_told : (db : Database) (query : SelectTree) (told : Option Refusal) → IsToldBy (binding.Cause db.graph.names query) binding.order told
+    → IsToldBy (ReadCause db query) bind_order told
+bind_told db query None h = tt
+bind_told db query (Some refusal) h = inr (λ none. none, h)
 
--- the refusal of a select with a path variable
-pub variable_told : (db : Database) (query : SelectTree) → has_path_variable query ≡ true → IsToldBy (ReadCause db query) bind_order (Some refusals.Syntax)
-variable_told db query some = inl (some, refl)
-
-module _ (db : Database) (query : SelectTree) (none : has_path_variable query ≡ false) where
-  pub bind_told : (told : Option Refusal) → IsToldBy (binding.Cause db.graph.names query) binding.order told → IsToldBy (ReadCause db query) bind_order told
-  bind_told None h = tt
-  bind_told (Some refusal) h = inr (λ some. true≢false (sym some ∙ none), h)
-
-  pub bind_clear : IsAccepted db.graph.names query → IsClear (ReadCause db query) bind_order
-  bind_clear accepted = (λ some. true≢false (sym some ∙ none), accepted)
+pub bind_clear : (db : Database) (query : SelectTree) → IsAccepted db.graph.names query → IsClear (ReadCause db query) bind_order
+bind_clear db query accepted = (λ none. none, accepted)
 
 pub accepted_from : (db : Database) (query : SelectTree) → IsClear (ReadCause db query) bind_order → IsAccepted db.graph.names query
 accepted_from db query clear = clear.1
 
 -- ---- the statement
-module _ (db : Database) (statement : StatementTree) (query : SelectTree) (built : is_built statement ≡ is_bound (Some query))
+module _ (db : Database) (statement : StatementTree) (query : SelectTree) (built : is_built statement ≡ true)
     (bound_select : binds statement ≡ Some query) (named : IsUnbound db statement → ⊥) where
   of_binds : (Has : SelectTree → Type 0) → Has query ↔ OfBinds statement Has
   of_binds Has = (
@@ -65,10 +60,7 @@ module _ (db : Database) (statement : StatementTree) (query : SelectTree) (built
   )
 
   same_syntax : ReadCause db query refusals.Syntax ↔ Cause db statement refusals.Syntax
-  same_syntax = (
-    λ some. built ∙ ap (λ b. if b then false else true) some,
-    λ fails. unread (has_path_variable query) (sym built ∙ fails),
-  )
+  same_syntax = (λ none. absurd none, λ unbuilt. true≢false (sym built ∙ unbuilt))
 
   same_name : ReadCause db query refusals.UnknownName ↔ Cause db statement refusals.UnknownName
   same_name =

@@ -1,43 +1,28 @@
 -- What stands in slots, which row their cells show, and what changes of it with more slots behind them: nothing.
-use Rattle.std.proofs.Common.{◌≡◌, ℕ, zero, suc, ◌-◌, ◌<◌, ◌↔◌, List, [], ◌∷◌, ◌++◌, length, replicate, Option, Some, None, All, subst, refl, sym, ◌∙◌, arith}
+use Rattle.std.proofs.Common.{◌≡◌, ℕ, zero, suc, ◌+◌, ◌-◌, ◌<◌, ◌≤◌, ◌↔◌, List, [], ◌∷◌, ◌++◌, length, replicate, Option, Some, None, All, subst, refl, sym, ◌∙◌, arith}
 use Rattle.std.specs.List.{Contains, AllZip, slice_get}
 use Rattle.std.specs.Option.{MatchOption}
 use Rattle.std.proofs.lemmas.List.Elements.{All-head, All-tail, All-contains}
-use Rattle.std.proofs.lemmas.Option.{same_Some}
+use Rattle.std.proofs.lemmas.Option.{same_Some, slice_get_within}
 use Rattle.lore_base.specs.Walks.{oid_of}
 use Rattle.lore_base.specs.Comparisons.{Compares}
 use Rattle.lore_base.specs.Databases.{Database}
 use Rattle.lore_base.specs.Paths.{Reaches}
 use Rattle.lorel_bind.specs.declared.bound.BoundStart.{BoundStart}
 use Rattle.lorel_bind.specs.declared.bound.BoundStart.TheVariants as bound_starts
-use Rattle.lorel_bind.specs.Bound.{BoundPathTree, BoundTree}
+use Rattle.lorel_bind.specs.Bound.{RangeTree, BoundPathTree, BoundTree}
 use Rattle.lorel_bind.specs.Conditions.{CondOf, paths_of, paths_in}
-use Rattle.lorel_bind.specs.Bindings.{IsWithin, IsBoundWithin, IsRunnable}
-use Rattle.lorel_bind.specs.SlotRows.{StartsAt, BoundStartsAt, MeetsBy, HoldsOver, AreFilled, IsSlotRow}
+use Rattle.lorel_bind.specs.Bindings.{IsWithin, IsCellWithin, AreInOrder, IsBoundWithin, IsRunnable}
+use Rattle.lorel_bind.specs.SlotRows.{StartsAt, BoundStartsAt, MeetsBy, HoldsOver, AreFilled, IsSlotWord, ShowsSlot, IsSlotRow}
 use Rattle.lorel_bind.proofs.ConditionLaws.{ReachAlike, holds_like, like_itself}
 use Rattle.lorel_bind.proofs.ListLaws.{AllZip-length}
 use Rattle.plan_ops.specs.Steps.{in_eight, IsSought}
-use Rattle.lore_db.specs.Types.{Oid, Edge, Value, Start, RANGES}
+use Rattle.answers.specs.Asked.{ShowsRow, ShowsAsked}
+use Rattle.answers.specs.Types.{CellOf}
+use Rattle.answers.specs.Types.shown
+use Rattle.lore_db.specs.Types.{Oid, Label, Edge, Value, Start, Cell, RANGES}
 use Rattle.lore_db.specs.Types.starts
-use Rattle.lore_db.specs.inside.Finding.{ShowsCells}
-
--- ---- the object of a start
--- a start has one object
-one_start : (slots : List Oid) (start : Start) (a b : Oid) → StartsAt slots start a → StartsAt slots start b → a ≡ b
-one_start slots (starts.Named own) a b first second = sym first ∙ second
-one_start slots (starts.Slot slot) a b first second = same_Some a b (sym first ∙ second)
-
--- and so cells show one row
-pub one_row : (slots : List Oid) (cells : List Start) (row other : List Oid) → AllZip (StartsAt slots) cells row → AllZip (StartsAt slots) cells other → row ≡ other
-one_row slots [] [] [] first second = refl
-one_row slots [] (oid ∷ row) other first second = absurd first
-one_row slots [] [] (oid ∷ other) first second = absurd second
-one_row slots (cell ∷ cells) [] other first second = absurd first
-one_row slots (cell ∷ cells) (oid ∷ row) [] first second = absurd second
-one_row slots (cell ∷ cells) (a ∷ row) (b ∷ other) first second =
-    let same = one_start slots cell a b first.0 second.0 in
-    let others = one_row slots cells row other first.1 second.1 in
-    cc
+use Rattle.lore_db.specs.Types.cells
 
 -- ---- more slots behind
 slice_get-front : {X : Type 0} (xs ys : List X) (k : ℕ) → k < length xs → slice_get (xs ++ ys) k ≡ slice_get xs k
@@ -53,16 +38,70 @@ starts_in_front slots more count (starts.Slot slot) oid long within =
     let same = slice_get-front slots more slot (omega (arith, within, long)) in
     (λ h. sym same ∙ h, λ h. same ∙ h)
 
--- and so nothing of the row that cells show
-shown_in_front : (slots more : List Oid) (count : ℕ) (cells : List Start) (row : List Oid) → length slots ≡ count → All (IsWithin count) cells
-    → AllZip (StartsAt (slots ++ more)) cells row ↔ AllZip (StartsAt slots) cells row
-shown_in_front slots more count [] [] long within = (λ h. h, λ h. h)
-shown_in_front slots more count [] (oid ∷ row) long within = (λ h. h, λ h. h)
-shown_in_front slots more count (cell ∷ cells) [] long within = (λ h. h, λ h. h)
-shown_in_front slots more count (cell ∷ cells) (oid ∷ row) long within =
-    let first = starts_in_front slots more count cell oid long (All-head (IsWithin count) cell cells within) in
-    let others = shown_in_front slots more count cells row long (All-tail (IsWithin count) cell cells within) in
-    (λ h. (first.0 h.0, others.0 h.1), λ h. (first.1 h.0, others.1 h.1))
+-- each range starts at an object, or at a slot of a range
+within_more : (low high : ℕ) (start : Start) → low ≤ high → IsWithin low start → IsWithin high start
+within_more low high (starts.Named own) more within = tt
+within_more low high (starts.Slot slot) more within = omega (arith, more, within)
+
+starts_within : (count earlier : ℕ) (ranges : List RangeTree) (slot : ℕ) (range : RangeTree) → earlier + length ranges ≤ count
+    → AreInOrder earlier ranges → slice_get ranges slot ≡ Some range → IsWithin count range.start
+starts_within count earlier [] slot range few order there =
+    let below = slice_get_within [] slot range there in absurd (omega (arith, below))
+starts_within count earlier (first ∷ ranges) zero range few order there =
+    subst (λ (r : RangeTree). IsWithin count r.start) (same_Some first range there)
+    (within_more earlier count first.start (omega (arith, few)) order.0)
+starts_within count earlier (first ∷ ranges) (suc slot) range few order there =
+    starts_within count (suc earlier) ranges slot range (omega (arith, few)) order.1 there
+
+module _ (labels : List (List ℕ)) (edges : List Edge) (ranges : List RangeTree) (slots more : List Oid)
+    (long : length slots ≡ length ranges) where
+  -- and so nothing of the word of a slot
+  word_in_front : AreInOrder 0 ranges → (slot : ℕ) (own : List Label)
+      → IsSlotWord labels edges ranges (slots ++ more) slot own ↔ IsSlotWord labels edges ranges slots slot own
+  word_in_front order slot own =
+      let begin = λ (range : RangeTree) (there : slice_get ranges slot ≡ Some range) (start : Oid).
+      starts_in_front slots more (length ranges) range.start start long
+      (starts_within (length ranges) 0 ranges slot range (omega arith) order there) in
+      let end = λ (range : RangeTree) (there : slice_get ranges slot ≡ Some range).
+      (let below = slice_get_within ranges slot range there in slice_get-front slots more slot (omega (arith, below, long))) in (
+        λ h. record {
+          range = h.range;
+          there = h.there;
+          start = h.start;
+          begins = (begin h.range h.there h.start).0 h.begins;
+          oid = h.oid;
+          ends = sym (end h.range h.there) ∙ h.ends;
+          least = h.least;
+        },
+        λ h. record {
+          range = h.range;
+          there = h.there;
+          start = h.start;
+          begins = (begin h.range h.there h.start).1 h.begins;
+          oid = h.oid;
+          ends = end h.range h.there ∙ h.ends;
+          least = h.least;
+        },
+      )
+
+  -- nor of what a cell shows
+  cell_in_front : AreInOrder 0 ranges → (cell : CellOf) (own : Cell) → IsCellWithin (length ranges) cell
+      → ShowsSlot labels edges ranges (slots ++ more) cell own ↔ ShowsSlot labels edges ranges slots cell own
+  cell_in_front order (shown.Object start) (cells.Object oid) within = starts_in_front slots more (length ranges) start oid long within
+  cell_in_front order (shown.Object start) (cells.Path own) within = (λ h. h, λ h. h)
+  cell_in_front order (shown.PathOf slot) (cells.Object oid) within = (λ h. h, λ h. h)
+  cell_in_front order (shown.PathOf slot) (cells.Path own) within = word_in_front order slot own
+
+  -- nor of the row that cells show
+  shown_in_front : AreInOrder 0 ranges → (all : List CellOf) (row : List Cell) → All (IsCellWithin (length ranges)) all
+      → AllZip (ShowsSlot labels edges ranges (slots ++ more)) all row ↔ AllZip (ShowsSlot labels edges ranges slots) all row
+  shown_in_front order [] [] within = (λ h. h, λ h. h)
+  shown_in_front order [] (own ∷ row) within = (λ h. h, λ h. h)
+  shown_in_front order (cell ∷ all) [] within = (λ h. h, λ h. h)
+  shown_in_front order (cell ∷ all) (own ∷ row) within =
+      let first = cell_in_front order cell own (All-head (IsCellWithin (length ranges)) cell all within) in
+      let others = shown_in_front order all row (All-tail (IsCellWithin (length ranges)) cell all within) in
+      (λ h. (first.0 h.0, others.0 h.1), λ h. (first.1 h.0, others.1 h.1))
 
 -- ---- the condition, of slots with more behind them and of these alone
 slots_alike : (labels : List (List ℕ)) (edges : List Edge) (slots more : List Oid) (path : BoundPathTree) → IsBoundWithin (length slots) path.start
@@ -97,7 +136,8 @@ passed_holds (Some own) Passes Has same = same
 -- what the cells show of them are the rows of the bound select
 pub sought_rows : (db : Database) (bound : BoundTree) (passes : List Oid → Type 0) → IsRunnable bound
     → ((slots : List Oid) → passes slots ↔ HoldsOver db.labels db.graph.edges db.graph.objects slots bound.cond)
-    → (row : List Oid) → ShowsCells (IsSought db.labels db.graph.edges passes bound) bound.cells row ↔ IsSlotRow db bound row
+    → (row : List Cell)
+    → ShowsAsked db.labels db.graph.edges bound (IsSought db.labels db.graph.edges passes bound) row ↔ IsSlotRow db bound row
 sought_rows db bound passes runnable same row =
     let Holds : List Oid → Type 0 = λ slots. HoldsOver db.labels db.graph.edges db.graph.objects slots bound.cond in
     let behind : List Oid → List Oid = λ slots. replicate (RANGES - length slots) (oid_of 0) in
@@ -107,7 +147,8 @@ sought_rows db bound passes runnable same row =
     holds_in_front db.labels db.graph.edges db.graph.objects slots (behind slots) bound.cond
     (subst (λ (n : ℕ). All (λ path. IsBoundWithin n path.start) (paths_in bound.cond)) (sym (long slots filled)) runnable.condition_within) in
     let show = λ (slots : List Oid) (filled : AreFilled db.labels db.graph.edges bound.ranges slots).
-    shown_in_front slots (behind slots) (length bound.ranges) bound.cells row (long slots filled) runnable.cells_within in
+    shown_in_front db.labels db.graph.edges bound.ranges slots (behind slots) (long slots filled) runnable.in_order bound.cells row
+    runnable.cells_within in
     let passed = λ (slots : List Oid). passed_holds bound.cond (passes slots) _ (same slots) in (
       λ h.
           let sought = h.1 in
@@ -115,7 +156,8 @@ sought_rows db bound passes runnable same row =
             slots = sought.slots;
             filled = sought.filled;
             holds = (alike sought.slots sought.filled).0 (subst Holds sought.is ((passed h.0).0 sought.passed));
-            shown = (show sought.slots sought.filled).0 (subst (λ (s : List Oid). AllZip (StartsAt s) bound.cells row) sought.is h.2);
+            shown = (show sought.slots sought.filled).0
+                (subst (λ (s : List Oid). ShowsRow db.labels db.graph.edges bound s row) sought.is h.2);
           },
       λ h. (
         in_eight h.slots,

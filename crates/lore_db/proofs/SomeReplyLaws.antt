@@ -1,8 +1,8 @@
 -- From each valid database a sound statement has a reply, and leaves a valid one.
 use Rattle.std.proofs.Common.{◌≡◌, ◌≢◌, ℕ, ◌+◌, ◌<◌, ◌≤◌, inl, inr, Bool, true, false, true≢false, List, [], ◌∷◌, ◌++◌}
-use Rattle.std.proofs.Common.{length, Option, Some, None, refl, sym, subst}
+use Rattle.std.proofs.Common.{length, map, sum_by, Option, Some, None, refl, sym, subst}
 use Rattle.std.specs.Prelude.{ℤ, MatchOption}
-use Rattle.std.proofs.lemmas.Bool.{cases_eq, cases_lt}
+use Rattle.std.proofs.lemmas.Bool.{cases_Bool, cases_eq, cases_lt}
 use Rattle.lore_base.specs.Databases.{OemGraph, Database, IsValid, new_database}
 use Rattle.lore_base.specs.TargetSets.{AreMoreThan}
 use Rattle.lore_base.specs.ChangeSets.{Fits, IsGraphAfter}
@@ -30,11 +30,13 @@ use Rattle.lorel_bind.proofs.AnswerLaws.{has_one_answer}
 use Rattle.lorel_bind.proofs.SomeAnswerLaws.{has_some_answer}
 use Rattle.lorel_bind.proofs.RefusalLaws.{has_some_verdict}
 use Rattle.oem_text.specs.Literals.{HasDouble, HasUndefined}
-use Rattle.lore_db.specs.Types.{Oid, Mode, Changes, Refusal, LABELS, NAMES, OBJECTS, EDGES, NEXT_NUMBER, ROWS, Reply, Changed}
+use Rattle.answers.specs.Types.{ROWS, PATH_LABELS}
+use Rattle.answers.specs.Answers.{row_labels, IsTooMuch}
+use Rattle.lore_db.specs.Types.{Oid, Cell, Mode, Changes, Refusal, LABELS, NAMES, OBJECTS, EDGES, NEXT_NUMBER, Reply, Changed}
 use Rattle.lore_db.specs.Types.{Rows, Lines, Refused}
 use Rattle.lore_db.specs.Types.refusals
 use Rattle.lore_db.specs.Built.{reads, binds, makes, path_select, makes_changes, is_built}
-use Rattle.lore_db.specs.Statements.{AreRowsOf, effects, IsUnbound, HasTooManyRows, IsNotOne, IsOutOfRange, ChangesCause, OfBinds, OfReads}
+use Rattle.lore_db.specs.Statements.{object_cells, AreRowsOf, effects, IsUnbound, HasTooManyRows, IsNotOne, IsOutOfRange, ChangesCause, OfBinds, OfReads}
 use Rattle.lore_db.specs.Statements.{Cause, order, LeadsOn, Performs, Executes}
 use Rattle.lorel_trees.specs.Sound.{IsSound}
 use Rattle.lore_db.specs.StatementLaws.{ExecutesAlways}
@@ -44,7 +46,9 @@ use Rattle.lore_db.proofs.LocalToldLaws.{told_double, told_undefined}
 use Rattle.lore_db.proofs.LiveRowLaws.{starts_somewhere}
 use Rattle.lore_db.proofs.EffectLaws.{effects_fit}
 use Rattle.lore_db.proofs.SomePlanLaws.{some_plan}
-use Rattle.lore_db.proofs.CauseLaws.{sizes, range, over_rows}
+use Rattle.lore_db.proofs.ObjectRowLaws.{answer_objects, changing_shows}
+use Rattle.lore_db.proofs.CauseLaws.{early, sizes, range, over_rows}
+use Rattle.lore_db.proofs.QuietLaws.{no_changes}
 use Rattle.lore_db.proofs.GuideStatementLaws.{GivesLimit, told_no_limit, some_limit}
 
 -- the order in stages: what is told of the text, where the last are told of a select and of a literal; of rows and the
@@ -98,39 +102,50 @@ read_binds : (statement : StatementTree) (Has : SelectTree → Type 0) → OfRea
 read_binds (explain query) Has h = absurd h
 read_binds statement Has h = h
 
-some_rows : (db : Database) (statement : StatementTree) → (Cause db statement refusals.UnknownName → ⊥)
-    → (Cause db statement refusals.UnknownVariable → ⊥)
+-- what is read has an answer
+some_read : (db : Database) (statement : StatementTree) → (Cause db statement refusals.UnknownName → ⊥)
+    → (Cause db statement refusals.UnknownVariable → ⊥) → (query : SelectTree) → reads statement ≡ Some query
+    → (rows : List (List Cell)) × IsAnswer db query rows
+some_read db statement known ranged query reading =
+    let of = λ (Has : SelectTree → Type 0) (has : Has query).
+    read_binds statement Has (subst (λ (o : Option SelectTree). MatchOption o ⊥ Has) (sym reading) has) in
+    has_some_answer db query (starts_somewhere db.graph.names query
+    (λ h. known (inr (of (HasUnknownName db.graph.names) h))) (λ h. ranged (of (HasUnknownVariable db.graph.names) h)))
+
+-- where changes are made it is rows of objects
+some_rows : (db : Database) (statement : StatementTree) → makes_changes statement ≡ true
+    → (Cause db statement refusals.UnknownName → ⊥) → (Cause db statement refusals.UnknownVariable → ⊥)
     → (rows : List (List Oid)) × AreRowsOf db statement rows
-some_rows db statement known ranged =
+some_rows db statement changing known ranged =
     elim (reads statement)
-    as (λ read. (MatchOption read ⊥ (HasUnknownName db.graph.names) → ⊥)
-    → (MatchOption read ⊥ (HasUnknownVariable db.graph.names) → ⊥)
-    → (rows : List (List Oid)) × MatchOption read (rows ≡ []) (λ query. IsAnswer db query rows)) [
-      | None ↦ λ named varied. ([], refl)
-      | Some query ↦ λ named varied. has_some_answer db query (starts_somewhere db.graph.names query named varied)
-    ] (λ h. known (inr (read_binds statement (HasUnknownName db.graph.names) h)))
-    (λ h. ranged (read_binds statement (HasUnknownVariable db.graph.names) h))
+    as (λ read. reads statement ≡ read → (rows : List (List Oid)) × MatchOption read (rows ≡ []) (λ query. IsAnswer db query (map object_cells rows))) [
+      | None ↦ λ reading. ([], refl)
+      | Some query ↦ λ reading. (
+          let answer = some_read db statement known ranged query reading in
+          let found = answer_objects db query (changing_shows statement changing query reading) answer.0 answer.1 in
+          (found.0, subst (IsAnswer db query) found.1 answer.1))
+    ] refl
 
 -- ---- what is told of the rows
-told_many_rows : (db : Database) (statement : StatementTree) (rows : List (List Oid)) → AreRowsOf db statement rows
-    → IsTold (OfReads statement (HasTooManyRows db))
-told_many_rows db statement rows =
-    elim (reads statement)
-    as (λ read. MatchOption read (rows ≡ []) (λ query. IsAnswer db query rows)
-    → IsTold (MatchOption read ⊥ (HasTooManyRows db))) [
-      | None ↦ λ are. inr (λ h. h)
-      | Some query ↦ λ are. told_same (λ many. (rows, are, many))
-          (λ h. subst (λ (l : List (List Oid)). ROWS < length l) (has_one_answer db query h.0 rows h.1 are) h.2)
-          (told_below ROWS (length rows))
-    ]
+told_many_rows : (db : Database) (statement : StatementTree) → (Cause db statement refusals.UnknownName → ⊥)
+    → (Cause db statement refusals.UnknownVariable → ⊥) → IsTold (OfReads statement (HasTooManyRows db))
+told_many_rows db statement known ranged =
+    elim (reads statement) as (λ read. reads statement ≡ read → IsTold (MatchOption read ⊥ (HasTooManyRows db))) [
+      | None ↦ λ reading. inr (λ h. h)
+      | Some query ↦ λ reading. (
+          let answer = some_read db statement known ranged query reading in
+          told_same (λ many. (answer.0, answer.1, many))
+          (λ (h : HasTooManyRows db query). subst IsTooMuch (has_one_answer db query h.0 answer.0 h.1 answer.1) h.2)
+          (told_either (told_below ROWS (length answer.0)) (told_below PATH_LABELS (sum_by row_labels answer.0))))
+    ] refl
 
 told_not_one : (db : Database) (statement : StatementTree) (rows : List (List Oid)) → AreRowsOf db statement rows
     → IsTold (IsNotOne db statement)
 told_not_one db (bind name path) rows are =
-    let Other = λ (l : List (List Oid)). length l ≢ 1 in
-    told_same (λ other. (rows, are, other))
-    (λ h. subst Other (has_one_answer db (path_select path) h.0 rows h.1 are) h.2)
-    (told_not (cases_eq (length rows) 1))
+    let Other = λ (l : List (List Cell)). length l ≢ 1 in
+    told_same (λ other. (map object_cells rows, are, other))
+    (λ h. subst Other (has_one_answer db (path_select path) h.0 (map object_cells rows) h.1 are) h.2)
+    (told_not (cases_eq (length (map object_cells rows)) 1))
 told_not_one db statement rows are = inr (λ h. h)
 
 -- of changes it is told with any list of the rows
@@ -186,9 +201,10 @@ module _ (db : Database) (valid : IsValid db) (statement : StatementTree) (forme
           ),
         )
 
-    told_rows : AreTold (Cause db statement) row_order
-    told_rows = (
-      told_many_rows db statement rows are,
+    told_rows : (Cause db statement refusals.UnknownName → ⊥) → (Cause db statement refusals.UnknownVariable → ⊥)
+        → AreTold (Cause db statement) row_order
+    told_rows known ranged = (
+      told_many_rows db statement known ranged,
       λ short. (
         told_not_one db statement rows are,
         λ one. (
@@ -209,8 +225,18 @@ module _ (db : Database) (valid : IsValid db) (statement : StatementTree) (forme
 
     told_behind : IsClear (Cause db statement) text_order → AreTold (Cause db statement) (row_order ++ limit_order)
     told_behind clear =
-        told_append (Cause db statement) row_order limit_order told_rows
+        told_append (Cause db statement) row_order limit_order (told_rows clear.1.0 clear.1.1.0)
         (λ behind. told_limits (clear_both (Cause db statement) text_order row_order clear behind))
+
+  -- what makes no changes is refused for none
+  told_still : makes_changes statement ≡ false → IsClear (Cause db statement) text_order
+      → AreTold (Cause db statement) (row_order ++ limit_order)
+  told_still still clear = (
+    told_many_rows db statement clear.1.0 clear.1.1.0,
+    λ few. told_append (Cause db statement) (refusals.NotOne ∷ (early ++ sizes)) range
+        (told_from_verdict (Cause db statement) (refusals.NotOne ∷ (early ++ sizes)) (inl (no_changes db statement still)))
+        (λ unchanged. (told_range db statement, λ within. tt)),
+  )
 
   -- ---- what is told of all
   told_text : AreTold (Cause db statement) text_order
@@ -229,8 +255,10 @@ module _ (db : Database) (valid : IsValid db) (statement : StatementTree) (forme
 
   told_order : AreTold (Cause db statement) order
   told_order = told_append (Cause db statement) text_order (row_order ++ limit_order) told_text (λ clear.
-      let found = some_rows db statement clear.1.0 clear.1.1.0 in
-      told_behind found.0 found.1 clear)
+      elim (cases_Bool (makes_changes statement)) [
+        | inl changing ↦ (let found = some_rows db statement changing clear.1.0 clear.1.1.0 in told_behind found.0 found.1 clear)
+        | inr still ↦ told_still still clear
+      ])
 
   -- ---- what is done where nothing refuses
   at_most : (count limit : ℕ) → (limit < count → ⊥) → count ≤ limit
@@ -290,7 +318,7 @@ some_changed : (db : Database) → IsValid db → (statement : StatementTree) �
     → makes_changes statement ≡ true → IsClear (Cause db statement) order
     → (reply : Reply) × (after : Database) × LeadsOn db statement reply after × IsValid after
 some_changed db valid statement formed changing clear =
-    let found = some_rows db statement clear.1.0 clear.1.1.0 in
+    let found = some_rows db statement changing clear.1.0 clear.1.1.0 in
     let limits = clear_right (Cause db statement) fit_order limit_order clear in
     let fits = effects_fit db valid statement formed found.0 found.1
     (clear_left (Cause db statement) fit_order limit_order clear) in
@@ -303,7 +331,7 @@ some_performed : (db : Database) → IsValid db → (statement : StatementTree) 
     → IsClear (Cause db statement) order
     → (reply : Reply) × (after : Database) × Performs db statement reply after × IsValid after
 some_performed db valid (select query) formed clear =
-    let found = some_rows db (select query) clear.1.0 clear.1.1.0 in
+    let found = some_read db (select query) clear.1.0 clear.1.1.0 query refl in
     (Rows found.0, db, (refl, (found.0, refl, found.1)), valid)
 some_performed db valid (explain query) formed clear =
     let accepted : IsAccepted db.graph.names query = (λ unknown. clear.1.0 (inr unknown), (clear.1.1.0, (clear.1.1.1.0, (clear.1.1.1.1.0, tt)))) in

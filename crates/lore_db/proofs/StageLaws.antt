@@ -17,11 +17,10 @@ use Rattle.lorel_eval.specs.Tests.{CondOver}
 use Rattle.plan_ops.specs.Types.{Plan}
 use Rattle.plan_ops.specs.Steps.{StepsOver, steps_over, IsSought, IsStartOf, Agrees}
 use Rattle.plan_ops.specs.Rows.{RowsLeft, IsToCome, AreSame}
-use Rattle.lore_db.specs.Types.{Oid, Edge, Value, ValueEntry, Start}
+use Rattle.answers.specs.Asked.{ShowsAsked, AreRows, AreTooMany}
+use Rattle.answers.proofs.FoundLaws.{asked_rows, too_many_asked}
+use Rattle.lore_db.specs.Types.{Oid, Edge, Value, ValueEntry, Cell}
 use Rattle.lore_db.specs.inside.Starts.{IsNamedStart, HasNamedStarts}
-use Rattle.lore_db.specs.inside.Finding.{ShowsCells, AreRows, AreTooMany}
-use Rattle.lore_db.proofs.FoundLaws.{asked_rows, too_many_asked}
-use Rattle.lore_db.proofs.RowLaws.{over_of, AreLeft}
 use Rattle.lore_db.proofs.SlotLaws.{sought_rows}
 
 -- what holds of a value that there is holds
@@ -31,16 +30,16 @@ on_ok (Err error) Has Holds gives h = tt
 
 -- ---- rows that a plan found
 -- cells show the same of slots that are the same
-shows_alike : (P Q : List Oid → Type 0) (cells : List Start) → ((slots : List Oid) → P slots ↔ Q slots)
-    → (row : List Oid) → ShowsCells P cells row ↔ ShowsCells Q cells row
-shows_alike P Q cells same row =
+shows_alike : (labels : List (List ℕ)) (edges : List Edge) (bound : BoundTree) (P Q : List Oid → Type 0) → ((slots : List Oid) → P slots ↔ Q slots)
+    → (row : List Cell) → ShowsAsked labels edges bound P row ↔ ShowsAsked labels edges bound Q row
+shows_alike labels edges bound P Q same row =
     (λ h. (h.0, (same h.0).0 h.1, h.2), λ h. (h.0, (same h.0).1 h.1, h.2))
 
 -- all that is asked for, or too much of it, in other words
-abbrev Answered : (List Oid → Type 0) → Option (List (List Oid)) → Type 0
+abbrev Answered : (List Cell → Type 0) → Option (List (List Cell)) → Type 0
 Answered IsAsked answer = MatchOption answer (AreTooMany IsAsked) (AreRows IsAsked)
 
-answered_alike : (P Q : List Oid → Type 0) → ((row : List Oid) → P row ↔ Q row) → (answer : Option (List (List Oid)))
+answered_alike : (P Q : List Cell → Type 0) → ((row : List Cell) → P row ↔ Q row) → (answer : Option (List (List Cell)))
     → Answered P answer → Answered Q answer
 answered_alike P Q same None many = too_many_asked P Q (λ row. (same row).0) many
 answered_alike P Q same (Some rows) all = asked_rows P Q rows same all
@@ -63,7 +62,7 @@ module _ (db : Database) where
   passes_alike test labels graph cond l g tl te to tc slots = rw (tl, te, to, tc, l, g) (λ h. h, λ h. h)
 
   -- what paths reach from named objects is told
-  abbrev Tells : (PathTree → Oid → Oid → Type 0) → Type 0
+  abbrev pub Tells : (PathTree → Oid → Oid → Type 0) → Type 0
   Tells Told =
       (name : List ℕ) (named : Oid) → Contains db.graph.names (name, named) → (path : PathTree) (oid : Oid)
       → Told path named oid ↔ Reaches db.labels db.graph.edges path named oid
@@ -76,7 +75,7 @@ module _ (db : Database) where
   -- links, value entries, guide and test of a database agree
   module _ (bound : BoundTree) (over : StepsOver) (labels : over.labels ≡ db.labels) (edges : over.edges ≡ db.graph.edges)
       (passes : (slots : List Oid) → over.passes slots ↔ HoldsOver db.labels db.graph.edges db.graph.objects slots bound.cond) where
-    agrees_over : AreLinks db.graph.edges over.links → AreValueEntries db.graph.objects db.graph.edges over.entries
+    pub agrees_over : AreLinks db.graph.edges over.links → AreValueEntries db.graph.objects db.graph.edges over.entries
         → HasNamedStarts db.graph.names bound → Tells over.reaches → Agrees over db.graph.objects bound
     agrees_over links entries starts_named tells = record {
       links = rw edges links.exact;
@@ -88,12 +87,22 @@ module _ (db : Database) where
 
     -- the cells of the rows that are to come show the rows of the bound select
     shown_rows : IsRunnable bound → (IsToCome : List Oid → Type 0) → AreSame (IsSought over.labels over.edges over.passes bound) IsToCome
-        → (row : List Oid) → ShowsCells IsToCome bound.cells row ↔ IsSlotRow db bound row
+        → (row : List Cell) → ShowsAsked over.labels over.edges bound IsToCome row ↔ IsSlotRow db bound row
     shown_rows runnable IsToCome same row =
-        let to_come = shows_alike IsToCome (IsSought over.labels over.edges over.passes bound) bound.cells same row in
-        let sought : ShowsCells (IsSought over.labels over.edges over.passes bound) bound.cells row ↔ IsSlotRow db bound row =
+        let to_come = shows_alike over.labels over.edges bound IsToCome (IsSought over.labels over.edges over.passes bound) same row in
+        let sought : ShowsAsked over.labels over.edges bound (IsSought over.labels over.edges over.passes bound) row ↔ IsSlotRow db bound row =
         rw (labels, edges) (sought_rows db bound over.passes runnable passes row) in
         (λ h. sought.0 (to_come.0 h), λ h. to_come.1 (sought.1 h))
+
+-- ---- rows that are left of a plan
+module _ {A K V P T : Type 0} (edges : A → List Edge) (links : K → List Edge) (entries : V → List ValueEntry)
+    (reaches : P → PathTree → Oid → Oid → Type 0) (passes : T → List Oid → Type 0) where
+  -- what the steps of the plan are taken over
+  abbrev pub over_of : RowsLeft A K V P T → StepsOver
+  over_of rows = steps_over rows.labels (edges rows.graph) (links rows.links) (entries rows.values) (reaches rows.paths) (passes rows.test)
+
+  abbrev pub AreLeft : RowsLeft A K V P T → List Oid → Type 0
+  AreLeft rows = IsToCome (over_of rows) (steps_of rows.plan) rows.partials
 
 -- ---- rows that are made of such parts, and keep them
 module _ {A K V P T : Type 0} (rows : RowsLeft A K V P T) (labels : List (List ℕ)) (graph : A) (links : K) (values : V) (paths : P) (test : T) (plan : Plan)
@@ -118,11 +127,10 @@ module _ {A K V P T : Type 0} (rows : RowsLeft A K V P T) (labels : List (List �
       → ((slots : List Oid) → passes_of test slots ↔ HoldsOver db.labels db.graph.edges db.graph.objects slots bound.cond)
       → ((objects : List (Oid × Value)) → Agrees over objects bound
       → AreSame (IsSought labels over.edges over.passes bound) (IsToCome over (steps_of rows.plan) rows.partials))
-      → (cells : List Start) → cells ≡ bound.cells → (answer : Option (List (List Oid)))
-      → Answered (ShowsCells Left cells) answer → Answered (IsSlotRow db bound) answer
-  planned_rows db bound runnable starts_named l e are_links are_entries tells passes to_come cells same_cells answer answered =
+      → (answer : Option (List (List Cell))) → Answered (ShowsAsked labels (edges_of graph) bound Left) answer → Answered (IsSlotRow db bound) answer
+  planned_rows db bound runnable starts_named l e are_links are_entries tells passes to_come answer answered =
       let agrees = agrees_over db bound over l e passes are_links are_entries starts_named tells in
       let same = along_parts (λ kept. AreSame (IsSought labels over.edges over.passes bound) (IsToCome kept (steps_of rows.plan) rows.partials))
       (to_come db.graph.objects agrees) in
-      answered_alike (ShowsCells Left bound.cells) (IsSlotRow db bound) (shown_rows db bound over l e passes runnable Left same) answer
-      (subst (λ (shown : List Start). Answered (ShowsCells Left shown) answer) same_cells answered)
+      answered_alike (ShowsAsked labels (edges_of graph) bound Left) (IsSlotRow db bound) (shown_rows db bound over l e passes runnable Left same) answer
+      answered

@@ -16,11 +16,13 @@ use Rattle.lorel_bind.specs.SlotRows.{IsSlotRow}
 use Rattle.updates.specs.Effects.{Pair, changes_by}
 use Rattle.updates.specs.Causes.{IsUpdate, HasTargets}
 use Rattle.updates.specs.Causes as updating
-use Rattle.lore_db.specs.Types.{Oid, Changes, Refusal, Reply}
-use Rattle.lore_db.specs.Statements.{pair_of, AreRowsOf, effects, Cause, order, Counts, Executes}
-use Rattle.lore_db.specs.inside.Finding.{AreRows}
+use Rattle.answers.specs.Asked.{AreRows}
+use Rattle.lore_db.specs.Types.{Oid, Cell, Changes, Refusal, Reply}
+use Rattle.lore_db.specs.Built.{reads}
+use Rattle.lore_db.specs.Statements.{object_cells, pair_of, AreRowsOf, effects, Cause, order, Counts, Executes}
 use Rattle.lore_db.specs.inside.Locals.{StopsRows}
 use Rattle.lore_db.specs.inside.Stages.{ReadCause, bind_order, found_order, fit_order}
+use Rattle.lore_db.proofs.ObjectRowLaws.{answer_objects, changing_shows}
 use Rattle.lore_db.proofs.CauseLaws.{sizes, update_changes, update_effects, update_within}
 use Rattle.lore_db.proofs.EffectLaws.{rows_targets}
 use Rattle.lore_db.proofs.ExecutionLaws.{changes_fit, changes_told, changes_lead, update_performs}
@@ -30,10 +32,20 @@ use Rattle.lore_db.proofs.UpdateLaws.{update_form, literal_stops, rows_stop, upd
 -- ---- the rows
 module _ (db : Database) (statement : StatementTree) (update : IsUpdate statement) (query : SelectTree) (form : rows_of statement ≡ Some query)
     (bound : BoundTree) (binds : IsBinding db.graph.names query bound) where
-  pub rows_are : (rows : List (List Oid)) → AreRows (IsSlotRow db bound) rows → AreRowsOf db statement rows
+  reading : reads statement ≡ Some query
+  reading = update_form statement update ∙ form
+
+  -- they are rows of objects
+  pub rows_are : (rows : List (List Cell)) → AreRows (IsSlotRow db bound) rows
+      → (objects : List (List Oid)) × AreRowsOf db statement objects × (rows ≡ map object_cells objects)
   rows_are rows all =
-      subst (λ (o : Option SelectTree). MatchOption o (rows ≡ []) (λ q. IsAnswer db q rows)) (sym (update_form statement update ∙ form))
-      (rows_answer db query bound binds rows all)
+      let answer = rows_answer db query bound binds rows all in
+      let found = answer_objects db query (changing_shows statement (update_changes statement update) query reading) rows answer in (
+        found.0,
+        subst (λ (o : Option SelectTree). MatchOption o (found.0 ≡ []) (λ q. IsAnswer db q (map object_cells found.0))) (sym reading)
+            (subst (IsAnswer db query) found.1 answer),
+        found.1,
+      )
 
   pub rows_told : IsClear (ReadCause db query) bind_order → (told : Option Refusal) → StopsRows db statement bound told
       → IsToldBy (Cause db statement) found_order told

@@ -1,8 +1,7 @@
 -- The forms of statement that are executed, what they bind and read, and which make changes. A statement of any other form is
 -- refused `Syntax`.
-use Rattle.std.specs.Prelude.{Bool, true, false, ◌||◌, if◌then◌else◌, [], Option, Some, None, is_some}
-use Rattle.std.specs.List.{list_any}
-use Rattle.lorel_trees.specs.Trees.{LiteralTree, RootedTree, ItemTree, object, path_of, FromTree}
+use Rattle.std.specs.Prelude.{Bool, true, false, [], Option, Some, None, is_some}
+use Rattle.lorel_trees.specs.Trees.{LiteralTree, RootedTree}
 use Rattle.lorel_trees.specs.Trees.{SelectTree, StatementTree}
 use Rattle.lorel_trees.specs.Trees.{load, bind, unname, assign, add_new, add_link, remove, select, explain, guide}
 use Rattle.lorel_trees.specs.Trees.{set_nodes, set_plan}
@@ -40,27 +39,11 @@ makes_changes (add_link target label right tail) = true
 makes_changes (remove target label right tail) = true
 makes_changes statement = false
 
--- whether an item shows a path variable
-abbrev pub is_path_variable : ItemTree → Bool
-is_path_variable (object path) = false
-is_path_variable (path_of variable) = true
-
--- whether a path variable stands in the select
-abbrev pub has_path_variable : SelectTree → Bool
-has_path_variable query =
-    list_any is_path_variable query.items
-    || list_any (λ (range : FromTree). is_some range.word) query.tail.ranges
-
-abbrev pub is_bound : Option SelectTree → Bool
-is_bound None = false
-is_bound (Some query) = if has_path_variable query then false else true
-
--- whether the form is built: a load, an unname, the guide and its limit, the plan mode, and what binds a select without
--- path variables
+-- whether the form is built: a load, an unname, the guide and its limit, the plan mode, and what binds a select
 abbrev pub is_built : StatementTree → Bool
 is_built (load name literal) = true
 is_built (unname name) = true
 is_built guide = true
 is_built (set_nodes nodes) = true
 is_built (set_plan mode) = true
-is_built statement = is_bound (binds statement)
+is_built statement = is_some (binds statement)

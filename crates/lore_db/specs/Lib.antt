@@ -1,5 +1,4 @@
 pub mod Types
-pub mod Answers
 pub mod Built
 pub mod Plans
 pub mod Statements

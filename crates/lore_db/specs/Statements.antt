@@ -1,8 +1,9 @@
 -- What one statement answers, and the database that it leaves.
-use Rattle.std.specs.Prelude.{◌≡◌, ◌≢◌, ℕ, ℤ, pos, ◌<◌, ◌⊎◌, true, false, List, [], ◌∷◌, ◌++◌, length, map}
+use Rattle.std.specs.Prelude.{◌≡◌, ◌≢◌, ℕ, ℤ, pos, ◌⊎◌, true, false, List, [], ◌∷◌, ◌++◌, length, map}
 use Rattle.std.specs.Prelude.{Some, None, MatchOption}
-use Rattle.lore_db.specs.Types.{Oid, Mode, Changes, Refusal, ROWS, Reply, Changed, Rows, Lines, Refused}
+use Rattle.lore_db.specs.Types.{Oid, Mode, Changes, Refusal, Cell, Reply, Changed, Rows, Lines, Refused}
 use Rattle.lore_db.specs.Types.refusals
+use Rattle.lore_db.specs.Types.cells
 use Rattle.lore_base.specs.Walks.{oid_of}
 use Rattle.lore_base.specs.Databases.{Database}
 use Rattle.lore_base.specs.TargetSets.{AreTargetSets}
@@ -13,6 +14,7 @@ use Rattle.lorel_trees.specs.Trees.{LiteralTree, SelectTree, StatementTree}
 use Rattle.lorel_trees.specs.Trees.{load, bind, unname, select, explain, guide, set_nodes, set_plan}
 use Rattle.lorel_bind.specs.Answers.{IsAnswer}
 use Rattle.lorel_bind.specs.Refusals as binding
+use Rattle.answers.specs.Answers.{IsTooMuch}
 use Rattle.oem_labels.specs.Labels.{first_uses}
 use Rattle.oem_text.specs.Literals.{HasDouble, HasUndefined, labels_of, objects_of, edges_of}
 use Rattle.updates.specs.Effects.{Pair, no_changes, changes_by}
@@ -29,9 +31,14 @@ pair_of [] = (oid_of 0, None)
 pair_of (first ∷ []) = (first, None)
 pair_of (first ∷ second ∷ others) = (first, Some second)
 
--- the rows that a statement is executed over: none where it reads nothing
+-- the cells of a row of objects
+abbrev pub object_cells : List Oid → List Cell
+object_cells row = map cells.Object row
+
+-- the rows that a statement is executed over, which show objects alone: none where it reads nothing
 abbrev pub AreRowsOf : Database → StatementTree → List (List Oid) → Type 0
-AreRowsOf db statement rows = MatchOption (reads statement) (rows ≡ []) (λ query. IsAnswer db query rows)
+AreRowsOf db statement rows =
+    MatchOption (reads statement) (rows ≡ []) (λ query. IsAnswer db query (map object_cells rows))
 
 -- a literal is made and its first object named
 abbrev pub loading : Database → List ℕ → LiteralTree → Changes
@@ -86,14 +93,14 @@ abbrev pub IsUnbound : Database → StatementTree → Type 0
 IsUnbound db (unname name) = ¬ IsBound db.graph.names name
 IsUnbound db statement = ⊥
 
--- the select has more rows than an answer may have
+-- the select has more rows than an answer may have, or more labels in their words
 abbrev pub HasTooManyRows : Database → SelectTree → Type 0
-HasTooManyRows db query = (rows : List (List Oid)) × IsAnswer db query rows × (ROWS < length rows)
+HasTooManyRows db query = (rows : List (List Cell)) × IsAnswer db query rows × IsTooMuch rows
 
 -- the path to name reaches no object, or several
 abbrev pub IsNotOne : Database → StatementTree → Type 0
 IsNotOne db (bind name path) =
-    (rows : List (List Oid)) × IsAnswer db (path_select path) rows × (length rows ≢ 1)
+    (rows : List (List Cell)) × IsAnswer db (path_select path) rows × (length rows ≢ 1)
 IsNotOne db statement = ⊥
 
 -- the changes that a statement makes have this cause: one of the graph's (`ChangeCause`), or the guide's limit, which
@@ -187,7 +194,7 @@ ChoosesBy before mode reply after = (after ≡ record before { mode = mode }) ×
 -- a select answers all of its rows and changes nothing
 abbrev pub Answers : Database → SelectTree → Reply → Database → Type 0
 Answers before query reply after =
-    (after ≡ before) × ((rows : List (List Oid)) × (reply ≡ Rows rows) × IsAnswer before query rows)
+    (after ≡ before) × ((rows : List (List Cell)) × (reply ≡ Rows rows) × IsAnswer before query rows)
 
 abbrev pub Performs : Database → StatementTree → Reply → Database → Type 0
 Performs before (select query) reply after = Answers before query reply after

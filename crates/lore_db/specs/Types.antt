@@ -11,9 +11,11 @@ pub use Rattle.lore_base.specs.declared.refusals.Refusal.TheVariants as refusals
 pub use Rattle.index_traits.specs.declared.entries.ValueEntry.{ValueEntry}
 pub use Rattle.lorel_bind.specs.declared.bound.Start.{Start}
 pub use Rattle.lorel_bind.specs.declared.bound.Start.TheVariants as starts
+pub use Rattle.lorel_bind.specs.declared.cells.Cell.{Cell}
+pub use Rattle.lorel_bind.specs.declared.cells.Cell.TheVariants as cells
 pub use Rattle.lorel_bind.specs.declared.plans.PlanKind.{PlanKind}
 pub use Rattle.lorel_bind.specs.declared.plans.PlanKind.TheVariants as plan_kinds
 pub use Rattle.lore_base.specs.declared.limits.TheConstants.{LABELS, NAMES, OBJECTS, EDGES, NEXT_NUMBER, NODES}
-pub use Rattle.lore_base.specs.declared.limits.TheConstants.{LEAVES, RANGES, ROWS}
+pub use Rattle.lore_base.specs.declared.limits.TheConstants.{LEAVES, RANGES}
 pub use Rattle.lore_db.specs.declared.replies.Reply.{Reply}
 pub use Rattle.lore_db.specs.declared.replies.Reply.TheVariants.{Changed, Rows, PlanShown, Lines, Refused}

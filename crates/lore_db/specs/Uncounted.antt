@@ -4,14 +4,15 @@ use Rattle.lore_base.specs.Databases.{Database}
 use Rattle.lorel_trees.specs.Trees.{SelectTree, StatementTree, select, explain, guide, set_nodes, set_plan}
 use Rattle.lorel_bind.specs.Bound.{BoundTree}
 use Rattle.lorel_bind.specs.Bindings.{IsBinding}
+use Rattle.lorel_bind.specs.SlotRows.{ShowsObjects}
 use Rattle.lore_db.specs.Types.{PlanKind}
 use Rattle.lore_db.specs.Types.plan_kinds
 use Rattle.lore_db.specs.Plans.{AreCountsOver, IsKindOver}
 
--- a plan that reads no edge: the guide tells the one range that there is at most, and there is no condition; or the
--- values that are begun from are none
+-- a plan by which no edge is read: the guide tells the one range that there is at most, there is no condition, and no cell
+-- shows a word; or the values that are begun from are none
 abbrev pub IsQuietPlan : BoundTree → PlanKind → Option ℕ → Type 0
-IsQuietPlan bound plan_kinds.Guided candidates = (length bound.ranges ≤ 1) × (bound.cond ≡ None)
+IsQuietPlan bound plan_kinds.Guided candidates = (length bound.ranges ≤ 1) × (bound.cond ≡ None) × ShowsObjects bound
 IsQuietPlan bound plan_kinds.Bottom candidates = candidates ≡ Some 0
 IsQuietPlan bound plan_kinds.Top candidates = ⊥
 

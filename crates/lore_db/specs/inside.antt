@@ -1,7 +1,5 @@
 -- Definitions that no public contract cites.
 pub mod Stops
 pub mod Stages
-pub mod Finding
-pub mod RowOrder
 pub mod Starts
 pub mod Locals

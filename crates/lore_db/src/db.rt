@@ -70,7 +70,8 @@ impl Db {
 
     /// Executes a statement. A refusal, and want of memory, leave the database as it was. No step is
     /// counted for a statement that shows a plan or the guide, or sets something, and for a select
-    /// whose plan reads no edge: where the guide tells all, or no value is found to begin with.
+    /// for which no edge is read: where the guide tells all and no cell shows a word, or no value is
+    /// found to begin with.
     ///
     /// This match says which forms are built; each other one is refused `Syntax`.
     pub fn execute<L: Ledger>(

@@ -1,31 +1,29 @@
 //! One database, and the statements that are executed on it.
 //!
 //! `Db::execute` (`db`) takes a statement of any form. A select (`selects`) is bound (`lorel_bind`);
-//! then its plan is chosen (`planner`), and the rows that come by it (`rows`, over `plan_ops`) are
-//! noted down, each once (`found_rows`). A load (`loads`), a name bound or taken away (`namings`) and an
+//! then its plan is chosen (`planner`), and what its cells show of the rows that come by it (`plan_ops`)
+//! is its answer (`answers`). A load (`loads`), a name bound or taken away (`namings`) and an
 //! update over the rows of its select (`updating`) list changes, which are made all at once
 //! (`applying`, over `lore_store`). The guide is shown, and its limit set, by `guides`; the plan of a
 //! select is shown by `explain` (over `planner`), and the plan mode set by `modes`. What ends the
 //! work early is a `Stop` (`stops`). What a statement answers is a `Reply` (`replies`), with the rows
-//! of a select (`answers`) among them.
+//! of a select among them.
 #![tactic(auto)]
 
 pub use answers::{Answer, AnswerRow};
 pub use db::Db;
+pub use lorel_bind::Cell;
 pub use replies::Reply;
 
-mod answers;
 mod applying;
 mod db;
 mod explain;
-mod found_rows;
 mod guides;
 pub mod laws;
 mod loads;
 mod modes;
 mod namings;
 mod replies;
-mod rows;
 mod selects;
 mod stops;
 mod updating;

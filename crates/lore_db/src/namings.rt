@@ -6,13 +6,14 @@ ghost use Rattle.lorel_bind.specs.Bindings.{IsShallow};
 ghost use Rattle.lore_db.specs.Built.{path_select};
 ghost use Rattle.lore_db.specs.Statements.{naming, unnaming, Cause, order, Executes};
 ghost use Rattle.lore_db.specs.inside.Stops.{told};
-ghost use Rattle.lore_db.specs.inside.Stages.{IsOnly, IsNotOnly};
+ghost use Rattle.lore_db.specs.inside.Stages.{IsOneObject, IsOnly, IsNotOnly};
 
-use crate::answers::Answer;
 use crate::db::Db;
 use crate::replies::Reply;
 use crate::stops::Stop;
+use answers::Answer;
 use lore_base::{Changes, NoMemory, OemText, Oid, Refusal, Steps, TryCopy};
+use lorel_bind::Cell;
 use lorel_trees::{FromList, Item, ItemList, Rooted, Select, Tail};
 use std::alloc::Global;
 use std::sync::ledger::Ledger;
@@ -83,13 +84,13 @@ fn path_query(alloc: Global, path: &Rooted) -> Result<Select, NoMemory>
 
 // The object of the only row; there may be none or several.
 fn only_object(answer: &Answer) -> Result<Oid, Stop>
-    requires { All (λ row. length row ≡ 1) answer.now }
+    requires { All IsOneObject answer.now }
     ensures one { IfOk result (λ oid. IsOnly answer.now oid) }
     ensures refused { IfErr result (λ stop. IsNotOnly answer.now stop) }
 {
     match answer.as_slice() {
         [row] => match row.as_slice() {
-            [oid] => Ok(*oid),
+            [Cell::Object(oid)] => Ok(*oid),
             _ => unreachable!(),
         },
         _ => Err(Stop::Refused(Refusal::NotOne)),

@@ -1,4 +1,4 @@
-use crate::answers::Answer;
+use answers::Answer;
 use lore_base::{Refusal, TextList};
 use lorel_bind::PlanKind;
 

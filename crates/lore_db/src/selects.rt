@@ -1,36 +1,34 @@
-ghost use Rattle.std.specs.Prelude.{◌≡◌, map, is_some, IfSome, IfOk, IfErr, OnOk};
-ghost use Rattle.std.specs.List.{list_any};
-ghost use Rattle.lorel_trees.specs.Trees.{FromTree, item_tree, from_tree, select_tree, select};
+ghost use Rattle.std.specs.Prelude.{◌≡◌, IfSome, IfOk, IfErr, OnOk};
+ghost use Rattle.lorel_trees.specs.Trees.{select_tree, select};
 ghost use Rattle.lorel_bind.specs.Bound.{bound_tree};
 ghost use Rattle.lore_base.specs.Verdicts.{IsClear, IsToldBy};
 ghost use Rattle.lorel_bind.specs.Answers.{IsAnswer};
 ghost use Rattle.lorel_bind.specs.Bindings.{IsBinding, IsShallow, IsRunnable};
 ghost use Rattle.lorel_bind.specs.SlotRows.{IsSlotRow};
 ghost use Rattle.lore_db.specs.Types.refusals;
-ghost use Rattle.lore_db.specs.Built.{is_path_variable, has_path_variable};
 ghost use Rattle.lore_db.specs.Statements.{Cause, order, Executes};
 ghost use Rattle.lore_db.specs.Uncounted.{IsQuietBound, IsQuietSelect};
 ghost use Rattle.lore_db.specs.inside.Starts.{HasNamedStarts};
 ghost use Rattle.lore_db.specs.inside.Stops.{told, OnReply};
 ghost use Rattle.lore_db.specs.inside.Stages.{ReadCause, bind_order, read_order};
-ghost use Rattle.lore_db.specs.inside.Finding.{AreRows, AreTooMany};
+ghost use Rattle.answers.specs.Asked.{AreRows, AreTooMany};
 
-use crate::answers::Answer;
 use crate::db::Db;
 use crate::replies::Reply;
-use crate::rows::all_rows;
 use crate::stops::Stop;
+use answers::{Answer, all_rows};
 use guide_query::GuidePaths;
 use lore_base::{Refusal, Steps};
 use lorel_bind::{Bound, bind};
 use lorel_eval::Test;
-use lorel_trees::{FromItem, Item, Select};
+use lorel_trees::Select;
 use plan_ops::Rows;
 use std::alloc::Global;
 use std::sync::ledger::Ledger;
 
 impl Db {
-    /// Selects rows. No step is counted where the plan reads no edge.
+    /// Selects rows. No step is counted where the guide tells all and no cell shows a word, or where
+    /// no value is found to begin with.
     pub(crate) fn select<L: Ledger>(
         &self,
         alloc: Global,
@@ -48,9 +46,9 @@ impl Db {
         Ok(Reply::Rows(self.rows_of(alloc, query, steps)?))
     }
 
-    /// The rows of a select. Refused are a select with a path variable (`Syntax`), one that can't be
-    /// bound (`UnknownName`, `UnknownVariable`, `DuplicateVariable`, `TooManyRanges`), and one with
-    /// more than 100,000 rows (`TooManyRows`).
+    /// The rows of a select. Refused are one that can't be bound (`UnknownName`, `UnknownVariable`,
+    /// `DuplicateVariable`, `TooManyRanges`), and one with more than 100,000 rows, or more than
+    /// 16,777,216 labels in their words (`TooManyRows`).
     pub(crate) fn rows_of<L: Ledger>(
         &self,
         alloc: Global,
@@ -72,7 +70,7 @@ impl Db {
         found
     }
 
-    /// A select, bound. Refused are a select with a path variable and one that can't be bound.
+    /// A select, bound. Refused is one that can't be bound.
     pub(crate) fn bound(&self, alloc: Global, query: &Select) -> Result<Bound, Stop>
         requires { IsShallow (select_tree query.now) }
         ensures binding { IfOk result (λ bound.
@@ -84,13 +82,11 @@ impl Db {
         ensures refused { let cause = ReadCause self.now (select_tree query.now) in
             IfErr result (λ stop. IsToldBy cause bind_order (told stop)) }
     {
-        if has_path_variable(query) {
-            return Err(Stop::Refused(Refusal::Syntax));
-        }
         Ok(bind(alloc, query, self.store.graph().names())?)
     }
 
-    /// The rows of a bound select. Refused are more than 100,000.
+    /// The rows of a bound select. Refused are more than 100,000, and more than 16,777,216 labels in
+    /// their words.
     pub(crate) fn found<L: Ledger>(
         &self,
         alloc: Global,
@@ -114,42 +110,9 @@ impl Db {
         let mut rows = Rows::new(
             alloc, graph, links, values, &paths, &test, bound, &plan, labels,
         )?;
-        match all_rows(alloc, &mut rows, bound.cells.as_slice(), steps)? {
+        match all_rows(alloc, &mut rows, bound, graph, labels, steps)? {
             Some(answer) => Ok(answer),
             None => Err(Stop::Refused(Refusal::TooManyRows)),
         }
     }
-}
-
-// Whether a path variable stands in the select.
-fn has_path_variable(query: &Select) -> bool
-    ensures { result ≡ has_path_variable (select_tree query.now) }
-{
-    shows_path_variable(query.items.as_slice())
-        || ranges_path_variable(query.tail.ranges.as_slice())
-}
-
-// Whether one of the items shows a path variable.
-fn shows_path_variable(items: &[Item]) -> bool
-    ensures { result ≡ list_any is_path_variable (map item_tree items.now) }
-{
-    'items: for item in items {
-        if let Item::PathOf(_) = item {
-            return true;
-        }
-    }
-    false
-}
-
-// Whether one of the from items has a path variable.
-fn ranges_path_variable(ranges: &[FromItem]) -> bool
-    ensures { result
-        ≡ list_any (λ (range : FromTree). is_some range.word) (map from_tree ranges.now) }
-{
-    'ranges: for range in ranges {
-        if range.word.is_some() {
-            return true;
-        }
-    }
-    false
 }

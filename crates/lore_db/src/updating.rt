@@ -9,19 +9,20 @@ ghost use Rattle.lorel_bind.specs.SlotRows.{IsSlotRow};
 ghost use Rattle.updates.specs.Causes.{IsUpdate};
 ghost use Rattle.oem_text.specs.Faults.{local_refusal};
 ghost use Rattle.oem_text.specs.Parts.{local_order};
-ghost use Rattle.lore_db.specs.Statements.{pair_of, AreRowsOf, Cause, order, Executes};
+ghost use Rattle.lore_db.specs.Types.cells;
+ghost use Rattle.lore_db.specs.Statements.{object_cells, pair_of, AreRowsOf, Cause, order, Executes};
 ghost use Rattle.lore_db.specs.inside.Stops.{told};
 ghost use Rattle.lore_db.specs.inside.Stages.{found_order};
 ghost use Rattle.lore_db.specs.inside.Starts.{HasNamedStarts};
-ghost use Rattle.lore_db.specs.inside.Finding.{AreRows};
+ghost use Rattle.answers.specs.Asked.{AreRows};
 ghost use Rattle.lore_db.specs.inside.Locals.{HasSoundLocals, MadeLocals, StopsRows};
 
-use crate::answers::{Answer, AnswerRow};
 use crate::db::Db;
 use crate::replies::Reply;
 use crate::stops::Stop;
+use answers::{Answer, AnswerRow};
 use lore_base::{NoMemory, Oid, Steps};
-use lorel_bind::Bound;
+use lorel_bind::{Bound, Cell};
 use lorel_trees::{Statement, rows_form};
 use oem_text::{LocalFault, check_locals};
 use std::alloc::Global;
@@ -115,7 +116,8 @@ fn check_literal(alloc: Global, statement: &Statement) -> Result<(), LocalFault>
 
 // The rows as pairs.
 fn pairs_of(alloc: Global, answer: &Answer) -> Result<PairList, NoMemory>
-    ensures { IfOk result (λ pairs. pairs ≡ map pair_of answer.now) }
+    ensures { IfOk result (λ pairs. (rows : List (List TheOid))
+        → answer.now ≡ map object_cells rows → pairs ≡ map pair_of rows) }
 {
     let mut pairs = PairList::with_capacity(alloc, answer.len())?;
     'rows: for row in answer.as_slice() {
@@ -126,11 +128,21 @@ fn pairs_of(alloc: Global, answer: &Answer) -> Result<PairList, NoMemory>
 
 // The objects of a row: that of its first cell, and that of its second one, if it has one.
 fn pair_of(row: &AnswerRow) -> (Oid, Option<Oid>)
-    ensures { result ≡ pair_of row.now }
+    ensures { (objects : List TheOid) → row.now ≡ object_cells objects → result ≡ pair_of objects }
 {
     match row.as_slice() {
         [] => (Oid(0), None),
-        [first] => (*first, None),
-        [first, second, ..] => (*first, Some(*second)),
+        [first] => (object_of(first), None),
+        [first, second, ..] => (object_of(first), Some(object_of(second))),
+    }
+}
+
+// The object that a cell shows; 0, which is none, where it shows a word.
+fn object_of(cell: &Cell) -> Oid
+    ensures { (oid : TheOid) → cell.now ≡ cells.Object oid → result ≡ oid }
+{
+    match cell {
+        Cell::Object(oid) => *oid,
+        Cell::Path(_) => Oid(0),
     }
 }

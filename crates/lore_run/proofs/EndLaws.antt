@@ -110,7 +110,7 @@ reaches_unmoved {written} {taken} {now} {after} reached unmoved = record {
 fails_in_reply : {written : Option (List ℕ)} {taken : List ℕ} {now after : Standing} (all : List ℕ) (left : Option (List ℕ)) (last : ScriptPart) (behind : List ℕ)
     → (reached : Reaches written taken now) → (replied : RepliedInPart now last after) → length behind < PIECE_BYTES
     → ((chunks : List (List ℕ)) × BeginsWith all chunks behind × (map chunk reached.chunks ++ last ∷ [] ≡ map chunk chunks)) ⊎ (EndsInRest all (map chunk reached.chunks ++ last ∷ []) × IsAtEnd left × (behind ≡ []))
-    → FailsInReply (state_of (outcome_at WriteFault after) all (reached.printed ++ take replied.printed.count (rendered after.database.graph.objects replied.reply)) after.database) left
+    → FailsInReply (state_of (outcome_at WriteFault after) all (reached.printed ++ take replied.printed.count (rendered after.database.labels after.database.graph.objects replied.reply)) after.database) left
 fails_in_reply {written} {taken} {now} {after} all left last behind reached replied few first = record {
   earlier = map chunk reached.chunks;
   last = last;
@@ -140,7 +140,7 @@ ends_stopped WriteFault before count left new_left now after piece so_far took f
     let all = so_far.taken ++ piece in
     let parts : all ≡ (so_far.taken ++ stops.front) ++ stops.back = ap (λ l. so_far.taken ++ l) stops.parts ∙ sym (append_assoc so_far.taken stops.front stops.back) in
     let chunks = reached.chunks ++ fails.text ∷ [] in
-    let bytes = rendered after.database.graph.objects fails.replied.reply in
+    let bytes = rendered after.database.labels after.database.graph.objects fails.replied.reply in
     let begun : BeginsWith all chunks fails.behind = record {
       whole = parts ∙ (begins stops.back reached).whole ∙ ap (λ l. joined_chunks reached.chunks ++ l) fails.parts
           ∙ sym (append_assoc (joined_chunks reached.chunks) (fails.text ++ 59 ∷ []) fails.behind)
@@ -235,7 +235,7 @@ all_replied {written} {taken} {now} {after} status reached kept (inl (blank, unm
       };
     }
 all_replied {written} {taken} {now} {after} status reached kept (inr (filled, replied)) =
-    let bytes = rendered after.database.graph.objects replied.reply in
+    let bytes = rendered after.database.labels after.database.graph.objects replied.reply in
     record {
       printed = reached.printed ++ (bytes ++ []);
       wrote = Appends-then written now.written after.written reached.printed (bytes ++ []) reached.written
@@ -287,7 +287,7 @@ ends_finished DoneRefused before count left new_left now after so_far none at_en
 ends_finished WriteFault before count left new_left now after so_far none at_end finishes =
     let (filled, replied) = finishes in
     let reached = so_far.advanced in
-    let bytes = rendered after.database.graph.objects replied.reply in
+    let bytes = rendered after.database.labels after.database.graph.objects replied.reply in
     record {
       taken = so_far.taken;
       written = reached.printed ++ take replied.printed.count bytes;

@@ -63,14 +63,21 @@ one_yield statements executions before (chunk text) reply other after another (i
     executions before h.statement reply other after another (subst (λ (statement : StatementTree). Executes before statement reply after) one g.executed) h.executed
 one_yield statements executions before rest reply other after another g h = (g.0 ∙ sym h.0, g.1 ∙ sym h.1)
 
+-- equal replies over equal databases have equal bytes
+rendered_alike : (one other : Database) (reply same : Reply) → one ≡ other → reply ≡ same
+    → rendered one.labels one.graph.objects reply ≡ rendered other.labels other.graph.objects same
+rendered_alike one other reply same databases replies =
+    ap (λ (db : Database). rendered db.labels db.graph.objects reply) databases
+    ∙ ap (λ (r : Reply). rendered other.labels other.graph.objects r) replies
+
 pub one_run : OneStatement → OneExecution → HasOneRun
 one_run statements executions before [] bytes other_bytes refused other_refused after other g h = (g.0 ∙ sym h.0, g.1 ∙ sym h.1, g.2 ∙ sym h.2)
 one_run statements executions before (part ∷ parts) bytes other_bytes refused other_refused after other g h =
     let (replies, middles) = one_yield statements executions before part g.0 h.0 g.1 h.1 g.4 h.4 in
     let ran = subst (λ (db : Database). Runs db parts g.2 g.3 after) middles g.5 in
     let (printed, counts, databases) = one_run statements executions h.1 parts g.2 h.2 g.3 h.3 after other ran h.5 in
-    let first : rendered g.1.graph.objects g.0 ≡ rendered h.1.graph.objects h.0 = ap (λ (db : Database). rendered db.graph.objects g.0) middles ∙ ap (λ (r : Reply). rendered h.1.graph.objects r) replies in (
-      g.6 ∙ ap (λ l. l ++ g.2) first ∙ ap (λ l. rendered h.1.graph.objects h.0 ++ l) printed ∙ sym h.6,
+    let first = rendered_alike g.1 h.1 g.0 h.0 middles replies in (
+      g.6 ∙ ap (λ l. l ++ g.2) first ∙ ap (λ l. rendered h.1.labels h.1.graph.objects h.0 ++ l) printed ∙ sym h.6,
       g.7 ∙ ap (λ (r : Reply). refusals r + g.3) replies ∙ ap (λ (n : ℕ). refusals h.0 + n) counts ∙ sym h.7,
       databases,
     )

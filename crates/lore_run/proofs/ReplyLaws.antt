@@ -12,7 +12,7 @@ use Rattle.lore_run.specs.Replies.{row_line, kind_text, given_text, rendered}
 use Rattle.lore_run.specs.Runs.{ScriptPart, chunk, rest, Yields}
 
 abbrev pub IsSome : Database → Reply → Type 0
-IsSome after reply = 0 < length (rendered after.graph.objects reply)
+IsSome after reply = 0 < length (rendered after.labels after.graph.objects reply)
 
 -- a line has its line feed
 line-some : (words : List ℕ) → 0 < length (words ++ codes "\n")
@@ -46,7 +46,7 @@ counts-some after reply (sets, targets, same) =
 performs-some : (before : Database) (statement : StatementTree) (reply : Reply) (after : Database) → Performs before statement reply after → IsSome after reply
 performs-some before (select query) reply after (kept, (rows, same, answered)) =
     same-some after reply (Rows rows) same
-    (line-some (flat_map (row_line after.graph.objects) rows ++ codes "rows " ++ decimal (length rows)))
+    (line-some (flat_map (row_line after.labels after.graph.objects) rows ++ codes "rows " ++ decimal (length rows)))
 performs-some before (explain query) reply after (kept, shown) =
     same-some after reply (PlanShown shown.kind shown.candidates shown.found) shown.is
     (line-some (codes "plan " ++ kind_text shown.kind ++ given_text shown.candidates ++ given_text shown.found))

@@ -32,7 +32,7 @@ runs_then before (first ∷ parts) bytes count middle others more others_count a
   ran.3 + others_count,
   ran.4,
   runs_then ran.1 parts ran.2 ran.3 middle others more others_count after ran.5 then,
-  ap (λ l. l ++ more) ran.6 ∙ append_assoc (rendered ran.1.graph.objects ran.0) ran.2 more,
+  ap (λ l. l ++ more) ran.6 ∙ append_assoc (rendered ran.1.labels ran.1.graph.objects ran.0) ran.2 more,
   omega (arith, ran.7),
 )
 
@@ -96,7 +96,7 @@ advances_held held bytes now is = record {
 pub advances_chunk : (held front : List ℕ) (before after : Standing) → after.held ≡ [] → IsChunk (held ++ front) → IsWithin (held ++ front) → Replied before (chunk (held ++ front)) after
     → Advances (record before { held = held }) (front ++ 59 ∷ []) after
 advances_chunk held front before after empty is sized replied =
-    let bytes = rendered after.database.graph.objects replied.reply in
+    let bytes = rendered after.database.labels after.database.graph.objects replied.reply in
     record {
       chunks = (held ++ front) ∷ [];
       printed = bytes ++ [];

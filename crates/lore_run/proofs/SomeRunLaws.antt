@@ -72,7 +72,7 @@ some_run statements executions before [] valid = ([], 0, before, (refl, refl, re
 some_run statements executions before (part ∷ parts) valid =
     let (reply, middle, yielded, valid_middle) = some_yield statements executions before part valid in
     let (bytes, refused, after, ran) = some_run statements executions middle parts valid_middle in (
-      rendered middle.graph.objects reply ++ bytes,
+      rendered middle.labels middle.graph.objects reply ++ bytes,
       refusals reply + refused,
       after,
       (reply, middle, bytes, refused, yielded, ran, refl, refl),

@@ -82,8 +82,8 @@ pub record FailsInReply (run : RunState) (left : Option (List ℕ)) : Type 0 whe
   pub done : run.done ≡ length earlier + 1
   pub refused : run.refused ≡ count + refusals reply
   pub kept : ℕ
-  pub part : kept < length (rendered run.database.graph.objects reply)
-  pub written : run.written ≡ bytes ++ take kept (rendered run.database.graph.objects reply)
+  pub part : kept < length (rendered run.database.labels run.database.graph.objects reply)
+  pub written : run.written ≡ bytes ++ take kept (rendered run.database.labels run.database.graph.objects reply)
 
 -- all chunks before one that is too long were replied to, and none of them is too long
 pub record StopsAtLongChunk (run : RunState) : Type 0 where

@@ -86,7 +86,7 @@ Runs before [] bytes refused after = (bytes ≡ []) × (refused ≡ 0) × (after
 Runs before (part ∷ others) bytes refused after =
     (reply : Reply) × (middle : Database) × (printed : List ℕ) × (count : ℕ)
     × Yields before part reply middle × Runs middle others printed count after
-    × (bytes ≡ rendered middle.graph.objects reply ++ printed) × (refused ≡ refusals reply + count)
+    × (bytes ≡ rendered middle.labels middle.graph.objects reply ++ printed) × (refused ≡ refusals reply + count)
 
 -- a run so far: the bytes that it took, the parts that it replied to and how many of them it refused, the
 -- bytes that it wrote, and its database

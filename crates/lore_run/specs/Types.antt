@@ -1,5 +1,8 @@
 -- The declared types that the definitions of this crate cite, with their variants, and the limits, under one module.
 pub use Rattle.lore_base.specs.declared.edges.Oid.{Oid}
+pub use Rattle.lore_base.specs.declared.edges.Label.{Label}
+pub use Rattle.lorel_bind.specs.declared.cells.Cell.{Cell}
+pub use Rattle.lorel_bind.specs.declared.cells.Cell.TheVariants as cells
 pub use Rattle.lore_base.specs.declared.values.Value.{Value}
 pub use Rattle.lore_base.specs.declared.values.Value.TheVariants.{Complex}
 pub use Rattle.lore_base.specs.declared.refusals.Refusal.{Refusal}

@@ -110,14 +110,14 @@ fn respond<K: Sink>(
     sink: &mut K,
     tally: &mut Tally,
 ) -> Result<(), Status>
-    requires some { 0 < length (rendered session.now.graph.objects reply.now) }
+    requires some { 0 < length (rendered session.now.labels session.now.graph.objects reply.now) }
     requires room { (tally.old.done + 1 < 2 ^ 64) × (tally.old.refused + 1 < 2 ^ 64) }
     ensures done { tally.new.done ≡ tally.old.done + 1 }
     ensures refused { tally.new.refused ≡ tally.old.refused + refusals reply.now }
     ensures ok { OnOk result (Appends (K.written sink.old) (K.written sink.new)
-        (rendered session.now.graph.objects reply.now)) }
+        (rendered session.now.labels session.now.graph.objects reply.now)) }
     ensures err { OnErr result (AppendsProperFront (K.written sink.old) (K.written sink.new)
-        (rendered session.now.graph.objects reply.now)) }
+        (rendered session.now.labels session.now.graph.objects reply.now)) }
     ensures only { IfErr result (λ status. status ≡ Status.WriteFault) }
     ensures cause { HasCause (K.faults sink.old) (K.faults sink.new) result }
 {

@@ -1,11 +1,12 @@
-ghost use Rattle.std.specs.Prelude.{◌≡◌, ◌<◌, [], ◌++◌, length, codes, decimal, OnOk, OnErr};
+ghost use Rattle.std.specs.Prelude.{◌≡◌, ◌<◌, [], ◌++◌, length, codes, unwrap_or, slice_get};
+ghost use Rattle.std.specs.Prelude.{OnOk, OnErr};
 ghost use Rattle.std.specs.Io.KnownBytes.{Appends};
 ghost use Rattle.std.specs.List.{flat_map, join_by};
 ghost use Rattle.lore_base.specs.Causes.{HasCause};
 ghost use Rattle.lore_base.specs.Pieces.{Puts};
 ghost use Rattle.lore_base.specs.Printed.{printed};
-ghost use Rattle.lore_run.specs.Replies.{value_of, cell_text, row_line, kind_text, given_text};
-ghost use Rattle.lore_run.specs.Replies.{rendered};
+ghost use Rattle.lore_run.specs.Replies.{value_of, object_text, step_text, word_text, cell_text};
+ghost use Rattle.lore_run.specs.Replies.{row_line, kind_text, given_text, rendered};
 ghost use Rattle.lore_run.specs.inside.Deliveries.{AppendsProperFront};
 ghost use Rattle.lore_run.specs.Types.{Changed as ChangedReply, Rows as RowsReply};
 ghost use Rattle.lore_run.specs.Types.{PlanShown as PlanReply};
@@ -14,20 +15,20 @@ ghost use Rattle.lore_run.specs.Types.{Refused as RefusedReply};
 
 use crate::reply_writer::ReplyWriter;
 use itoa::{Buffer, Integer};
-use lore_base::{Failed, OemText, Oid, Out, Refusal, Sink, Value};
-use lore_db::{AnswerRow, Db, Reply};
+use lore_base::{Failed, Label, OemText, Oid, Out, Refusal, Sink, Value};
+use lore_db::{AnswerRow, Cell, Db, Reply};
 use lorel_bind::PlanKind;
-use oem_atom::print_value;
+use oem_atom::{print_label, print_value};
 
 /// Writes the lines of a reply to the sink, by way of a buffer of 4,096 bytes. An object of a row
 /// that isn't live is printed as a complex one. Fails where a write fails, and a proper front of
 /// the lines is written then. Takes no memory.
 pub(crate) fn write_reply<K: Sink>(reply: &Reply, db: &Db, sink: &mut K) -> Result<(), Failed>
-    requires some { 0 < length (rendered db.now.graph.objects reply.now) }
+    requires some { 0 < length (rendered db.now.labels db.now.graph.objects reply.now) }
     ensures ok { OnOk result (Appends (K.written sink.old) (K.written sink.new)
-        (rendered db.now.graph.objects reply.now)) }
+        (rendered db.now.labels db.now.graph.objects reply.now)) }
     ensures err { OnErr result (AppendsProperFront (K.written sink.old) (K.written sink.new)
-        (rendered db.now.graph.objects reply.now)) }
+        (rendered db.now.labels db.now.graph.objects reply.now)) }
     ensures cause { HasCause (K.faults sink.old) (K.faults sink.new) result }
 {
     deliver(reply, db, &mut ReplyWriter::new(sink))
@@ -35,14 +36,14 @@ pub(crate) fn write_reply<K: Sink>(reply: &Reply, db: &Db, sink: &mut K) -> Resu
 
 /// Puts the lines of a reply, and hands all of them to the sink.
 fn deliver<K: Sink>(reply: &Reply, db: &Db, out: &mut ReplyWriter<K>) -> Result<(), Failed>
-    requires some { 0 < length (rendered db.now.graph.objects reply.now) }
+    requires some { 0 < length (rendered db.now.labels db.now.graph.objects reply.now) }
     requires empty { out.old.buffer ≡ [] }
     ensures same_sink { out.new.sink.ghost_name ≡ out.old.sink.ghost_name }
     ensures ok { OnOk result (Appends (K.written out.old.sink.now) (K.written out.new.sink.now)
-        (rendered db.now.graph.objects reply.now)) }
+        (rendered db.now.labels db.now.graph.objects reply.now)) }
     ensures err { OnErr result (AppendsProperFront
         (K.written out.old.sink.now) (K.written out.new.sink.now)
-        (rendered db.now.graph.objects reply.now)) }
+        (rendered db.now.labels db.now.graph.objects reply.now)) }
     ensures cause { HasCause (K.faults out.old.sink.now) (K.faults out.new.sink.now) result }
 {
     put_reply(reply, db, out)?;
@@ -52,7 +53,7 @@ fn deliver<K: Sink>(reply: &Reply, db: &Db, out: &mut ReplyWriter<K>) -> Result<
 /// Puts the lines of a reply.
 fn put_reply<O: Out>(reply: &Reply, db: &Db, out: &mut O) -> Result<(), O::Fault>
     ensures { Puts O.is_memory (O.state out.old)
-        (rendered db.now.graph.objects reply.now) (O.state out.new) result }
+        (rendered db.now.labels db.now.graph.objects reply.now) (O.state out.new) result }
 {
     match reply {
         Reply::Changed {
@@ -74,7 +75,7 @@ fn put_reply<O: Out>(reply: &Reply, db: &Db, out: &mut O) -> Result<(), O::Fault
 /// Puts the line of a change: how many objects and edges there are now, and nodes of the guide.
 fn put_changed<O: Out>(objects: u32, edges: u32, nodes: u32, out: &mut O) -> Result<(), O::Fault>
     ensures { Puts O.is_memory (O.state out.old)
-        (rendered [] (ChangedReply objects edges nodes)) (O.state out.new) result }
+        (rendered [] [] (ChangedReply objects edges nodes)) (O.state out.new) result }
 {
     put_count(b"ok objects ", objects, out)?;
     put_count(b" edges ", edges, out)?;
@@ -90,7 +91,7 @@ fn put_plan<O: Out>(
     out: &mut O,
 ) -> Result<(), O::Fault>
     ensures { Puts O.is_memory (O.state out.old)
-        (rendered [] (PlanReply kind candidates found)) (O.state out.new) result }
+        (rendered [] [] (PlanReply kind candidates found)) (O.state out.new) result }
 {
     out.put(b"plan ")?;
     out.put(text_of(kind).as_bytes())?;
@@ -123,7 +124,7 @@ fn put_given<O: Out>(number: Option<u32>, out: &mut O) -> Result<(), O::Fault>
 /// Puts each line, with its end.
 fn put_lines<O: Out>(lines: &[OemText], out: &mut O) -> Result<(), O::Fault>
     ensures { Puts O.is_memory (O.state out.old)
-        (rendered [] (LinesReply lines.now)) (O.state out.new) result }
+        (rendered [] [] (LinesReply lines.now)) (O.state out.new) result }
 {
     'lines: for line in lines {
         out.put(line.as_bytes())?;
@@ -135,7 +136,7 @@ fn put_lines<O: Out>(lines: &[OemText], out: &mut O) -> Result<(), O::Fault>
 /// Puts the line of a refusal: its number and its name.
 fn put_refused<O: Out>(refusal: Refusal, out: &mut O) -> Result<(), O::Fault>
     ensures { Puts O.is_memory (O.state out.old)
-        (rendered [] (RefusedReply refusal)) (O.state out.new) result }
+        (rendered [] [] (RefusedReply refusal)) (O.state out.new) result }
 {
     put_count(b"refused ", refusal.number(), out)?;
     out.put(b" ")?;
@@ -146,7 +147,7 @@ fn put_refused<O: Out>(refusal: Refusal, out: &mut O) -> Result<(), O::Fault>
 /// Puts a line for each row, and a line with their number.
 fn put_rows<O: Out>(rows: &[AnswerRow], db: &Db, out: &mut O) -> Result<(), O::Fault>
     ensures { Puts O.is_memory (O.state out.old)
-        (rendered db.now.graph.objects (RowsReply rows.now)) (O.state out.new) result }
+        (rendered db.now.labels db.now.graph.objects (RowsReply rows.now)) (O.state out.new) result }
 {
     put_row_lines(rows, db, out)?;
     put_count(b"rows ", rows.len(), out)?;
@@ -156,7 +157,7 @@ fn put_rows<O: Out>(rows: &[AnswerRow], db: &Db, out: &mut O) -> Result<(), O::F
 /// Puts a line for each row.
 fn put_row_lines<O: Out>(rows: &[AnswerRow], db: &Db, out: &mut O) -> Result<(), O::Fault>
     ensures { Puts O.is_memory (O.state out.old)
-        (flat_map (row_line db.now.graph.objects) rows.now) (O.state out.new) result }
+        (flat_map (row_line db.now.labels db.now.graph.objects) rows.now) (O.state out.new) result }
 {
     'rows: for row in rows {
         put_row(row.as_slice(), db, out)?;
@@ -165,47 +166,100 @@ fn put_row_lines<O: Out>(rows: &[AnswerRow], db: &Db, out: &mut O) -> Result<(),
 }
 
 /// Puts the line of one row.
-fn put_row<O: Out>(cells: &[Oid], db: &Db, out: &mut O) -> Result<(), O::Fault>
+fn put_row<O: Out>(cells: &[Cell], db: &Db, out: &mut O) -> Result<(), O::Fault>
     ensures { Puts O.is_memory (O.state out.old)
-        (row_line db.now.graph.objects cells.now) (O.state out.new) result }
+        (row_line db.now.labels db.now.graph.objects cells.now) (O.state out.new) result }
 {
     put_cells(cells, db, out)?;
     out.put(b"\n")
 }
 
 /// Puts the cells of a row, a bar between two.
-fn put_cells<O: Out>(cells: &[Oid], db: &Db, out: &mut O) -> Result<(), O::Fault>
-    ensures { Puts O.is_memory (O.state out.old)
-        (join_by (cell_text db.now.graph.objects) (codes " | ") cells.now) (O.state out.new) result }
+fn put_cells<O: Out>(cells: &[Cell], db: &Db, out: &mut O) -> Result<(), O::Fault>
+    ensures { let cell = cell_text db.now.labels db.now.graph.objects in
+        Puts O.is_memory (O.state out.old)
+        (join_by cell (codes " | ") cells.now) (O.state out.new) result }
 {
     let Some((first, others)) = cells.split_first() else {
         return Ok(());
     };
-    put_cell(b"&", *first, db, out)?;
+    put_cell(first, db, out)?;
     put_other_cells(others, db, out)
 }
 
 /// Puts a bar and a cell, for each cell.
-fn put_other_cells<O: Out>(cells: &[Oid], db: &Db, out: &mut O) -> Result<(), O::Fault>
-    ensures { let cell = cell_text db.now.graph.objects in
+fn put_other_cells<O: Out>(cells: &[Cell], db: &Db, out: &mut O) -> Result<(), O::Fault>
+    ensures { let cell = cell_text db.now.labels db.now.graph.objects in
         Puts O.is_memory (O.state out.old)
-        (flat_map (λ oid. codes " | " ++ cell oid) cells.now) (O.state out.new) result }
+        (flat_map (λ other. codes " | " ++ cell other) cells.now) (O.state out.new) result }
 {
     'cells: for cell in cells {
-        put_cell(b" | &", *cell, db, out)?;
+        out.put(b" | ")?;
+        put_cell(cell, db, out)?;
     }
     Ok(())
 }
 
-/// Puts some words, the number of an object and its value.
-fn put_cell<O: Out>(words: &[u8], oid: Oid, db: &Db, out: &mut O) -> Result<(), O::Fault>
-    ensures { let value = printed (value_of db.now.graph.objects oid) in
-        Puts O.is_memory (O.state out.old)
-        (words.now ++ decimal oid.0 ++ codes " " ++ value) (O.state out.new) result }
+/// Puts what a cell shows.
+fn put_cell<O: Out>(cell: &Cell, db: &Db, out: &mut O) -> Result<(), O::Fault>
+    ensures { Puts O.is_memory (O.state out.old)
+        (cell_text db.now.labels db.now.graph.objects cell.now) (O.state out.new) result }
 {
-    put_count(words, oid.0, out)?;
+    match cell {
+        Cell::Object(oid) => put_object(*oid, db, out),
+        Cell::Path(word) => put_word(word.as_slice(), db, out),
+    }
+}
+
+/// Puts the number of an object and its value.
+fn put_object<O: Out>(oid: Oid, db: &Db, out: &mut O) -> Result<(), O::Fault>
+    ensures { Puts O.is_memory (O.state out.old)
+        (object_text db.now.graph.objects oid) (O.state out.new) result }
+{
+    put_count(b"&", oid.0, out)?;
     out.put(b" ")?;
     put_value_of(oid, db, out)
+}
+
+/// Puts a word: each label behind a dot, and one dot for the word of no label.
+fn put_word<O: Out>(word: &[Label], db: &Db, out: &mut O) -> Result<(), O::Fault>
+    ensures { Puts O.is_memory (O.state out.old)
+        (word_text db.now.labels word.now) (O.state out.new) result }
+{
+    if word.is_empty() {
+        return out.put(b".");
+    }
+    put_steps(word, db, out)
+}
+
+/// Puts each label behind a dot.
+fn put_steps<O: Out>(word: &[Label], db: &Db, out: &mut O) -> Result<(), O::Fault>
+    ensures { Puts O.is_memory (O.state out.old)
+        (flat_map (step_text db.now.labels) word.now) (O.state out.new) result }
+{
+    'steps: for label in word {
+        put_step(*label, db, out)?;
+    }
+    Ok(())
+}
+
+/// Puts a dot and a label.
+fn put_step<O: Out>(label: Label, db: &Db, out: &mut O) -> Result<(), O::Fault>
+    ensures { Puts O.is_memory (O.state out.old)
+        (step_text db.now.labels label) (O.state out.new) result }
+{
+    out.put(b".")?;
+    print_label(text_of_label(label, db), out)
+}
+
+/// The text of a label. One that isn't in the table has the empty text.
+fn text_of_label(label: Label, db: &Db) -> &[u8]
+    ensures { result.now ≡ unwrap_or (slice_get db.now.labels label.0) [] }
+{
+    match db.label(label) {
+        Some(text) => text.as_bytes(),
+        None => b"",
+    }
 }
 
 /// Puts the value of an object. One that isn't live is printed as a complex one.

@@ -3,16 +3,17 @@ use Rattle.std.proofs.Common.{◌≡◌, List, sym, ap, ◌∙◌}
 use Rattle.std.specs.Cmp.{IsTotalOrder}
 use Rattle.std.specs.Ordering.{ordering_reverse}
 use Rattle.std.specs.declared.cmp.Ordering.TheVariants.{Less, Greater}
-use Rattle.std.proofs.lemmas.Cmp.{nat_cmp_total, on_total, lists_total}
+use Rattle.std.proofs.lemmas.Cmp.{lists_total}
 use Rattle.lore_base.proofs.ListLaws.{AllPairs-unique}
-use Rattle.lorel_bind.specs.Types.{Oid}
+use Rattle.lorel_bind.specs.Types.{Cell}
 use Rattle.lorel_bind.specs.Answers.{row_cmp}
+use Rattle.lorel_bind.specs.CellOrder.{cell_total}
 use Rattle.lorel_bind.specs.Laws.{HasOneAnswer}
 
 pub row_cmp_total : IsTotalOrder row_cmp
-row_cmp_total = lists_total (on_total (λ (oid : Oid). oid.0) nat_cmp_total)
+row_cmp_total = lists_total cell_total
 
-once : (a b : List Oid) → row_cmp a b ≡ Less → row_cmp b a ≡ Less → ⊥
+once : (a b : List Cell) → row_cmp a b ≡ Less → row_cmp b a ≡ Less → ⊥
 once a b low high =
     let flip = row_cmp_total.antisymm a b in
     let apart : Less ≡ Greater = sym low ∙ flip ∙ ap ordering_reverse high in

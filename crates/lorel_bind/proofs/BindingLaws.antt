@@ -2,21 +2,22 @@
 use Rattle.std.proofs.Common.{◌≡◌, ◌≢◌, ℕ, zero, suc, inl, inr, List, [], ◌∷◌, ◌++◌, Option, Some, None, All, refl, sym, ap, subst, ◌∙◌}
 use Rattle.std.specs.List.{AllZip, slice_get}
 use Rattle.std.proofs.lemmas.List.Elements.{All-head, All-tail, All-contains, All-map, All-weaker}
-use Rattle.std.proofs.lemmas.Option.{same_Some}
+use Rattle.std.proofs.lemmas.Option.{same_Some, slice_get-get_or}
 use Rattle.lore_base.specs.Names.{object_of}
 use Rattle.lore_base.specs.Paths.{PathTree, seq, trees_of}
-use Rattle.lorel_bind.specs.Types.{Oid, Start, BoundStart}
+use Rattle.lorel_bind.specs.Types.{Oid, Start, BoundStart, CellOf}
+use Rattle.lorel_bind.specs.Types.shown
 use Rattle.lorel_bind.specs.Types.starts
 use Rattle.lorel_bind.specs.Types.bound_starts
-use Rattle.lorel_bind.specs.Places.{Place, cell_places}
+use Rattle.lorel_bind.specs.Places.{Place, CellPlace, object, word, cells_of}
 use Rattle.lorel_bind.specs.Conditions.{OperandOf, constant, at, CondOf, or, and, not, exists, for_all, compare, same, CondsOf, no_cond, cond, operand_paths, paths_of, paths_of_all, paths_in, cond_of, cond_places}
 use Rattle.lorel_bind.specs.Ranges.{Range, places, AreFused, IsUsed}
 use Rattle.lorel_bind.specs.Refusals.{ranged_identifiers, StartsNowhere}
 use Rattle.lorel_bind.specs.Bound.{RangeTree, BoundPathTree}
-use Rattle.lorel_bind.specs.Bindings.{StandsFor, StandsForAny, IsBoundRange, IsBoundPath, CorrespondOperands, Correspond, CorrespondEach, CorrespondIf}
+use Rattle.lorel_bind.specs.Bindings.{StandsFor, StandsForAny, IsBoundRange, IsBoundCell, IsBoundPath, CorrespondOperands, Correspond, CorrespondEach, CorrespondIf}
 use Rattle.lorel_bind.specs.Laws.{HasOneBinding, HasSomeBinding}
 use Rattle.lorel_bind.specs.inside.Orders.{IsOpen, AreOrdered}
-use Rattle.lorel_bind.specs.inside.Slots.{CanStart, CanBind}
+use Rattle.lorel_bind.specs.inside.Slots.{CanStart, CanShow, CanBind}
 use Rattle.lorel_bind.proofs.ToldLaws.{told_member, told_bytes}
 use Rattle.lorel_bind.proofs.ListLaws.{All-parts, Contains-slot}
 use Rattle.lorel_bind.proofs.OrderLaws.{open_places, other_places}
@@ -215,6 +216,14 @@ module _ (names : List (List ℕ × Oid)) (fused : List Range) (ordered : AreOrd
       let path = first.path ∙ sym second.path in
       λ i. record { start = start i; path = path i }
 
+  one_cell : (place : CellPlace) (a b : CellOf) → IsBoundCell names fused place a → IsBoundCell names fused place b → a ≡ b
+  one_cell (object place) (shown.Object a) (shown.Object b) first second = ap shown.Object (one_start place a b first second)
+  one_cell (word place) (shown.PathOf a) (shown.PathOf b) first second = ap shown.PathOf (one_slot [] fused ordered a b place first second)
+  one_cell (object place) (shown.Object a) (shown.PathOf b) first second = absurd second
+  one_cell (word place) (shown.PathOf a) (shown.Object b) first second = absurd second
+  one_cell (object place) (shown.PathOf a) b first second = absurd first
+  one_cell (word place) (shown.Object a) b first second = absurd first
+
   one_path : (plain : List Range) (path : Place) (a b : BoundPathTree) → IsBoundPath names plain fused path a
       → IsBoundPath names plain fused path b → a ≡ b
   one_path plain path a b first second =
@@ -233,8 +242,8 @@ has_one_binding names query bound other first second =
     let ordered = fused_ordered (IsUsed query first.plain) first.plain first.fused (plain_ordered query first.plain first.made) first.fuses in
     let ranges = one_pairs (IsBoundRange names first.fused) (one_range names first.fused ordered) first.fused bound.ranges other.ranges first.ranges
     (subst (λ (rs : List Range). AllZip (IsBoundRange names rs) rs other.ranges) fused second.ranges) in
-    let cells = one_pairs (StandsFor names first.fused) (one_start names first.fused ordered) (cell_places query) bound.cells other.cells first.cells
-    (subst (λ (rs : List Range). AllZip (StandsFor names rs) (cell_places query) other.cells) fused second.cells) in
+    let cells = one_pairs (IsBoundCell names first.fused) (one_cell names first.fused ordered) (cells_of query) bound.cells other.cells first.cells
+    (subst (λ (rs : List Range). AllZip (IsBoundCell names rs) (cells_of query) other.cells) fused second.cells) in
     let condition = one_option (IsBoundPath names first.plain first.fused) (one_path names first.fused ordered first.plain) (cond_of query) bound.cond
     other.cond first.condition
     (subst (λ (rs : List Range). CorrespondIf (IsBoundPath names rs first.fused) (cond_of query) other.cond) plain
@@ -248,7 +257,8 @@ has_some_binding names query accepted =
     let fused = has_some_fused query plain.0 plain.1 in
     let ranges = some_pairs (IsBoundRange names fused.0) fused.0 (All-weaker _ _ (bound_range fused.0) fused.0
     (starts_can names query plain.0 fused.0 plain.1 fused.1 somewhere)) in
-    let cells = some_pairs (StandsFor names fused.0) (cell_places query) (cells_can names query plain.0 fused.0 plain.1 fused.1 somewhere) in
+    let cells = some_pairs (IsBoundCell names fused.0) (cells_of query) (All-weaker _ _ (bound_cell fused.0) (cells_of query)
+    (cells_can names query plain.0 fused.0 plain.1 fused.1 somewhere)) in
     let condition = some_option (IsBoundPath names plain.0 fused.0) (cond_of query) (All-weaker _ _ (bound_path plain.0 fused.0) (cond_places query)
     (paths_can names query plain.0 fused.0 plain.1 fused.1 somewhere)) in (
       record { ranges = ranges.0; cells = cells.0; cond = condition.0 },
@@ -265,13 +275,18 @@ has_some_binding names query accepted =
   where
     somewhere : (start : List ℕ) → StartsNowhere names query start → ⊥
     somewhere start nowhere = elim (told_member told_bytes (ranged_identifiers query) start) [
-      | inl there ↦ accepted.1.0 (start, nowhere, there)
+      | inl there ↦ accepted.1.0 (inl (start, nowhere, there))
       | inr absent ↦ accepted.0 (start, nowhere, absent)
     ]
 
     bound_range : (fused : List Range) (range : Range) → CanStart names fused range.start → (bound : RangeTree) × IsBoundRange names fused range bound
     bound_range fused range can =
         (record { start = can.0; path = seq (trees_of range.parts) }, record { start = can.1; path = refl })
+
+    bound_cell : (fused : List Range) (cell : CellPlace) → CanShow names fused cell → (bound : CellOf) × IsBoundCell names fused cell bound
+    bound_cell fused (object place) can = (shown.Object can.0, can.1)
+    bound_cell fused (word place) there =
+        (shown.PathOf there.0, slice_get-get_or (places fused) there.0 place there.1 ∙ ap (λ (p : Place). Some p) there.2)
 
     bound_path : (plain fused : List Range) (path : Place) → CanBind names fused plain path
         → (bound : BoundPathTree) × IsBoundPath names plain fused path bound

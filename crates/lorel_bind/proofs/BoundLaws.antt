@@ -1,13 +1,13 @@
 -- Bound conditions as plain data, by their forms.
 use Rattle.std.proofs.Common.{◌≡◌, List, sym, ap, ◌∙◌}
 use Rattle.lorel_bind.specs.Types.{Op}
-use Rattle.lorel_bind.specs.Conditions.{CondOf, exists, for_all, compare, same}
+use Rattle.lorel_bind.specs.Conditions.{CondOf, exists, for_all, compare}
 use Rattle.lorel_bind.specs.Bound.{BoundPathTree, bound_path, bound_operand, bound_cond, cond_step, conds_step}
 use Rattle.lorel_bind.specs.declared.bound.BoundPath.{BoundPath}
 use Rattle.lorel_bind.specs.declared.bound.BoundOperand.{BoundOperand}
-use Rattle.lorel_bind.specs.declared.bound.BoundCond.{BoundCond, Exists, ForAll, Compare, Same}
+use Rattle.lorel_bind.specs.declared.bound.BoundCond.{BoundCond, Exists, ForAll, Compare}
 use Rattle.lorel_bind.specs.declared.bound.BoundCond.TheOpen as layer
-use Rattle.lorel_bind.specs.declared.bound.BoundCond.TheVariants.{rolls-Exists, rolls-ForAll, rolls-Compare, rolls-Same}
+use Rattle.lorel_bind.specs.declared.bound.BoundCond.TheVariants.{rolls-Exists, rolls-ForAll, rolls-Compare}
 use Rattle.lorel_bind.specs.declared.bound.BoundCond.TheFolds.{fold-roll-BoundCond}
 
 pub exists_cond : (cond body : BoundCond) (path : BoundPath) (held : _) → cond ≡ Exists path held → body ≡ held.value
@@ -25,6 +25,3 @@ for_all_cond cond body path held is boxed =
 pub compare_cond : (cond : BoundCond) (left : BoundOperand) (op : Op) (right : BoundOperand) → cond ≡ Compare left op right
     → bound_cond cond ≡ compare (bound_operand left) op (bound_operand right)
 compare_cond cond left op right is = ap bound_cond (is ∙ sym (rolls-Compare left op right)) ∙ fold-roll-BoundCond (CondOf BoundPathTree) (List (CondOf BoundPathTree)) cond_step conds_step (layer.Compare left op right)
-
-pub same_cond : (cond : BoundCond) (left right : BoundPath) → cond ≡ Same left right → bound_cond cond ≡ same (bound_path left) (bound_path right)
-same_cond cond left right is = ap bound_cond (is ∙ sym (rolls-Same left right)) ∙ fold-roll-BoundCond (CondOf BoundPathTree) (List (CondOf BoundPathTree)) cond_step conds_step (layer.Same left right)

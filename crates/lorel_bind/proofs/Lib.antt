@@ -3,6 +3,7 @@ pub mod ListedLaws
 pub mod AscentLaws
 pub mod MatchedLaws
 pub mod ReachedLaws
+pub mod LeastWordLaws
 pub mod ComparedLaws
 pub mod ConditionLaws
 pub mod ListLaws
@@ -12,6 +13,7 @@ pub mod GatherLaws
 pub mod OrderLaws
 pub mod PlainLaws
 pub mod FuseLaws
+pub mod ShownLaws
 pub mod PrefixLaws
 pub mod LeadLaws
 pub mod ValuationLaws
@@ -21,6 +23,7 @@ pub mod AnswerLaws
 pub mod SomeAnswerLaws
 pub mod RefusalLaws
 pub mod FusedRowLaws
+pub mod CellLaws
 pub mod SlotRowLaws
 pub mod LeafLaws
 pub mod RunLaws
@@ -29,6 +32,7 @@ pub mod BindingLaws
 pub mod BoundLaws
 pub mod BindLaws
 pub mod ScopeLaws
+pub mod PathVariableLaws
 pub mod TextLaws
 pub mod TextCauseLaws
 pub mod FindLaws

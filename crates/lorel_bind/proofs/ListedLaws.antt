@@ -1,6 +1,6 @@
 -- Finite lists of exactly what passes: of one item, of either kind, of what others lead to; claims over them can be told.
 use Rattle.std.proofs.Common.{◌≡◌, ◌⊎◌, inl, inr, ◌↔◌, List, [], ◌∷◌, ◌++◌, Option, Some, None, subst, refl, sym}
-use Rattle.std.specs.List.{Contains}
+use Rattle.std.specs.List.{Contains, AllZip}
 use Rattle.std.proofs.lemmas.List.Elements.{Contains-append_left, Contains-append_right, Contains-append_cases}
 use Rattle.lore_base.proofs.MemberLaws.{Contains-none, Contains-tail, Contains-head, Contains-cases, Contains-same}
 use Rattle.lorel_bind.proofs.ToldLaws.{IsTold, told_not, told_same, told_member}
@@ -51,6 +51,11 @@ pub listed_when : {X : Type 0} (P : Type 0) → IsTold P → (x : X) → IsListe
 listed_when P (inr none) x = listed_none (λ y. P × (x ≡ y)) (λ y h. none h.0)
 listed_when P (inl p) x = listed_same (λ y. x ≡ y) (λ y. P × (x ≡ y)) (λ y. (λ same. (p, same), λ h. h.1)) (listed_one x)
 
+-- what passes, where something holds
+pub listed_given : {X : Type 0} (P : Type 0) (Q : X → Type 0) → IsTold P → IsListed Q → IsListed (λ x. P × Q x)
+listed_given P Q (inl p) listed = listed_same Q (λ x. P × Q x) (λ x. (λ q. (p, q), λ h. h.1)) listed
+listed_given P Q (inr none) listed = listed_none (λ x. P × Q x) (λ x h. none h.0)
+
 pub listed_option : {X : Type 0} (found : Option X) → IsListed (λ x. found ≡ Some x)
 listed_option None = listed_none (λ x. None ≡ Some x) (λ x h. cc)
 listed_option (Some y) = listed_same (λ x. y ≡ x) (λ x. Some y ≡ Some x) (λ x. (λ h. cc, λ h. cc)) (listed_one y)
@@ -91,6 +96,28 @@ listed_where {X} P Q listed told =
       λ h. (y, h.0, (h.1, refl)),
     ))
     (listed_over P (λ x y. Q x × (x ≡ y)) listed (λ x. listed_when (Q x) (told x) x))
+
+-- lists that go in pairs with a list
+module _ {X Y : Type 0} (R : X → Y → Type 0) where
+  -- of no item there are none, and of one more a first one and the others
+  no_pairs : (ys : List Y) → ([] ≡ ys) ↔ AllZip R [] ys
+  no_pairs [] = (λ same. tt, λ pairs. refl)
+  no_pairs (y ∷ ys) = (λ same. cc, λ pairs. absurd pairs)
+
+  first_pair : (x : X) (xs : List X) (ys : List Y)
+      → ((first : Y) × R x first × ((rest : List Y) × AllZip R xs rest × (first ∷ rest ≡ ys))) ↔ AllZip R (x ∷ xs) ys
+  first_pair x xs [] = (λ h. let is : h.0 ∷ h.2.0 ≡ [] = h.2.2 in cc, λ pairs. absurd pairs)
+  first_pair x xs (y ∷ ys) = (
+    λ h. subst (AllZip R (x ∷ xs)) h.2.2 (h.1, h.2.1),
+    λ pairs. (y, pairs.0, (ys, pairs.1, refl)),
+  )
+
+  pub listed_pairs : ((x : X) → IsListed (R x)) → (xs : List X) → IsListed (AllZip R xs)
+  listed_pairs each [] = listed_same (λ ys. [] ≡ ys) (AllZip R []) no_pairs (listed_one [])
+  listed_pairs each (x ∷ xs) =
+      listed_same (λ ys. (first : Y) × R x first × ((rest : List Y) × AllZip R xs rest × (first ∷ rest ≡ ys))) (AllZip R (x ∷ xs)) (first_pair x xs)
+      (listed_over (R x) (λ first ys. (rest : List Y) × AllZip R xs rest × (first ∷ rest ≡ ys)) (each x)
+      (λ first. listed_over (AllZip R xs) (λ rest ys. first ∷ rest ≡ ys) (listed_pairs each xs) (λ rest. listed_one (first ∷ rest))))
 
 -- ---- what is told over what is listed
 some_member : {X : Type 0} (Q : X → Type 0) → ((x : X) → IsTold (Q x)) → (xs : List X) → IsTold ((x : X) × Contains xs x × Q x)

@@ -2,24 +2,27 @@
 use Rattle.std.proofs.Common.{◌≡◌, ℕ, zero, suc, ◌+◌, ◌<◌, ◌⊎◌, inl, inr, ◌↔◌, true, false, true≢false, List, [], ◌∷◌, ◌++◌, length, get_or, set, take, map, Some, subst, refl, sym, ap, ◌∙◌, arith}
 use Rattle.std.specs.List.{Contains, slice_get}
 use Rattle.std.proofs.lemmas.List.{length-map, take-map}
-use Rattle.std.proofs.lemmas.List.Elements.{All-contains, Contains-append_left, Contains-push, Contains-push_cases}
-use Rattle.std.proofs.lemmas.Option.{slice_get_within, slice_get_read, same_Some}
+use Rattle.std.proofs.lemmas.List.Elements.{All-contains, Contains-append_left, Contains-append_right, Contains-append_cases, Contains-push, Contains-push_cases}
+use Rattle.std.specs.Option.{option_map}
+use Rattle.std.proofs.lemmas.Option.{slice_get-map, slice_get-get_or, slice_get_within, slice_get_read, same_Some}
 use Rattle.lore_base.specs.Paths.{PathTree}
 use Rattle.lore_base.proofs.MemberLaws.{Contains-none, Contains-head, Contains-tail, Contains-cases, Contains-same}
 use Rattle.lorel_trees.specs.Trees.{SelectTree}
-use Rattle.lorel_bind.specs.Places.{Place}
+use Rattle.lorel_bind.specs.Places.{Place, CellPlace, object, word, cells_of}
 use Rattle.lorel_bind.specs.Ranges.{Range, places, IsFixed, IsUsed}
 use Rattle.lorel_bind.specs.inside.Texts.{IsTextOf}
-use Rattle.lorel_bind.specs.inside.Views.{place_tree, place_trees, range_of, ranges_of}
-use Rattle.lorel_bind.specs.inside.Links.{IsIndexed, IsOnce, IsFollowed, AreFollowed, AreLinked, AreFresh, IsMarked, IsFixedOf, AreMarked}
+use Rattle.lorel_bind.specs.inside.Views.{place_tree, place_trees, shown_tree, shown_trees, range_of, ranges_of}
+use Rattle.lorel_bind.specs.inside.Links.{IsIndexed, IsOnce, IsFollowed, AreFollowed, AreLinked, AreFresh, IsMarked, IsNeededAt, IsNeededOf, IsFixedOf, AreMarked}
 use Rattle.lorel_bind.specs.declared.links.Link.{Link}
 use Rattle.lorel_bind.specs.declared.links.Links.{Links}
 use Rattle.lorel_bind.specs.declared.links.Plain.{Plain}
 use Rattle.lorel_bind.specs.declared.links.Followers.{Followers}
 use Rattle.lorel_bind.specs.declared.places.Place as declared
 use Rattle.lorel_bind.specs.declared.text.Text.{Text}
+use Rattle.lorel_bind.specs.declared.text.Shown.{Shown}
 use Rattle.lorel_bind.proofs.ListLaws.{Contains-slot, map-take_read}
 use Rattle.lorel_bind.proofs.PrefixLaws.{one_fixed}
+use Rattle.lorel_bind.proofs.ReachedLaws.{Contains-mapped}
 use Rattle.lorel_bind.proofs.FollowLaws.{place_at}
 
 -- ---- one item of a list in place of another
@@ -217,37 +220,169 @@ fixed_step ranges all i read fixed rest within is here place = (
   ],
 )
 
--- ---- used ranges
--- where cells are marked and what paths of the condition are fixed at, exactly the used ranges are
-pub marked_used : (old middle new : Links) (query : SelectTree) (text : Text) → AreFresh old
-    → AreMarked old middle (Contains (place_trees text.cells.items))
-    → AreMarked middle new (IsFixedOf (ranges_of middle.links.items) (place_trees text.condition.places.items)) → IsTextOf query text
-    → (place : Place) → Contains (places (ranges_of old.links.items)) place
-    → IsMarked new.links.items place ↔ IsUsed query (ranges_of old.links.items) place
-marked_used old middle new query text fresh cells conditions is place at =
-    let same = cells.ranges in (
-      λ h. elim ((conditions.marked place).0 h) [
-        | inl before ↦ elim ((cells.marked place).0 before) [
-          | inl earlier ↦ absurd (true≢false (sym earlier.3 ∙ All-contains (λ (l : Link). l.used ≡ false) old.links.items earlier.0 fresh.unused earlier.1))
-          | inr mark ↦ inl (subst (λ (ps : List Place). Contains ps place) is.cells mark.0)
-        ]
-        | inr mark ↦ inr (
-          mark.0.0,
-          mark.0.1,
-          subst (λ (ps : List Place). Contains ps mark.0.0) is.conditions mark.0.2,
-          subst (λ (rs : List Range). IsFixed rs mark.0.0 place mark.0.1) same mark.0.3,
+-- ---- words that cells show
+-- in a list where each place stands once a range is known by its place
+one_range : (ranges : List Range) (number : ℕ) (own range : Range) → IsOnce (places ranges) → slice_get ranges number ≡ Some own
+    → Contains ranges range → range.place ≡ own.place → range ≡ own
+one_range ranges number own range once stands there same =
+    let at_place = λ (r : Range). r.place in
+    let here : slice_get ranges there.0 ≡ Some range =
+    slice_get-get_or ranges there.0 range there.1 ∙ ap (λ (r : Range). Some r) there.2 in
+    let first = slice_get-map at_place ranges there.0 ∙ ap (option_map at_place) here ∙ ap (λ (p : Place). Some p) same in
+    let second = slice_get-map at_place ranges number ∙ ap (option_map at_place) stands in
+    same_Some range own (sym here ∙ ap (slice_get ranges) (once there.0 number own.place first second) ∙ stands)
+
+-- for a word its range is needed and the one that this starts at
+needed_at : (ranges : List Range) (number : ℕ) (own : Range) → IsOnce (places ranges) → slice_get ranges number ≡ Some own → (place : Place)
+    → IsNeededAt ranges own.place place ↔ ((place ≡ own.place) ⊎ (place ≡ own.start))
+needed_at ranges number own once stands place = (
+  λ h.
+      let same = one_range ranges number own h.0 once stands h.1 h.2 in
+      elim h.3 [
+        | inl itself ↦ inl (sym itself ∙ h.2)
+        | inr start ↦ inr (sym start ∙ ap (λ (r : Range). r.start) same)
+      ],
+  λ h. (own, Contains-slot ranges number own stands, refl, elim h [ inl itself ↦ inl (sym itself) | inr start ↦ inr (sym start) ]),
+)
+
+pub marked_word : (old middle new : Links) (number : ℕ) (link : Link) (shown : Place) → AreLinked old
+    → slice_get (place_trees old.plain.places.items) number ≡ Some shown → link ≡ get_or old.links.items number link
+    → AreMarked old middle (λ other. other ≡ shown) → AreMarked middle new (λ other. other ≡ place_tree link.start)
+    → AreMarked old new (IsNeededAt (ranges_of old.links.items) shown)
+marked_word old middle new number link shown all stands is first second =
+    let ranges = ranges_of old.links.items in
+    let there : slice_get (places ranges) number ≡ Some shown = ap (λ ps. slice_get ps number) (sym all.same) ∙ stands in
+    let low = slice_get_within (places ranges) number shown there in
+    let long = length-map ranges (λ (r : Range). r.place) in
+    let longer = length-map old.links.items range_of in
+    let within : number < length old.links.items = omega arith in
+    let read = slice_get_read old.links.items (length old.links.items) number link refl within is in
+    let own : place_tree link.place ≡ shown = same_Some (place_tree link.place) shown (sym (place_at old.links.items number link read) ∙ there) in
+    let here : slice_get ranges number ≡ Some (range_of link) = slice_get-map range_of old.links.items number ∙ ap (option_map range_of) read in
+    marked_then old middle new (λ other. other ≡ shown) (λ other. other ≡ place_tree link.start) (IsNeededAt ranges shown) first second
+    (subst (λ (p : Place). (place : Place) → IsNeededAt ranges p place ↔ ((place ≡ p) ⊎ (place ≡ place_tree link.start))) own
+    (needed_at ranges number (range_of link) all.once here))
+
+-- a word whose place has no range needs none
+pub unneeded : (ranges : List Range) (shown place : Place) → (Contains (places ranges) shown → ⊥) → IsNeededAt ranges shown place → ⊥
+unneeded ranges shown place absent h =
+    absent (Contains-same (places ranges) h.0.place shown h.2 (Contains-mapped (λ (r : Range). r.place) ranges h.0 h.1))
+
+-- the same marks, said otherwise
+marked_alike : (old new : Links) (Marks Other : Place → Type 0) → ((place : Place) → Marks place ↔ Other place) → AreMarked old new Marks
+    → AreMarked old new Other
+marked_alike old new Marks Other alike marked = record {
+  plain = marked.plain;
+  ranges = marked.ranges;
+  linked = marked.linked;
+  marked = λ place. (
+    λ h. elim ((marked.marked place).0 h) [ inl before ↦ inl before | inr mark ↦ inr ((alike place).0 mark.0, mark.1) ],
+    λ h. (marked.marked place).1 (elim h [ inl before ↦ inl before | inr mark ↦ inr ((alike place).1 mark.0, mark.1) ]),
+  );
+}
+
+-- a cell that shows a word, and one that shows an object
+pub marked_shown : (old new : Links) (shown : Place) → AreMarked old new (IsNeededAt (ranges_of old.links.items) shown)
+    → AreMarked old new (IsNeededOf (ranges_of old.links.items) (word shown ∷ []))
+marked_shown old new shown = marked_alike old new (IsNeededAt ranges shown) (IsNeededOf ranges (word shown ∷ [])) (λ place. (
+  λ h. (shown, Contains-head (word shown) [], h),
+  λ h. elim (Contains-cases (word shown) [] (word h.0) h.1) [
+    | inl same ↦ (let here : shown ≡ h.0 = cc in subst (λ (p : Place). IsNeededAt ranges p place) (sym here) h.2)
+    | inr none ↦ absurd (Contains-none (word h.0) none)
+  ],
+))
+  where
+    ranges : List Range
+    ranges = ranges_of old.links.items
+
+pub wordless : (ranges : List Range) (shown place : Place) → IsNeededOf ranges (object shown ∷ []) place → ⊥
+wordless ranges shown place h = elim (Contains-cases (object shown) [] (word h.0) h.1) [
+  | inl same ↦ (let apart : object shown ≡ word h.0 = same in cc)
+  | inr none ↦ Contains-none (word h.0) none
+]
+
+pub words_step : (ranges : List Range) (all : List Shown) (i : ℕ) (read : Shown) → i < length all → read ≡ get_or all i read → (place : Place)
+    → IsNeededOf ranges (take (i + 1) (shown_trees all)) place
+    ↔ (IsNeededOf ranges (take i (shown_trees all)) place ⊎ IsNeededOf ranges (shown_tree read ∷ []) place)
+words_step ranges all i read within is place =
+    let more = take_read shown_tree all i read within is in
+    let front = take i (shown_trees all) in (
+      λ h. elim (Contains-append_cases front (shown_tree read ∷ []) (word h.0) (subst (λ (cs : List CellPlace). Contains cs (word h.0)) more h.1)) [
+        | inl before ↦ inl (h.0, before, h.2)
+        | inr last ↦ inr (h.0, last, h.2)
+      ],
+      λ h. elim h [
+        | inl before ↦ (
+          before.0,
+          subst (λ (cs : List CellPlace). Contains cs (word before.0)) (sym more)
+              (Contains-append_left front (shown_tree read ∷ []) (word before.0) before.1),
+          before.2,
+        )
+        | inr last ↦ (
+          last.0,
+          subst (λ (cs : List CellPlace). Contains cs (word last.0)) (sym more)
+              (Contains-append_right front (shown_tree read ∷ []) (word last.0) last.1),
+          last.2,
         )
       ],
-      λ used. (conditions.marked place).1 (elim used [
-        | inl shown ↦ inl ((cells.marked place).1 (inr (subst (λ (ps : List Place). Contains ps place) (sym is.cells) shown, at)))
-        | inr fixed ↦ inr (
-          (
-            fixed.0,
-            fixed.1,
-            subst (λ (ps : List Place). Contains ps fixed.0) (sym is.conditions) fixed.2,
-            subst (λ (rs : List Range). IsFixed rs fixed.0 place fixed.1) (sym same) fixed.3,
-          ),
-          subst (λ (rs : List Range). Contains (places rs) place) (sym same) at,
-        )
-      ]),
+    )
+
+-- ---- used ranges
+-- what the text tells of the uses of a place
+used_alike : (ranges : List Range) (query : SelectTree) (text : Text) → IsTextOf query text → (place : Place)
+    → ((Contains (place_trees text.items.cells.items) place ⊎ IsNeededOf ranges (shown_trees text.items.shown.items) place)
+    ⊎ IsFixedOf ranges (place_trees text.condition.places.items) place) ↔ IsUsed query ranges place
+used_alike ranges query text is place = (
+  λ h. elim h [
+    | inl shown ↦ elim shown [
+      | inl cell ↦ inl (subst (λ (ps : List Place). Contains ps place) is.items.cells cell)
+      | inr needed ↦
+          let at = needed.2 in
+          inr (inl (
+            at.0,
+            at.1,
+            Contains-same (cells_of query) (word needed.0) (word at.0.place) (ap word (sym at.2))
+                (subst (λ (cs : List CellPlace). Contains cs (word needed.0)) is.items.shown needed.1),
+            at.3,
+          ))
+    ]
+    | inr fixed ↦ inr (inr (fixed.0, fixed.1, subst (λ (ps : List Place). Contains ps fixed.0) is.conditions fixed.2, fixed.3))
+  ],
+  λ used. elim used [
+    | inl cell ↦ inl (inl (subst (λ (ps : List Place). Contains ps place) (sym is.items.cells) cell))
+    | inr other ↦ elim other [
+      | inl needed ↦ inl (inr (
+        needed.0.place,
+        subst (λ (cs : List CellPlace). Contains cs (word needed.0.place)) (sym is.items.shown) needed.2,
+        (needed.0, needed.1, refl, needed.3),
+      ))
+      | inr fixed ↦ inr (fixed.0, fixed.1, subst (λ (ps : List Place). Contains ps fixed.0) (sym is.conditions) fixed.2, fixed.3)
+    ]
+  ],
+)
+
+-- where cells are marked, what their words need, and what paths of the condition are fixed at, exactly the used ranges are
+pub marked_used : (old middle third new : Links) (query : SelectTree) (text : Text) → AreFresh old
+    → AreMarked old middle (Contains (place_trees text.items.cells.items))
+    → AreMarked middle third (IsNeededOf (ranges_of middle.links.items) (shown_trees text.items.shown.items))
+    → AreMarked third new (IsFixedOf (ranges_of third.links.items) (place_trees text.condition.places.items)) → IsTextOf query text
+    → (place : Place) → Contains (places (ranges_of old.links.items)) place
+    → IsMarked new.links.items place ↔ IsUsed query (ranges_of old.links.items) place
+marked_used old middle third new query text fresh cells words conditions is place at =
+    let ranges = ranges_of old.links.items in
+    let shown = shown_trees text.items.shown.items in
+    let paths = place_trees text.condition.places.items in
+    let cell = λ (p : Place). Contains (place_trees text.items.cells.items) p in
+    let needed = IsNeededOf ranges shown in
+    let fixed = IsFixedOf ranges paths in
+    let two = marked_then old middle third cell needed (λ p. cell p ⊎ needed p) cells
+    (subst (λ (rs : List Range). AreMarked middle third (IsNeededOf rs shown)) cells.ranges words) (λ p. (λ h. h, λ h. h)) in
+    let all = marked_then old third new (λ p. cell p ⊎ needed p) fixed (λ p. (cell p ⊎ needed p) ⊎ fixed p) two
+    (subst (λ (rs : List Range). AreMarked third new (IsFixedOf rs paths)) two.ranges conditions) (λ p. (λ h. h, λ h. h)) in
+    let alike = used_alike ranges query text is place in (
+      λ h. elim ((all.marked place).0 h) [
+        | inl earlier ↦ absurd (true≢false (sym earlier.3 ∙ All-contains (λ (l : Link). l.used ≡ false) old.links.items earlier.0 fresh.unused earlier.1))
+        | inr mark ↦ alike.0 mark.0
+      ],
+      λ used. (all.marked place).1 (inr (alike.1 used, at)),
     )

@@ -16,6 +16,7 @@ use Rattle.lorel_bind.proofs.ListLaws.{two_fronts}
 use Rattle.lorel_bind.proofs.PlaceLaws.{place_from, told_place}
 use Rattle.lorel_bind.proofs.PlainLaws.{plain_ordered}
 use Rattle.lorel_bind.proofs.FuseLaws.{some_fused}
+use Rattle.lorel_bind.proofs.ShownLaws.{told_needed}
 
 nothing_more : (parts more : List PathTree) → parts ++ more ≡ [] → more ≡ []
 nothing_more [] more same = same
@@ -172,7 +173,8 @@ told_fixed ranges (path ∷ paths) place =
 
 pub told_used : (query : SelectTree) (ranges : List Range) (place : Place) → IsTold (IsUsed query ranges place)
 told_used query ranges place =
-    told_either (told_member told_place (cell_places query) place) (told_fixed ranges (cond_places query) place)
+    told_either (told_member told_place (cell_places query) place)
+    (told_either (told_needed query ranges place) (told_fixed ranges (cond_places query) place))
 
 pub has_some_fused : HasSomeFused
 has_some_fused query plain gathered = some_fused (IsUsed query plain) (told_used query plain) plain (plain_ordered query plain gathered)

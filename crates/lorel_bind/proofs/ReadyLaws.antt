@@ -1,6 +1,7 @@
 -- What is ready to be bound: the fused ranges are those of the select, and each place that is asked for has a start.
-use Rattle.std.proofs.Common.{◌≡◌, ℕ, zero, suc, ◌↔◌, ◌<◌, ◌≤◌, inl, inr, List, [], ◌∷◌, ◌++◌, length, Option, Some, None, All, subst, refl, sym, ap, ◌∙◌, append_assoc, arith}
+use Rattle.std.proofs.Common.{◌≡◌, ℕ, zero, suc, ◌↔◌, ◌<◌, ◌≤◌, inl, inr, List, [], ◌∷◌, ◌++◌, length, Option, Some, None, Result, Ok, Err, IfErr, All, subst, refl, sym, ap, ◌∙◌, append_assoc, arith}
 use Rattle.std.specs.List.{Contains, AllZip}
+use Rattle.std.specs.Result.{IsErrAnd}
 use Rattle.std.proofs.lemmas.List.{map-append}
 use Rattle.std.proofs.lemmas.List.Elements.{All-nil, All-cons, All-head, All-tail, All-append, All-contains, Contains-append_left, Contains-append_right, Contains-append_cases}
 use Rattle.std.proofs.lemmas.Option.{slice_get-get_or}
@@ -10,15 +11,15 @@ use Rattle.lorel_trees.specs.Trees.{SelectTree}
 use Rattle.lorel_bind.specs.Types.{Oid, RANGES}
 use Rattle.lorel_bind.specs.Types.starts
 use Rattle.lorel_bind.specs.Types.bound_starts
-use Rattle.lorel_bind.specs.Places.{Place, at_root, cell_places}
+use Rattle.lorel_bind.specs.Places.{Place, at_root, cell_places, CellPlace, object, word, cells_of}
 use Rattle.lorel_bind.specs.Conditions.{OperandOf, constant, at, CondOf, or, and, not, exists, for_all, compare, same, CondsOf, no_cond, cond, operand_paths, paths_of, paths_of_all, paths_in, cond_of, cond_places}
 use Rattle.lorel_bind.specs.Ranges.{Range, places, joined, ArePlain, IsUsed, IsFixed, IsFusable, Fuses, FusesTimes, AreFused}
 use Rattle.lorel_bind.specs.Refusals.{text_places, ranged_identifiers, StartsNowhere, HasTooMany, IsRefusedBy, IsAccepted}
 use Rattle.lorel_bind.specs.Bound.{BoundTree}
-use Rattle.lorel_bind.specs.Bindings.{StandsFor, IsBoundRange, IsBoundPath, CorrespondOperands, Correspond, CorrespondEach, CorrespondIf, IsBinding}
+use Rattle.lorel_bind.specs.Bindings.{IsBoundRange, IsBoundCell, IsBoundPath, CorrespondOperands, Correspond, CorrespondEach, CorrespondIf, IsBinding}
 use Rattle.lorel_bind.specs.declared.faults.BindFault.TheVariants.{TooManyRanges}
 use Rattle.lorel_bind.specs.inside.Orders.{IsFound, AreOrdered}
-use Rattle.lorel_bind.specs.inside.Slots.{CanStart, CanStartAny, CanBind, Starts, BindsRange, BindsPath}
+use Rattle.lorel_bind.specs.inside.Slots.{CanStart, CanStartAny, CanShow, CanBind, BindsRange, BindsCell, BindsPath}
 use Rattle.lorel_bind.specs.inside.Texts.{PassesText}
 use Rattle.lorel_bind.proofs.ReachedLaws.{Contains-mapped}
 use Rattle.lorel_bind.proofs.ToldLaws.{told_member, told_bytes}
@@ -28,6 +29,7 @@ use Rattle.lorel_bind.proofs.GatherLaws.{has_one_plain}
 use Rattle.lorel_bind.proofs.PlainLaws.{plain_ordered}
 use Rattle.lorel_bind.proofs.FuseLaws.{has_one_fused, used_stays, fused_ordered}
 use Rattle.lorel_bind.proofs.RootLaws.{IsBoundName, IsKnown, names_bound, plain_roots, known_found, cells_known, cond_known}
+use Rattle.lorel_bind.proofs.ShownLaws.{object_shown, word_found, word_range}
 use Rattle.lorel_bind.proofs.SlotLaws.{pairs_where}
 
 -- ---- uses that are alike at the places of ranges
@@ -161,19 +163,25 @@ module _ (names : List (List ℕ × Oid)) (query : SelectTree) (plain fused : Li
       (known_found names (places fused) range.start (All-contains (λ r. IsFound (places fused) r.start) fused range found there)
       (All-contains (λ r. IsBoundName names r.start.root) fused range bound there)))
 
-  cell_can : (cell : Place) → Contains (cell_places query) cell → IsKnown names (places plain) cell → CanStart names fused cell
-  cell_can cell there (inl known) = known_starts names fused cell (inl known)
-  cell_can cell there (inr here) = known_starts names fused cell (inr (used_stays (IsUsed query plain) plain fused cell (inl there) fuses here))
+  place_can : (place : Place) → Contains (cell_places query) place → IsKnown names (places plain) place → CanStart names fused place
+  place_can place there (inl known) = known_starts names fused place (inl known)
+  place_can place there (inr here) = known_starts names fused place (inr (used_stays (IsUsed query plain) plain fused place (inl there) fuses here))
 
-  pub cells_can : All (CanStart names fused) (cell_places query)
-  cells_can = All-from_members (CanStart names fused) (cell_places query)
-      (λ cell there. cell_can cell there (cells_known names query plain made all_bound cell there))
+  cell_can : (cell : CellPlace) → Contains (cells_of query) cell → CanShow names fused cell
+  cell_can (object place) there =
+      let here = object_shown query place there in
+      place_can place here (cells_known names query plain made all_bound place here)
+  cell_can (word place) there =
+      used_stays (IsUsed query plain) plain fused place (inr (inl (word_range query plain made place there))) fuses (word_found query plain made place there)
+
+  pub cells_can : All (CanShow names fused) (cells_of query)
+  cells_can = All-from_members (CanShow names fused) (cells_of query) cell_can
 
   fixed_can : (path fixed : Place) (rest : List PathTree) → Contains (cond_places query) path → IsFixed plain path fixed rest
       → CanStartAny names fused fixed
   fixed_can path fixed rest there is_fixed =
       let ranged = λ (here : Contains (places plain) fixed). any_starts names fused fixed (known_starts names fused fixed
-      (inr (used_stays (IsUsed query plain) plain fused fixed (inr (path, rest, there, is_fixed)) fuses here))) in
+      (inr (used_stays (IsUsed query plain) plain fused fixed (inr (inr (path, rest, there, is_fixed))) fuses here))) in
       elim is_fixed.stands [
         | inr here ↦ ranged here
         | inl root ↦ elim (cond_known names query plain made all_bound path there) [
@@ -230,7 +238,7 @@ module _ {P Q : Type 0} (Passes : P → Type 0) (R : P → Q → Type 0) where
 -- ---- the bound select
 pub ready_bound : (names : List (List ℕ × Oid)) (query : SelectTree) (plain fused : List Range) (bound : BoundTree) → ArePlain query plain
     → AreFused (IsUsed query plain) plain fused → ((start : List ℕ) → StartsNowhere names query start → ⊥)
-    → AllZip (BindsRange names fused) fused bound.ranges → AllZip (Starts names fused) (cell_places query) bound.cells
+    → AllZip (BindsRange names fused) fused bound.ranges → AllZip (BindsCell names fused) (cells_of query) bound.cells
     → CorrespondIf (BindsPath names fused plain) (cond_of query) bound.cond → IsBinding names query bound
 ready_bound names query plain fused bound made fuses somewhere ranges cells condition = record {
   plain = plain;
@@ -239,17 +247,23 @@ ready_bound names query plain fused bound made fuses somewhere ranges cells cond
   fuses = fuses;
   ranges = pairs_where (λ (range : Range). CanStart names fused range.start) (IsBoundRange names fused) fused bound.ranges ranges
       (starts_can names query plain fused made fuses somewhere);
-  cells = pairs_where (CanStart names fused) (StandsFor names fused) (cell_places query) bound.cells cells
+  cells = pairs_where (CanShow names fused) (IsBoundCell names fused) (cells_of query) bound.cells cells
       (cells_can names query plain fused made fuses somewhere);
   condition = option_where (CanBind names fused plain) (IsBoundPath names plain fused) (cond_of query) bound.cond condition
       (paths_can names query plain fused made fuses somewhere);
 }
 
 -- ---- what is accepted and what is refused
+-- what holds of a fault holds where it is passed on
+pub passed_on : {A E : Type 0} (P : E → Type 0) (result : Result A E) (fault : E) → P fault → IsErrAnd result (λ given. given ≡ fault)
+    → IfErr result P
+passed_on P (Ok x) fault told given = tt
+passed_on P (Err own) fault told given = subst P (sym given) told
+
 pub starts_somewhere : (names : List (List ℕ × Oid)) (query : SelectTree) → PassesText names query → (start : List ℕ)
     → StartsNowhere names query start → ⊥
 starts_somewhere names query passes start nowhere = elim (told_member told_bytes (ranged_identifiers query) start) [
-  | inl there ↦ passes.variables_known (start, nowhere, there)
+  | inl there ↦ passes.variables_known (inl (start, nowhere, there))
   | inr absent ↦ passes.names_known (start, nowhere, absent)
 ]
 

@@ -5,12 +5,13 @@ use Rattle.std.proofs.lemmas.List.Kept.{AllPairs-cons}
 use Rattle.lore_base.specs.Names.{object_of}
 use Rattle.lore_base.proofs.ListLaws.{AllPairs-head, AllPairs-tail}
 use Rattle.lore_base.proofs.MemberLaws.{Contains-same}
-use Rattle.lorel_trees.specs.Trees.{SelectTree}
+use Rattle.lorel_trees.specs.Trees.{ItemTree, SelectTree}
+use Rattle.lorel_trees.specs.Trees as t
 use Rattle.lorel_bind.specs.Types.{Oid, Refusal, RANGES, ITEMS, LEAVES}
 use Rattle.lorel_bind.specs.Types.refusals
-use Rattle.lorel_bind.specs.Places.{Root, named, ranged, quantified, Place}
+use Rattle.lorel_bind.specs.Places.{Root, named, ranged, quantified, Place, path_variables, word_place}
 use Rattle.lorel_bind.specs.Ranges.{Range, AreFused, IsUsed}
-use Rattle.lorel_bind.specs.Refusals.{text_places, ranged_identifiers, StartsNowhere, HasManyRanges, leaves_in, Cause, order, IsFirst, IsClear}
+use Rattle.lorel_bind.specs.Refusals.{text_places, ranged_identifiers, StartsNowhere, HasUnknownPathVariable, HasManyRanges, leaves_in, Cause, order, IsFirst, IsClear}
 use Rattle.lorel_bind.specs.Laws.{HasSomeVerdict, HasOneVerdict}
 use Rattle.lorel_bind.proofs.ToldLaws.{IsTold, told_same, told_not, told_either, told_member, told_bytes, told_below}
 use Rattle.lorel_bind.proofs.ListedLaws.{IsListed, listed_members, listed_none, listed_one, listed_same, listed_over, listed_where, told_some}
@@ -47,9 +48,9 @@ module _ (Applies : Refusal → Type 0) where
   clear_none (next ∷ others) refusal clear (inr later) = clear_none others refusal clear.1 later.1
 
 -- ---- paths that start nowhere
-told_none : (found : Option Oid) → IsTold (found ≡ None)
+told_none : {X : Type 0} (found : Option X) → IsTold (found ≡ None)
 told_none None = inl refl
-told_none (Some oid) = inr (λ h. cc)
+told_none (Some x) = inr (λ h. cc)
 
 listed_name : (root : Root) → IsListed (λ start. root ≡ named start)
 listed_name (named name) = listed_same (λ start. name ≡ start) (λ start. named name ≡ named start) (λ start. (λ h. ap named h, λ h. cc)) (listed_one name)
@@ -62,6 +63,23 @@ listed_nowhere names query =
     (StartsNowhere names query) (λ start. (λ h. (h.0, h.1, h.2.0, h.2.1), λ h. (h.0, h.1, (h.2, h.3))))
     (listed_over (Contains (text_places query)) (λ place start. (place.root ≡ named start) × (object_of names start ≡ None)) (listed_members (text_places query))
     (λ place. listed_where (λ start. place.root ≡ named start) (λ start. object_of names start ≡ None) (listed_name place.root) (λ start. told_none (object_of names start))))
+
+-- ---- path variables that no from item has
+listed_variable : (item : ItemTree) → IsListed (λ variable. item ≡ t.path_of variable)
+listed_variable (t.object path) = listed_none (λ variable. t.object path ≡ t.path_of variable) (λ variable h. cc)
+listed_variable (t.path_of own) =
+    listed_same (λ variable. own ≡ variable) (λ variable. t.path_of own ≡ t.path_of variable) (λ variable. (λ h. ap t.path_of h, λ h. cc)) (listed_one own)
+
+listed_variables : (items : List ItemTree) → IsListed (λ variable. Contains items (t.path_of variable))
+listed_variables items =
+    listed_same (λ variable. (item : ItemTree) × Contains items item × (item ≡ t.path_of variable)) (λ variable. Contains items (t.path_of variable))
+    (λ variable. (λ h. Contains-same items h.0 (t.path_of variable) h.2 h.1, λ h. (t.path_of variable, h, refl)))
+    (listed_over (Contains items) (λ item variable. item ≡ t.path_of variable) (listed_members items) listed_variable)
+
+told_unknown_variable : (query : SelectTree) → IsTold (HasUnknownPathVariable query)
+told_unknown_variable query =
+    told_some (λ variable. Contains query.items (t.path_of variable)) (λ variable. word_place (path_variables query.tail.ranges) variable ≡ None)
+    (listed_variables query.items) (λ variable. told_none (word_place (path_variables query.tail.ranges) variable))
 
 -- ---- identifiers that are ranged twice
 told_apart : (words : List (List ℕ)) → IsTold (AllPairs (λ a b. a ≢ b) words)
@@ -92,8 +110,10 @@ told_cause names query refusals.UnknownName =
     told_some (StartsNowhere names query) (λ start. Contains (ranged_identifiers query) start → ⊥) (listed_nowhere names query)
     (λ start. told_not (told_member told_bytes (ranged_identifiers query) start))
 told_cause names query refusals.UnknownVariable =
-    told_some (StartsNowhere names query) (Contains (ranged_identifiers query)) (listed_nowhere names query)
-    (told_member told_bytes (ranged_identifiers query))
+    told_either
+    (told_some (StartsNowhere names query) (Contains (ranged_identifiers query)) (listed_nowhere names query)
+    (told_member told_bytes (ranged_identifiers query)))
+    (told_unknown_variable query)
 told_cause names query refusals.DuplicateVariable = told_not (told_apart (ranged_identifiers query))
 told_cause names query refusals.TooManyRanges =
     told_either (told_many_ranges query)

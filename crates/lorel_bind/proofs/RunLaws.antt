@@ -8,15 +8,16 @@ use Rattle.std.proofs.lemmas.List.Sums.{sum_by-cons}
 use Rattle.std.proofs.lemmas.Option.{slice_get_within, get_or_from_slice_get}
 use Rattle.lore_base.specs.Paths.{trees_of, leaves, leaves_of}
 use Rattle.lorel_trees.specs.Trees.{SelectTree}
-use Rattle.lorel_bind.specs.Types.{Oid, Start, BoundStart, RANGES, LEAVES}
+use Rattle.lorel_bind.specs.Types.{Oid, Start, BoundStart, CellOf, RANGES, LEAVES}
+use Rattle.lorel_bind.specs.Types.shown
 use Rattle.lorel_bind.specs.Types.starts
 use Rattle.lorel_bind.specs.Types.bound_starts
-use Rattle.lorel_bind.specs.Places.{Place, cell_places}
+use Rattle.lorel_bind.specs.Places.{Place, CellPlace, object, word, cells_of}
 use Rattle.lorel_bind.specs.Conditions.{OperandOf, constant, at, CondOf, or, and, not, exists, for_all, compare, same, CondsOf, no_cond, cond, cond_of, cond_places, paths_in, operand_paths, paths_of, paths_of_all}
 use Rattle.lorel_bind.specs.Ranges.{Range, places, IsUsed}
 use Rattle.lorel_bind.specs.Refusals.{text_places, leaves_in, HasTooMany, IsAccepted}
 use Rattle.lorel_bind.specs.Bound.{RangeTree, BoundPathTree, BoundTree}
-use Rattle.lorel_bind.specs.Bindings.{StandsFor, StandsForAny, IsBoundRange, IsBoundPath, CorrespondOperands, Correspond, CorrespondEach, CorrespondIf, IsBinding, IsWithin, IsBoundWithin, AreInOrder, IsRunnable}
+use Rattle.lorel_bind.specs.Bindings.{StandsFor, StandsForAny, IsBoundRange, IsBoundCell, IsBoundPath, CorrespondOperands, Correspond, CorrespondEach, CorrespondIf, IsBinding, IsWithin, IsCellWithin, IsBoundWithin, AreInOrder, IsRunnable}
 use Rattle.lorel_bind.specs.inside.Orders.{IsOpen, IsFound, AreOrdered}
 use Rattle.lorel_bind.proofs.ListLaws.{AllZip-length, AllZip-append}
 use Rattle.lorel_bind.proofs.OrderLaws.{new_places, open_places}
@@ -140,6 +141,14 @@ start_in names fused place (starts.Slot slot) stands =
     let same = length-map fused (λ (r : Range). r.place) in
     omega arith
 
+-- a bound cell shows a start or a slot of the fused ranges
+cell_in : (names : List (List ℕ × Oid)) (fused : List Range) (cell : CellPlace) (bound : CellOf) → IsBoundCell names fused cell bound
+    → IsCellWithin (length fused) bound
+cell_in names fused (object place) (shown.Object start) stands = start_in names fused place start stands
+cell_in names fused (word place) (shown.PathOf slot) stands = start_in names fused place (starts.Slot slot) stands
+cell_in names fused (object place) (shown.PathOf slot) stands = absurd stands
+cell_in names fused (word place) (shown.Object start) stands = absurd stands
+
 any_start_in : (names : List (List ℕ × Oid)) (fused : List Range) (place : Place) (start : BoundStart) → StandsForAny names fused place start
     → IsBoundWithin (length fused) start
 any_start_in names fused place (bound_starts.Named oid) stands = tt
@@ -169,8 +178,8 @@ runs names query bound accepted b =
         | inr few ↦ omega arith
       ];
       in_order = starts_within names b.fused [] b.fused bound.ranges refl ordered b.ranges;
-      cells_within = subst (λ (n : ℕ). All (IsWithin n) bound.cells) long
-          (pairs_right (StandsFor names b.fused) (IsWithin (length b.fused)) (start_in names b.fused) (cell_places query) bound.cells b.cells);
+      cells_within = subst (λ (n : ℕ). All (IsCellWithin n) bound.cells) long
+          (pairs_right (IsBoundCell names b.fused) (IsCellWithin (length b.fused)) (cell_in names b.fused) (cells_of query) bound.cells b.cells);
       condition_within = subst (λ (n : ℕ). All (λ path. IsBoundWithin n path.start) (paths_in bound.cond)) long
           (pairs_right IsBoundCond (λ path. IsBoundWithin (length b.fused) path.start)
           (λ path q is. any_start_in names b.fused is.fixed q.start is.begins) (cond_places query) (paths_in bound.cond) pairs);

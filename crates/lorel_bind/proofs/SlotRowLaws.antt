@@ -1,25 +1,29 @@
 -- Binding keeps the rows: slots hold the objects of a valuation of the fused ranges, and make one.
-use Rattle.std.proofs.Common.{◌≡◌, ◌≢◌, ℕ, ◌↔◌, cond, List, [], ◌∷◌, ◌++◌, length, map, Option, Some, None, All, subst, refl, sym, ap, ◌∙◌, arith}
+use Rattle.std.proofs.Common.{◌≡◌, ◌≢◌, ℕ, zero, suc, ◌↔◌, inl, inr, cond, List, [], ◌∷◌, ◌++◌, length, map, Option, Some, None, All, subst, refl, sym, ap, ◌∙◌, arith}
 use Rattle.std.specs.List.{Contains, AllZip, slice_get}
 use Rattle.std.specs.Option.{option_map, unwrap_or}
 use Rattle.std.proofs.lemmas.Bool.{cond-true, cond-false, false_from_ne_true}
 use Rattle.std.proofs.lemmas.List.Elements.{All-nil, All-cons, All-head, All-tail, All-contains, All-map, All-weaker}
-use Rattle.std.proofs.lemmas.Option.{slice_get-map, same_Some}
+use Rattle.std.proofs.lemmas.Option.{slice_get-map, same_Some, none-some}
 use Rattle.lore_base.specs.Databases.{Database}
 use Rattle.lore_base.specs.Names.{object_of}
 use Rattle.lore_base.specs.Paths.{PathTree, seq, trees_of, Reaches}
 use Rattle.lore_base.specs.Comparisons.{Compares}
+use Rattle.lore_base.specs.LeastWords.{IsLeast, IsSpelledWalk}
+use Rattle.lore_base.proofs.MemberLaws.{Contains-none, Contains-cases}
 use Rattle.lorel_trees.specs.Trees.{SelectTree}
-use Rattle.lorel_bind.specs.Types.{Oid, Start, BoundStart}
+use Rattle.lorel_bind.specs.Types.{Oid, Label, Start, BoundStart, Cell, CellOf}
+use Rattle.lorel_bind.specs.Types.cells
+use Rattle.lorel_bind.specs.Types.shown
 use Rattle.lorel_bind.specs.Types.starts
 use Rattle.lorel_bind.specs.Types.bound_starts
-use Rattle.lorel_bind.specs.Places.{Root, named, ranged, quantified, Place, at_root, cell_places}
+use Rattle.lorel_bind.specs.Places.{Root, named, ranged, quantified, Place, at_root, CellPlace, object, word, cells_of}
 use Rattle.lorel_bind.specs.Conditions.{OperandOf, constant, at, CondOf, or, and, not, exists, for_all, compare, same, CondsOf, no_cond, cond as conds, cond_of}
 use Rattle.lorel_bind.specs.Ranges.{Range, places, IsUsed}
-use Rattle.lorel_bind.specs.Answers.{Leads, IsObjectOf, HasObject, IsReachedBy, HasValue, HoldsAt, IsRowOver}
+use Rattle.lorel_bind.specs.Answers.{Leads, IsObjectOf, HasObject, IsReachedBy, HasValue, HoldsAt, IsWordAt, ShowsCell, IsRowOver}
 use Rattle.lorel_bind.specs.Bound.{RangeTree, BoundPathTree, BoundTree}
-use Rattle.lorel_bind.specs.Bindings.{StandsFor, StandsForAny, IsBoundRange, IsBoundPath, CorrespondOperands, Correspond, CorrespondEach, CorrespondIf, IsBinding}
-use Rattle.lorel_bind.specs.SlotRows.{StartsAt, BoundStartsAt, MeetsBy, HoldsOver, IsSlotRow}
+use Rattle.lorel_bind.specs.Bindings.{StandsFor, StandsForAny, IsBoundRange, IsBoundCell, IsBoundPath, CorrespondOperands, Correspond, CorrespondEach, CorrespondIf, IsBinding}
+use Rattle.lorel_bind.specs.SlotRows.{StartsAt, BoundStartsAt, MeetsBy, HoldsOver, IsSlotWord, ShowsSlot, IsSlotRow}
 use Rattle.lorel_bind.specs.Laws.{BindingKeepsRows}
 use Rattle.lorel_bind.specs.inside.Equality.{same_place}
 use Rattle.lorel_bind.specs.inside.Orders.{IsOpen, AreOrdered}
@@ -54,6 +58,63 @@ module _ {P Q : Type 0} (R S : P → Q → Type 0) (weaker : (p : P) (q : Q) →
     CorrespondEach-weaker no_cond no_cond like = tt
     CorrespondEach-weaker (conds a others) (conds b more) like = (Correspond-weaker a b like.0, CorrespondEach-weaker others more like.1)
     CorrespondEach-weaker _ _ like = absurd like
+
+-- ---- what stands at a slot
+-- the range that has the place of a slot stands at that slot
+placed_at : (ranges : List Range) (slot : ℕ) (place : Place) → slice_get (places ranges) slot ≡ Some place
+    → (range : Range) × (slice_get ranges slot ≡ Some range) × (range.place ≡ place)
+placed_at [] slot place is = absurd (none-some place is)
+placed_at (range ∷ ranges) zero place is = (range, refl, same_Some range.place place is)
+placed_at (range ∷ ranges) (suc slot) place is = placed_at ranges slot place is
+
+-- what goes in pairs does so at each slot
+pair_behind : {P Q : Type 0} (R : P → Q → Type 0) (xs : List P) (ys : List Q) (slot : ℕ) (x : P) → AllZip R xs ys → slice_get xs slot ≡ Some x
+    → (y : Q) × (slice_get ys slot ≡ Some y) × R x y
+pair_behind R [] ys slot x pairs is = absurd (none-some x is)
+pair_behind R (first ∷ xs) [] slot x pairs is = absurd pairs
+pair_behind R (first ∷ xs) (y ∷ ys) zero x pairs is = (y, refl, subst (λ z. R z y) (same_Some first x is) pairs.0)
+pair_behind R (first ∷ xs) (y ∷ ys) (suc slot) x pairs is = pair_behind R xs ys slot x pairs.1 is
+
+-- where what goes in pairs is alike to what stands in a third list, so are the lists
+pairs_alike : {P Q R : Type 0} (A : P → Q → Type 0) (B : P → R → Type 0) (C : Q → R → Type 0)
+    → ((p : P) (q : Q) (r : R) → A p q → B p r ↔ C q r) → (xs : List P) (ys : List Q) (zs : List R) → AllZip A xs ys
+    → AllZip B xs zs ↔ AllZip C ys zs
+pairs_alike A B C alike [] [] [] pairs = (λ h. h, λ h. h)
+pairs_alike A B C alike [] [] (z ∷ zs) pairs = (λ h. h, λ h. h)
+pairs_alike A B C alike [] (y ∷ ys) zs pairs = absurd pairs
+pairs_alike A B C alike (x ∷ xs) [] zs pairs = absurd pairs
+pairs_alike A B C alike (x ∷ xs) (y ∷ ys) [] pairs = (λ h. h, λ h. h)
+pairs_alike A B C alike (x ∷ xs) (y ∷ ys) (z ∷ zs) pairs =
+    let first = alike x y z pairs.0 in
+    let others = pairs_alike A B C alike xs ys zs pairs.1 in
+    (λ h. (first.0 h.0, others.0 h.1), λ h. (first.1 h.0, others.1 h.1))
+
+-- no two ranges have one place
+one_at_place : (earlier : List Place) (ranges : List Range) → AreOrdered earlier ranges → (a b : Range) → Contains ranges a → Contains ranges b
+    → a.place ≡ b.place → a ≡ b
+one_at_place earlier [] ordered a b first second alike = absurd (Contains-none a first)
+one_at_place earlier (range ∷ ranges) ordered a b first second alike =
+    let apart = other_places earlier range ranges ordered in
+    let later = λ (c : Range) (there : Contains ranges c). All-contains (λ r. r.place ≢ range.place) ranges c apart there in
+    elim (Contains-cases range ranges a first) [
+      | inl here ↦ elim (Contains-cases range ranges b second) [
+        | inl there ↦ sym here ∙ there
+        | inr behind ↦ absurd (later b behind (sym alike ∙ ap (λ (r : Range). r.place) (sym here)))
+      ]
+      | inr behind ↦ elim (Contains-cases range ranges b second) [
+        | inl there ↦ absurd (later a behind (alike ∙ ap (λ (r : Range). r.place) (sym there)))
+        | inr further ↦ one_at_place (earlier ++ range.place ∷ []) ranges ordered.1 a b behind further alike
+      ]
+    ]
+
+-- the least word of one path between two objects
+walk_same : (db : Database) (path other : PathTree) (start first oid last : Oid) (labels : List Label) → path ≡ other → start ≡ first → oid ≡ last
+    → IsLeast (IsSpelledWalk db.labels db.graph.edges path start oid) labels
+    → IsLeast (IsSpelledWalk db.labels db.graph.edges other first last) labels
+walk_same db path other start first oid last labels paths starts ends least =
+    subst (λ (o : Oid). IsLeast (IsSpelledWalk db.labels db.graph.edges other first o) labels) ends
+    (subst (λ (o : Oid). IsLeast (IsSpelledWalk db.labels db.graph.edges other o oid) labels) starts
+    (subst (λ (p : PathTree). IsLeast (IsSpelledWalk db.labels db.graph.edges p start oid) labels) paths least))
 
 -- ---- slots that hold the objects of a valuation
 module _ (db : Database) (fused : List Range) (valued : Place → Oid) (slots : List Oid)
@@ -104,25 +165,58 @@ module _ (db : Database) (fused : List Range) (valued : Place → Oid) (slots : 
       (subst (λ (path : PathTree). Reaches db.labels db.graph.edges path filled.0.0 (valued range.place)) stands.0.path filled.0.2))
       (meets_from ranges bound stands.1 filled.1)
 
-  -- cells
-  shown_from : (cells : List Place) (bound : List Start) → AllZip (StandsFor db.graph.names fused) cells bound
-      → AllZip (StartsAt slots) bound (map valued cells)
-  shown_from [] [] stands = tt
-  shown_from [] (b ∷ bound) stands = absurd stands
-  shown_from (cell ∷ cells) [] stands = absurd stands
-  shown_from (cell ∷ cells) (b ∷ bound) stands = (starts_at cell b stands.0, shown_from cells bound stands.1)
+  -- words
+  -- the word of a fused range is that of its slot
+  slot_word : (bound : List RangeTree) → AreOrdered [] fused → AllZip (IsBoundRange db.graph.names fused) fused bound → (place : Place) (slot : ℕ)
+      (labels : List Label) → slice_get (places fused) slot ≡ Some place → IsWordAt db fused valued place labels
+      → IsSlotWord db.labels db.graph.edges bound slots slot labels
+  slot_word bound ordered stands place slot labels is h =
+      let own = placed_at fused slot place is in
+      let same : own.0 ≡ h.range = one_at_place [] fused ordered own.0 h.range (Contains-slot fused slot own.0 own.1) h.there (own.2 ∙ sym h.is) in
+      let pair = pair_behind (IsBoundRange db.graph.names fused) fused bound slot own.0 stands own.1 in
+      let path : pair.0.path ≡ seq (trees_of h.range.parts) = pair.2.path ∙ ap (λ (r : Range). seq (trees_of r.parts)) same in
+      record {
+        range = pair.0;
+        there = pair.1;
+        start = valued h.range.start;
+        begins = subst (λ (r : Range). StartsAt slots pair.0.start (valued r.start)) same (starts_at own.0.start pair.0.start pair.2.start);
+        oid = valued place;
+        ends = slot_object slot place is;
+        least = subst (λ (p : PathTree). IsLeast (IsSpelledWalk db.labels db.graph.edges p (valued h.range.start) (valued place)) labels)
+            (sym path) h.least;
+      }
 
-  row_from : (cells : List Place) (bound : List Start) (row : List Oid) → AllZip (StandsFor db.graph.names fused) cells bound
-      → AllZip (StartsAt slots) bound row → row ≡ map valued cells
-  row_from [] [] [] stands shown = refl
-  row_from [] [] (oid ∷ row) stands shown = absurd shown
-  row_from [] (b ∷ bound) row stands shown = absurd stands
-  row_from (cell ∷ cells) [] row stands shown = absurd stands
-  row_from (cell ∷ cells) (b ∷ bound) [] stands shown = absurd shown
-  row_from (cell ∷ cells) (b ∷ bound) (oid ∷ row) stands shown =
-      let first = started_at cell b oid stands.0 shown.0 in
-      let others = row_from cells bound row stands.1 shown.1 in
-      cc
+  -- and the other way round
+  word_of_slot : (bound : List RangeTree) → AllZip (IsBoundRange db.graph.names fused) fused bound → (place : Place) (slot : ℕ)
+      (labels : List Label) → slice_get (places fused) slot ≡ Some place → IsSlotWord db.labels db.graph.edges bound slots slot labels
+      → IsWordAt db fused valued place labels
+  word_of_slot bound stands place slot labels is h =
+      let own = placed_at fused slot place is in
+      let pair = pair_behind (IsBoundRange db.graph.names fused) fused bound slot own.0 stands own.1 in
+      let range : h.range ≡ pair.0 = same_Some h.range pair.0 (sym h.there ∙ pair.1) in
+      let begins = subst (λ (r : RangeTree). StartsAt slots r.start h.start) range h.begins in
+      let start : h.start ≡ valued own.0.start = started_at own.0.start pair.0.start h.start pair.2.start begins in
+      let oid : h.oid ≡ valued place = same_Some h.oid (valued place) (sym h.ends ∙ slot_object slot place is) in
+      let path : h.range.path ≡ seq (trees_of own.0.parts) = ap (λ (r : RangeTree). r.path) range ∙ pair.2.path in
+      record {
+        range = own.0;
+        there = Contains-slot fused slot own.0 own.1;
+        is = own.2;
+        least = walk_same db h.range.path (seq (trees_of own.0.parts)) h.start (valued own.0.start) h.oid (valued place) labels path start oid h.least;
+      }
+
+  -- cells
+  cells_alike : (bound : List RangeTree) → AreOrdered [] fused → AllZip (IsBoundRange db.graph.names fused) fused bound
+      → (place : CellPlace) (own : CellOf) (cell : Cell) → IsBoundCell db.graph.names fused place own
+      → ShowsCell db fused valued place cell ↔ ShowsSlot db.labels db.graph.edges bound slots own cell
+  cells_alike bound ordered ranges (object place) (shown.Object start) (cells.Object oid) stands =
+      (λ shows. subst (StartsAt slots start) shows (starts_at place start stands), λ shows. sym (started_at place start oid stands shows))
+  cells_alike bound ordered ranges (word place) (shown.PathOf slot) (cells.Path labels) stands =
+      (slot_word bound ordered ranges place slot labels stands, word_of_slot bound ranges place slot labels stands)
+  cells_alike bound ordered ranges (object place) (shown.Object start) (cells.Path labels) stands = (λ shows. shows, λ shows. shows)
+  cells_alike bound ordered ranges (word place) (shown.PathOf slot) (cells.Object oid) stands = (λ shows. shows, λ shows. shows)
+  cells_alike bound ordered ranges (object place) (shown.PathOf slot) cell stands = absurd stands
+  cells_alike bound ordered ranges (word place) (shown.Object start) cell stands = absurd stands
 
   -- the condition
   open_object : (objects : List Oid) (root : Root) (place oid : Oid) → ((depth : ℕ) → root ≡ quantified depth → ⊥)
@@ -238,13 +332,22 @@ values_read names ranges slots ordered long =
     ∙ slots_read [] ranges slots ordered long)
 
 -- ---- the rows of a bound select
-module _ (db : Database) (query : SelectTree) (bound : BoundTree) (b : IsBinding db.graph.names query bound) (row : List Oid) where
+module _ (db : Database) (query : SelectTree) (bound : BoundTree) (b : IsBinding db.graph.names query bound) (row : List Cell) where
   in_order : AreOrdered [] b.fused
   in_order = fused_ordered (IsUsed query b.plain) b.plain b.fused (plain_ordered query b.plain b.made) b.fuses
 
   all_open : (place : Place) → Contains (places b.fused) place → IsOpen place
   all_open place there =
       All-contains IsOpen (places b.fused) place (All-map IsOpen (λ (r : Range). r.place) b.fused (open_places [] b.fused in_order)) there
+
+  -- the row shows cells of the text where it shows those of the slots
+  cells_shown : (valued : Place → Oid) (slots : List Oid)
+      → (named_objects : (name : List ℕ) (oid : Oid) → object_of db.graph.names name ≡ Some oid → valued (at_root (named name)) ≡ oid)
+      → (held : slots ≡ map valued (places b.fused))
+      → AllZip (ShowsCell db b.fused valued) (cells_of query) row ↔ AllZip (ShowsSlot db.labels db.graph.edges bound.ranges slots) bound.cells row
+  cells_shown valued slots named_objects held =
+      pairs_alike (IsBoundCell db.graph.names b.fused) (ShowsCell db b.fused valued) (ShowsSlot db.labels db.graph.edges bound.ranges slots)
+      (cells_alike db b.fused valued slots named_objects held bound.ranges in_order b.ranges) (cells_of query) bound.cells row b.cells
 
   slot_row : IsRowOver db query b.plain b.fused row → IsSlotRow db bound row
   slot_row h =
@@ -254,8 +357,7 @@ module _ (db : Database) (query : SelectTree) (bound : BoundTree) (b : IsBinding
         slots = slots;
         filled = filled_from db b.fused h.at slots named_objects refl b.fused bound.ranges b.ranges h.valuation.reached;
         holds = (holds_alike db b.fused h.at slots named_objects refl b.plain all_open (cond_of query) bound.cond b.condition).0 h.holds;
-        shown = subst (λ (cells : List Oid). AllZip (StartsAt slots) bound.cells cells) (sym h.shown)
-            (shown_from db b.fused h.at slots named_objects refl (cell_places query) bound.cells b.cells);
+        shown = (cells_shown h.at slots named_objects refl).0 h.shown;
       }
 
   range_row : IsSlotRow db bound row → IsRowOver db query b.plain b.fused row
@@ -273,7 +375,7 @@ module _ (db : Database) (query : SelectTree) (bound : BoundTree) (b : IsBinding
               (subst (λ (os : List Oid). AllZip (Holding db b.fused valued h.slots named_objects held) bound.ranges os) held h.filled);
         };
         holds = (holds_alike db b.fused valued h.slots named_objects held b.plain all_open (cond_of query) bound.cond b.condition).1 h.holds;
-        shown = row_from db b.fused valued h.slots named_objects held (cell_places query) bound.cells row b.cells h.shown;
+        shown = (cells_shown valued h.slots named_objects held).1 h.shown;
       }
 
 pub binding_keeps_rows : BindingKeepsRows

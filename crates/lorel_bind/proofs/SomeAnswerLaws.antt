@@ -1,52 +1,38 @@
 -- A select has some answer: whether a valuation holds can be told, so its rows are a finite list, and they stand in an order.
-use Rattle.std.proofs.Common.{◌≡◌, ℕ, ◌⊎◌, inl, inr, ◌↔◌, List, [], ◌∷◌, map, Option, Some, None, Ordering, Less, Equal, Greater, nat_cmp, unwrap_or, slice_get, refl, sym, ap, subst, ◌∙◌}
-use Rattle.std.specs.List.{Contains}
-use Rattle.std.specs.Ordering.{ordering_then}
-use Rattle.std.proofs.lemmas.Map.Lookups.{exact_unsigned}
+use Rattle.std.proofs.Common.{◌≡◌, ℕ, ◌⊎◌, inl, inr, ◌↔◌, List, [], Option, Some, None, Less, unwrap_or, slice_get, refl, sym, ap, subst, ◌∙◌}
+use Rattle.std.specs.List.{Contains, AllZip}
+use Rattle.std.proofs.lemmas.Cmp.{lists_total}
 use Rattle.lore_base.specs.Names.{object_of}
 use Rattle.lore_base.specs.Databases.{Database}
 use Rattle.lore_base.specs.Paths.{PathTree, seq, trees_of}
 use Rattle.lore_base.proofs.MemberLaws.{Contains-none, Contains-same}
 use Rattle.lorel_trees.specs.Trees.{SelectTree}
-use Rattle.lorel_bind.specs.Types.{Oid, Value}
-use Rattle.lorel_bind.specs.Places.{Root, named, ranged, quantified, Place, at_root, cell_places}
+use Rattle.lorel_bind.specs.Types.{Oid, Value, Cell}
+use Rattle.lorel_bind.specs.Places.{Root, named, ranged, quantified, Place, at_root, cells_of}
 use Rattle.lorel_bind.specs.Conditions.{CondOf, cond_of}
 use Rattle.lorel_bind.specs.Ranges.{Range, places, ArePlain, IsFixed}
-use Rattle.lorel_bind.specs.Answers.{Leads, IsObjectOf, HasObject, IsReachedBy, HasValue, HoldsAt, IsRowOver, IsRow, row_cmp}
+use Rattle.lorel_bind.specs.Answers.{Leads, IsObjectOf, HasObject, IsReachedBy, HasValue, HoldsAt, ShowsCell, IsRowOver, IsRow, row_cmp}
+use Rattle.lorel_bind.specs.CellOrder.{cell_total, tied_rows}
 use Rattle.lorel_bind.specs.Refusals.{StartsNowhere}
 use Rattle.lorel_bind.specs.Laws.{HasSomeAnswer}
 use Rattle.lorel_bind.proofs.ToldLaws.{IsTold, told_oid}
-use Rattle.lorel_bind.proofs.ListedLaws.{IsListed, listed_members, listed_one, listed_option, listed_when, listed_same, listed_over, listed_where}
+use Rattle.lorel_bind.proofs.ListedLaws.{IsListed, listed_members, listed_one, listed_option, listed_given, listed_same, listed_over, listed_where}
 use Rattle.lorel_bind.proofs.AscentLaws.{IsOrder, total_ordered, some_ordered}
 use Rattle.lorel_bind.proofs.ReachedLaws.{listed_reached}
 use Rattle.lorel_bind.proofs.ConditionLaws.{told_holds}
-use Rattle.lorel_bind.proofs.ListLaws.{All-from_members, map-same}
+use Rattle.lorel_bind.proofs.ListLaws.{All-from_members}
+use Rattle.lorel_bind.proofs.FusedRowLaws.{AgreeOn, cells_same}
+use Rattle.lorel_bind.proofs.CellLaws.{listed_shown, cells_agree}
 use Rattle.lorel_bind.proofs.PrefixLaws.{Prefix, listed_fixed}
 use Rattle.lorel_bind.proofs.ValuationLaws.{AgreeAt, HoldsAt-same}
-use Rattle.lorel_bind.proofs.AnswerLaws.{row_cmp_total}
 use Rattle.lorel_bind.proofs.GatherLaws.{has_one_plain, has_some_plain}
 use Rattle.lorel_bind.proofs.PlainLaws.{plain_ordered}
-use Rattle.lorel_bind.proofs.RootLaws.{IsBoundName, IsKnown, names_bound, plain_roots, cells_known, cond_known}
+use Rattle.lorel_bind.proofs.RootLaws.{IsBoundName, IsKnown, names_bound, plain_roots, cond_known}
 use Rattle.lorel_bind.proofs.RowLaws.{Agree, ShowsBehind, listed_rows}
 
 -- ---- rows in order
-both_equal : (first second : Ordering) → ordering_then first second ≡ Equal → (first ≡ Equal) × (second ≡ Equal)
-both_equal Less second is = cc
-both_equal Equal second is = (refl, is)
-both_equal Greater second is = cc
-
-same_rows : (a b : List Oid) → row_cmp a b ≡ Equal → a ≡ b
-same_rows [] [] is = refl
-same_rows [] (y ∷ ys) is = cc
-same_rows (x ∷ xs) [] is = cc
-same_rows (x ∷ xs) (y ∷ ys) is =
-    let both = both_equal (nat_cmp x.0 y.0) (row_cmp xs ys) is in
-    let first : x.0 ≡ y.0 = exact_unsigned x.0 y.0 both.0 in
-    let rest = same_rows xs ys both.1 in
-    λ i. record { 0 = first i } ∷ rest i
-
 rows_ordered : IsOrder (λ a b. row_cmp a b ≡ Less)
-rows_ordered = total_ordered row_cmp row_cmp_total same_rows
+rows_ordered = total_ordered row_cmp (lists_total cell_total) tied_rows
 
 -- ---- what paths of the condition reach
 listed_values : (db : Database) (oid : Oid) → IsListed (HasValue db oid)
@@ -109,13 +95,13 @@ name_object names root = nobody
 
 module _ (db : Database) (query : SelectTree) (plain : List Range) where
   -- a valuation that holds shows this row
-  abbrev Shows : (Place → Oid) → List Oid → Type 0
-  Shows at row = HoldsAt db plain at (cond_of query) × (map at (cell_places query) ≡ row)
+  abbrev Shows : (Place → Oid) → List Cell → Type 0
+  Shows at row = HoldsAt db plain at (cond_of query) × AllZip (ShowsCell db plain at) (cells_of query) row
 
   names_only : Place → Oid
   names_only place = name_object db.graph.names place.root
 
-  row_shown : (row : List Oid) → IsRowOver db query plain plain row ↔ ShowsBehind db.graph.names (Leads db) Shows [] plain names_only row
+  row_shown : (row : List Cell) → IsRowOver db query plain plain row ↔ ShowsBehind db.graph.names (Leads db) Shows [] plain names_only row
   unfolding names_only name_object
   row_shown row = (
     λ h. (
@@ -127,7 +113,7 @@ module _ (db : Database) (query : SelectTree) (plain : List Range) where
         | inr none ↦ absurd (Contains-none place none)
       ],
       h.valuation.reached,
-      (h.holds, sym h.shown),
+      (h.holds, h.shown),
     ),
     λ h. record {
       at = h.0;
@@ -136,7 +122,7 @@ module _ (db : Database) (query : SelectTree) (plain : List Range) where
         reached = h.2;
       };
       holds = h.3.0;
-      shown = sym h.3.1;
+      shown = h.3.1;
     },
   )
 
@@ -146,18 +132,17 @@ module _ (db : Database) (query : SelectTree) (plain : List Range) where
       listed_same (ShowsBehind db.graph.names (Leads db) Shows [] plain names_only) (IsRowOver db query plain plain)
       (λ row. ((row_shown row).1, (row_shown row).0))
       (listed_rows db.graph.names (Leads db) Shows (listed_led db plain names_only)
-      (λ at. listed_when (HoldsAt db plain at (cond_of query)) (told_held db plain at (cond_of query)) (map at (cell_places query)))
+      (λ at. listed_given (HoldsAt db plain at (cond_of query)) (AllZip (ShowsCell db plain at) (cells_of query)) (told_held db plain at (cond_of query))
+      (listed_shown db plain at (cells_of query)))
       plain []
-      (λ at other agree row h. (
+      (λ at other agree row h.
+      let back : Agree db.graph.names (places plain) other at = λ place known. sym (agree place known) in (
         HoldsAt-same db plain other at (cond_of query)
             (λ path fixed rest there is_fixed.
-            fixed_agree db plain other at (λ place known. sym (agree place known)) path fixed rest is_fixed
-            (cond_known db.graph.names query plain gathered bound path there))
+            fixed_agree db plain other at back path fixed rest is_fixed (cond_known db.graph.names query plain gathered bound path there))
             h.0,
-        map-same at other (cell_places query)
-            (All-from_members (λ cell. at cell ≡ other cell) (cell_places query)
-            (λ cell there. agree cell (cells_known db.graph.names query plain gathered bound cell there)))
-            ∙ h.1,
+        cells_same db plain plain other at (cells_of query) row
+            (All-from_members (AgreeOn plain plain other at) (cells_of query) (cells_agree db.graph.names query plain gathered bound other at back)) h.1,
       ))
       (plain_ordered query plain gathered) (plain_roots (IsBoundName db.graph.names) query plain gathered bound) names_only)
 

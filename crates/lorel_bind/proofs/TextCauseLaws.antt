@@ -1,25 +1,24 @@
 -- What the program notes of a text, and the causes of refusal that it tells by that.
-use Rattle.std.proofs.Common.{◌≡◌, ◌≢◌, ◌↔◌, ◌⊎◌, inl, inr, ℕ, ◌-◌, ◌^◌, ◌<◌, ◌≤◌, min, Bool, true, false, not, ◌||◌, true≢false, if◌then◌else◌, List, [], ◌∷◌, ◌++◌, length, get_or, None, IsTrue, All, AllPairs, Contains, Bor, subst, refl, sym, ap, ◌∙◌, arith, length-append}
-use Rattle.std.specs.List.{list_any, flat_map}
+use Rattle.std.proofs.Common.{◌≡◌, ◌≢◌, ◌↔◌, ◌⊎◌, inl, inr, ℕ, ◌-◌, ◌^◌, ◌<◌, ◌≤◌, min, Bool, true, false, not, ◌||◌, true≢false, if◌then◌else◌, List, [], ◌∷◌, ◌++◌, length, get_or, None, IsTrue, AllPairs, Contains, Bor, subst, refl, sym, ap, ◌∙◌, arith, length-append}
+use Rattle.std.specs.List.{list_any}
 use Rattle.std.specs.Str.{bytes_eq}
 use Rattle.std.specs.Cmp.Lexicographic.{nat_list_eq_equiv}
 use Rattle.std.proofs.lemmas.Bool.{or_right}
-use Rattle.std.proofs.lemmas.List.{map-append, length-map, get_or_append_left, get_or_push}
-use Rattle.std.proofs.lemmas.List.Elements.{All-head, All-tail, Contains-get_or, Contains-append_left, Contains-push, Contains-push_cases}
+use Rattle.std.proofs.lemmas.List.{map-append, get_or_append_left, get_or_push}
+use Rattle.std.proofs.lemmas.List.Elements.{Contains-get_or, Contains-append_left, Contains-push, Contains-push_cases}
 use Rattle.std.proofs.lemmas.List.Quantifiers.{all_pairs_push}
 use Rattle.std.proofs.lemmas.Map.Views.{list_any-from_Contains}
 use Rattle.std.proofs.lemmas.Slice.Eq.{bytes_eq-Decides}
 use Rattle.indexmap.proofs.CallerLemmas.{Contains-list_any}
 use Rattle.lore_base.specs.Names.{object_of}
 use Rattle.lore_base.proofs.MemberLaws.{Contains-none, Contains-same}
-use Rattle.lorel_trees.specs.Trees.{SelectTree, ItemTree, object, path_of}
+use Rattle.lorel_trees.specs.Trees.{SelectTree}
 use Rattle.lorel_bind.specs.Types.{Oid, ITEMS, LEAVES}
 use Rattle.lorel_bind.specs.Places as p
-use Rattle.lorel_bind.specs.Places.{named, Scope, scope_of, item_places, cell_places}
-use Rattle.lorel_bind.specs.Bindings.{IsPath, HasNoPathVariable}
-use Rattle.lorel_bind.specs.Refusals.{HasUnknownName, HasUnknownVariable, HasDuplicate, HasTooMany, IsRefusedBy, leaves_in, text_places, ranged_identifiers}
+use Rattle.lorel_bind.specs.Places.{named}
+use Rattle.lorel_bind.specs.Refusals.{StartsNowhere, HasUnknownName, HasUnknownVariable, HasDuplicate, HasTooMany, IsRefusedBy, leaves_in, text_places, ranged_identifiers}
 use Rattle.lorel_bind.specs.declared.faults.BindFault.TheVariants as fault
-use Rattle.lorel_bind.specs.inside.Views.{place_tree, texts}
+use Rattle.lorel_bind.specs.inside.Views.{texts}
 use Rattle.lorel_bind.specs.inside.Texts.{IsTextOf, places_of, ranged_of, StartsAmong, StartsUnranged, StartsRanged, HasNoted, HasMet, PassesText}
 use Rattle.lorel_bind.specs.declared.causes.Ranged.{Ranged}
 use Rattle.lorel_bind.specs.declared.causes.Unknown.{Unknown}
@@ -178,17 +177,7 @@ HasMet-none names ranged unknown known bound = record {
   elsewhere = ((λ h. absurd (true≢false (sym h ∙ bound))), (λ h. absurd (Contains-none h.1.0 h.1.1)));
 }
 
--- ---- the number of cells, and of leaves
-cells_within : (scope : Scope) (items : List ItemTree) → length (flat_map (item_places scope) items) ≤ length items
-cells_within scope [] = omega arith
-cells_within scope (object path ∷ items) = let later = cells_within scope items in omega arith
-cells_within scope (path_of variable ∷ items) = let later = cells_within scope items in omega arith
-
-each_cell : (scope : Scope) (items : List ItemTree) → All IsPath items → length items ≡ length (flat_map (item_places scope) items)
-each_cell scope [] paths = refl
-each_cell scope (object path ∷ items) paths = let later = each_cell scope items (All-tail IsPath (object path) items paths) in omega arith
-each_cell scope (path_of variable ∷ items) paths = elim (All-head IsPath (path_of variable) items paths) [ ]
-
+-- ---- the number of leaves
 more_than : (bound n : ℕ) → bound < min (2 ^ 64 - 1) n → bound < n
 more_than bound n h = omega arith
 
@@ -198,16 +187,13 @@ no_more_than n h = omega arith
 -- ---- the causes
 module _ (names : List (List ℕ × Oid)) (query : SelectTree) (text : Text) (is : IsTextOf query text) where
   all_places : places_of text ≡ text_places query
-  all_places = let from = is.from.places in let cells = is.cells in let conditions = is.conditions in cc
+  all_places = let from = is.from.places in let cells = is.items.cells in let conditions = is.conditions in cc
 
-  count : length text.cells.items ≡ length (cell_places query)
-  count = sym (length-map text.cells.items place_tree) ∙ ap length is.cells
+  pub many_items : ITEMS < text.item_count → HasTooMany query
+  many_items many = let count = is.count in inr (inl (omega arith))
 
-  pub many_items : ITEMS < length text.cells.items → HasTooMany query
-  many_items many = inr (inl (omega (arith, count, cells_within (scope_of [] query.tail.ranges) query.items)))
-
-  pub few_items : HasNoPathVariable query → length text.cells.items ≤ ITEMS → length query.items ≤ ITEMS
-  few_items paths few = omega (arith, count, each_cell (scope_of [] query.tail.ranges) query.items paths.items)
+  pub few_items : text.item_count ≤ ITEMS → length query.items ≤ ITEMS
+  few_items few = let count = is.count in omega arith
 
   pub many_leaves : LEAVES < min (2 ^ 64 - 1) (leaves_in (places_of text)) → HasTooMany query
   many_leaves many = inr (inr (subst (λ l. LEAVES < leaves_in l) all_places (more_than LEAVES (leaves_in (places_of text)) many)))
@@ -233,8 +219,8 @@ module _ (names : List (List ℕ × Oid)) (query : SelectTree) (text : Text) (is
             (λ h. at.1 (h.0, h.1, λ there. h.2 ((known h.0).0 there))),
           )
 
-      tells_variable : IsTrue unknown.variables ↔ HasUnknownVariable names query
-      tells_variable =
+      tells_start : IsTrue unknown.variables ↔ ((start : List ℕ) × StartsNowhere names query start × Contains (ranged_identifiers query) start)
+      tells_start =
           let at = subst (λ l. IsTrue unknown.variables ↔ StartsRanged names (texts ranged.texts.keys) l) all_places met.elsewhere in (
             (λ h. let was = at.0 h in (was.0, was.1, (known was.0).0 was.2)),
             (λ h. at.1 (h.0, h.1, (known h.0).1 h.2)),
@@ -247,13 +233,23 @@ module _ (names : List (List ℕ × Oid)) (query : SelectTree) (text : Text) (is
       refused_name name = inl (tells_name.0 name, refl)
 
       module _ (no_name : unknown.names ≡ false) where
-        pub refused_variable : unknown.variables ≡ true → IsRefusedBy names query fault.UnknownVariable
-        refused_variable variable = inr (absent unknown.names tells_name no_name, inl (tells_variable.0 variable, refl))
+        refused_variable : HasUnknownVariable names query → IsRefusedBy names query fault.UnknownVariable
+        refused_variable variable = inr (absent unknown.names tells_name no_name, inl (variable, refl))
 
-        module _ (no_variable : unknown.variables ≡ false) where
+        pub refused_start : unknown.variables ≡ true → IsRefusedBy names query fault.UnknownVariable
+        refused_start variable = refused_variable (inl (tells_start.0 variable))
+
+        pub refused_word : text.items.unknown ≡ true → IsRefusedBy names query fault.UnknownVariable
+        refused_word word = refused_variable (inr (is.items.unknown.0 word))
+
+        module _ (no_variable : unknown.variables ≡ false) (no_word : text.items.unknown ≡ false) where
+          known_variable : HasUnknownVariable names query → ⊥
+          known_variable (inl start) = absent unknown.variables tells_start no_variable start
+          known_variable (inr word) = absent text.items.unknown is.items.unknown no_word word
+
           pub refused_duplicate : ranged.doubled ≡ true → IsRefusedBy names query fault.DuplicateVariable
           refused_duplicate doubled =
-              inr (absent unknown.names tells_name no_name, inr (absent unknown.variables tells_variable no_variable, inl (tells_duplicate.0 doubled, refl)))
+              inr (absent unknown.names tells_name no_name, inr (known_variable, inl (tells_duplicate.0 doubled, refl)))
 
           module _ (single : ranged.doubled ≡ false) where
             pub refused_many : HasTooMany query → IsRefusedBy names query fault.TooManyRanges
@@ -261,7 +257,7 @@ module _ (names : List (List ℕ × Oid)) (query : SelectTree) (text : Text) (is
                 inr (
                   absent unknown.names tells_name no_name,
                   inr (
-                    absent unknown.variables tells_variable no_variable,
+                    known_variable,
                     inr (absent ranged.doubled tells_duplicate single, inl (many, refl)),
                   ),
                 )
@@ -269,7 +265,7 @@ module _ (names : List (List ℕ × Oid)) (query : SelectTree) (text : Text) (is
             pub passes_text : length query.items ≤ ITEMS → leaves_in (text_places query) ≤ LEAVES → PassesText names query
             passes_text items leaves = record {
               names_known = absent unknown.names tells_name no_name;
-              variables_known = absent unknown.variables tells_variable no_variable;
+              variables_known = known_variable;
               ranged_once = absent ranged.doubled tells_duplicate single;
               few_items = items;
               few_leaves = leaves;

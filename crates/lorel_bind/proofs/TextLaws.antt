@@ -1,19 +1,26 @@
 -- The text of a select as the program reads it: one from item more, one item more, and the conditions within quantifiers.
-use Rattle.std.proofs.Common.{◌≡◌, ◌⊎◌, inl, inr, ℕ, suc, ◌+◌, List, [], ◌∷◌, ◌++◌, length, map, Bor, subst, refl, sym, ap, ◌∙◌, append_assoc, arith}
-use Rattle.std.proofs.lemmas.List.{map-append, flat_map_more, length-map, length-append}
+use Rattle.std.proofs.Common.{◌≡◌, ◌↔◌, ◌⊎◌, inl, inr, ℕ, suc, ◌+◌, true, false, true≢false, IsTrue, List, [], ◌∷◌, ◌++◌, length, map, Option, Some, None, Bor, subst, refl, sym, ap, ◌∙◌, append_assoc, arith}
+use Rattle.std.specs.Option.{option_to_list}
+use Rattle.std.proofs.lemmas.List.{append-nil, map-append, flat_map_more, length-map, length-append}
+use Rattle.std.proofs.lemmas.List.Elements.{Contains-append_left, Contains-push, Contains-push_cases}
+use Rattle.std.proofs.lemmas.Option.{none-some}
+use Rattle.lore_base.proofs.MemberLaws.{Contains-none, Contains-same}
 use Rattle.lorel_trees.specs.declared.conditions.Cond.{Exists, ForAll}
 use Rattle.lorel_trees.specs.declared.conditions.Cond.TheOpen as layer
 use Rattle.lorel_trees.specs.declared.conditions.Cond.TheVariants.{rolls-Exists, rolls-ForAll}
 use Rattle.lorel_trees.specs.declared.conditions.Cond.TheFolds.{fold-roll-Cond}
 use Rattle.lorel_trees.specs.Trees as t
 use Rattle.lorel_trees.specs.Trees.{FromTree, from_tree, ItemTree, item_tree, CondTree, conds_from, rooted_tree, cond_tree, cond_step, conds_step}
-use Rattle.lorel_bind.specs.Places.{quantified, Scope, place_of, scope_behind, scope_of, item_places}
+use Rattle.lorel_bind.specs.Places as p
+use Rattle.lorel_bind.specs.Places.{quantified, Scope, place_of, scope_behind, scope_of, item_places, word_place, item_cells}
 use Rattle.lorel_bind.specs.Conditions.{cond_in}
 use Rattle.lorel_bind.specs.Refusals.{from_places, item_variables, from_variables}
 use Rattle.lorel_bind.specs.inside.Scopes.{enclosed, IsScope, IsAdded, names_of}
-use Rattle.lorel_bind.specs.inside.Views.{place_tree, place_trees, texts}
+use Rattle.lorel_bind.specs.inside.Views.{place_tree, place_trees, shown_tree, shown_trees, texts}
 use Rattle.lorel_bind.specs.inside.Texts.{ReadsFrom, ReadsItems}
 use Rattle.lorel_bind.specs.declared.text.Found.{Found}
+use Rattle.lorel_bind.specs.declared.text.Items.{Items}
+use Rattle.lorel_bind.specs.declared.text.Shown.TheVariants.{Object, Word}
 use Rattle.lorel_bind.specs.declared.places.Place.{Place}
 use Rattle.lorel_bind.proofs.ScopeLaws.{IsScope-behind}
 
@@ -47,10 +54,85 @@ ReadsFrom-push items item number found more place old new read is places ranged 
 }
 
 -- ---- one item more
-pub ReadsItems-push : (scope : Scope) (items : List ItemTree) (item : ItemTree) (places more : List Place) → ReadsItems scope items places
-    → place_trees more ≡ place_trees places ++ item_places scope item → ReadsItems scope (items ++ item ∷ []) more
-ReadsItems-push scope items item places more read is =
-    is ∙ ap (λ l. l ++ item_places scope item) read ∙ flat_map_more (item_places scope) [] items item
+-- the item names a path variable that isn't known
+abbrev IsUnknownItem : List (List ℕ × p.Place) → ItemTree → Type 0
+IsUnknownItem known item = (variable : List ℕ) × (item ≡ t.path_of variable) × (word_place known variable ≡ None)
+
+pub ReadsItems-none : (scope : Scope) (known : List (List ℕ × p.Place)) (none : Items) → none.cells.items ≡ [] → none.shown.items ≡ []
+    → none.unknown ≡ false → ReadsItems scope known [] none
+ReadsItems-none scope known none cells shown unknown = record {
+  cells = ap place_trees cells;
+  shown = ap shown_trees shown;
+  unknown = ((λ h. absurd (true≢false (sym h ∙ unknown))), (λ h. absurd (Contains-none (t.path_of h.0) h.1)));
+}
+
+module _ (scope : Scope) (known : List (List ℕ × p.Place)) (items : List ItemTree) (old new : Items) (read : ReadsItems scope known items old) where
+  ReadsItems-push : (item : ItemTree) → place_trees new.cells.items ≡ place_trees old.cells.items ++ item_places scope item
+      → shown_trees new.shown.items ≡ shown_trees old.shown.items ++ item_cells scope known item
+      → IsTrue new.unknown ↔ (IsTrue old.unknown ⊎ IsUnknownItem known item) → ReadsItems scope known (items ++ item ∷ []) new
+  ReadsItems-push item cells shown unknown = record {
+    cells = cells ∙ ap (λ l. l ++ item_places scope item) read.cells ∙ flat_map_more (item_places scope) [] items item;
+    shown = shown ∙ ap (λ l. l ++ item_cells scope known item) read.shown ∙ flat_map_more (item_cells scope known) [] items item;
+    unknown = (
+      (λ h. elim (unknown.0 h) [
+        | inl before ↦ (let was = read.unknown.0 before in (was.0, Contains-append_left items (item ∷ []) (t.path_of was.0) was.1, was.2))
+        | inr here ↦ (here.0, Contains-same (items ++ item ∷ []) item (t.path_of here.0) here.1 (Contains-push items item), here.2)
+      ]),
+      (λ h. unknown.1 (elim (Contains-push_cases items item (t.path_of h.0) h.1) [
+        | inl before ↦ inl (read.unknown.1 (h.0, before, h.2))
+        | inr here ↦ inr (h.0, here, h.2)
+      ])),
+    );
+  }
+
+  -- an item that is known changes nothing of what is unknown
+  still_unknown : (item : ItemTree) → new.unknown ≡ old.unknown → (IsUnknownItem known item → ⊥)
+      → IsTrue new.unknown ↔ (IsTrue old.unknown ⊎ IsUnknownItem known item)
+  still_unknown item same is_known = (
+    (λ h. inl (sym same ∙ h)),
+    (λ h. elim h [ inl before ↦ same ∙ before | inr here ↦ absurd (is_known here) ]),
+  )
+
+  -- the same item, said otherwise
+  pub ReadsItems-same : (item other : ItemTree) → item ≡ other → ReadsItems scope known (items ++ other ∷ []) new
+      → ReadsItems scope known (items ++ item ∷ []) new
+  ReadsItems-same item other same is = subst (λ (i : ItemTree). ReadsItems scope known (items ++ i ∷ []) new) (sym same) is
+
+  -- a path
+  pub ReadsItems-object : (path : t.RootedTree) (place : Place) → place_tree place ≡ place_of scope path → new.cells.items ≡ old.cells.items ++ place ∷ []
+      → new.shown.items ≡ old.shown.items ++ Object place ∷ [] → new.unknown ≡ old.unknown
+      → ReadsItems scope known (items ++ t.object path ∷ []) new
+  ReadsItems-object path place is cells shown unknown =
+      ReadsItems-push (t.object path)
+      (ap place_trees cells ∙ map-append place_tree old.cells.items (place ∷ []) ∙ ap (λ (x : p.Place). place_trees old.cells.items ++ x ∷ []) is)
+      (ap shown_trees shown ∙ map-append shown_tree old.shown.items (Object place ∷ [])
+      ∙ ap (λ (x : p.Place). shown_trees old.shown.items ++ p.object x ∷ []) is)
+      (still_unknown (t.object path) unknown (λ h. (let apart : t.object path ≡ t.path_of h.0 = h.1 in absurd cc)))
+
+  same_variable : (variable other : List ℕ) → t.path_of variable ≡ t.path_of other → variable ≡ other
+  same_variable variable other same = cc
+
+  -- a path variable that is known
+  pub ReadsItems-word : (variable : List ℕ) (place : Place) → Some (place_tree place) ≡ word_place known variable → new.cells.items ≡ old.cells.items
+      → new.shown.items ≡ old.shown.items ++ Word place ∷ [] → new.unknown ≡ old.unknown
+      → ReadsItems scope known (items ++ t.path_of variable ∷ []) new
+  ReadsItems-word variable place is cells shown unknown =
+      ReadsItems-push (t.path_of variable)
+      (ap place_trees cells ∙ sym (append-nil (place_trees old.cells.items)))
+      (ap shown_trees shown ∙ map-append shown_tree old.shown.items (Word place ∷ [])
+      ∙ ap (λ (found : Option p.Place). shown_trees old.shown.items ++ map p.word (option_to_list found)) is)
+      (still_unknown (t.path_of variable) unknown
+      (λ h. none-some (place_tree place) (sym h.2 ∙ ap (word_place known) (sym (same_variable variable h.0 h.1)) ∙ sym is)))
+
+  -- one that isn't
+  pub ReadsItems-unknown : (variable : List ℕ) → None ≡ word_place known variable → new.cells.items ≡ old.cells.items
+      → new.shown.items ≡ old.shown.items → new.unknown ≡ true → ReadsItems scope known (items ++ t.path_of variable ∷ []) new
+  ReadsItems-unknown variable is cells shown unknown =
+      ReadsItems-push (t.path_of variable)
+      (ap place_trees cells ∙ sym (append-nil (place_trees old.cells.items)))
+      (ap shown_trees shown ∙ sym (append-nil (shown_trees old.shown.items))
+      ∙ ap (λ (found : Option p.Place). shown_trees old.shown.items ++ map p.word (option_to_list found)) is)
+      ((λ h. inr (variable, refl, sym is)), (λ h. unknown))
 
 -- ---- within a further quantifier
 enclosed-push : (depth : ℕ) (variables : List (List ℕ)) (variable : List ℕ) (scope : Scope)

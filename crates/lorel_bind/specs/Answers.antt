@@ -1,16 +1,19 @@
 -- The rows of a select: what its items show of the valuations of its ranges that hold.
-use Rattle.std.specs.Prelude.{◌≡◌, ℕ, ◌↔◌, List, [], map, Option, Some, MatchOption, All, AllPairs, Contains, slice_get}
+use Rattle.std.specs.Prelude.{◌≡◌, ℕ, ◌↔◌, List, [], Option, Some, MatchOption, All, AllPairs, Contains, slice_get}
 use Rattle.std.specs.Cmp.Lexicographic.{slice_cmp}
 use Rattle.std.specs.Ordering.{nat_cmp}
 use Rattle.std.specs.declared.cmp.Ordering.{Ordering}
-use Rattle.std.specs.declared.cmp.Ordering.TheVariants.{Less}
-use Rattle.lorel_bind.specs.Types.{Oid, Value}
+use Rattle.std.specs.declared.cmp.Ordering.TheVariants.{Less, Greater}
+use Rattle.std.specs.List.{AllZip}
+use Rattle.lorel_bind.specs.Types.{Oid, Label, Value, Cell}
+use Rattle.lorel_bind.specs.Types.cells
 use Rattle.lore_base.specs.Names.{object_of}
 use Rattle.lore_base.specs.Databases.{Database}
 use Rattle.lore_base.specs.Paths.{PathTree, seq, trees_of, Reaches}
+use Rattle.lore_base.specs.LeastWords.{shortlex_cmp, IsLeast, IsSpelledWalk}
 use Rattle.lore_base.specs.Comparisons.{Compares}
 use Rattle.lorel_trees.specs.Trees.{SelectTree}
-use Rattle.lorel_bind.specs.Places.{Root, named, quantified, Place, at_root, cell_places}
+use Rattle.lorel_bind.specs.Places.{Root, named, quantified, Place, at_root, CellPlace, object, word, cells_of}
 use Rattle.lorel_bind.specs.Ranges.{Range, ArePlain, IsFixed}
 use Rattle.lorel_bind.specs.Conditions.{CondOf, cond_of, Holds}
 
@@ -52,22 +55,44 @@ abbrev pub HoldsAt : Database → List Range → (Place → Oid) → Option (Con
 HoldsAt db ranges at condition =
     MatchOption condition (Unit {0}) (λ cond. Holds (IsReachedBy db ranges at) (HasValue db) Compares [] cond)
 
--- the row shows the objects of a valuation of these ranges that holds; paths of the condition are fixed by the plain ones
-pub record IsRowOver (db : Database) (query : SelectTree) (plain ranges : List Range) (row : List Oid) : Type 0 where
+-- the least word by which a range of the place is reached, from the object at its start
+pub record IsWordAt (db : Database) (ranges : List Range) (at : Place → Oid) (place : Place) (labels : List Label) :
+    Type 0 where
+  pub range : Range
+  pub there : Contains ranges range
+  pub is : range.place ≡ place
+  pub least : IsLeast
+      (IsSpelledWalk db.labels db.graph.edges (seq (trees_of range.parts)) (at range.start) (at place)) labels
+
+-- a cell shows the object of its place, or that word
+abbrev pub ShowsCell : Database → List Range → (Place → Oid) → CellPlace → Cell → Type 0
+ShowsCell db ranges at (object place) (cells.Object oid) = at place ≡ oid
+ShowsCell db ranges at (word place) (cells.Path labels) = IsWordAt db ranges at place labels
+ShowsCell db ranges at _ _ = ⊥
+
+-- the row shows the cells of a valuation of these ranges that holds; paths of the condition are fixed by the plain ones
+pub record IsRowOver (db : Database) (query : SelectTree) (plain ranges : List Range) (row : List Cell) : Type 0 where
   pub at : Place → Oid
   pub valuation : IsValuation db ranges at
   pub holds : HoldsAt db plain at (cond_of query)
-  pub shown : row ≡ map at (cell_places query)
+  pub shown : AllZip (ShowsCell db ranges at) (cells_of query) row
 
 -- a row of the select: it shows a valuation of the plain ranges that holds
-abbrev pub IsRow : Database → SelectTree → List Oid → Type 0
+abbrev pub IsRow : Database → SelectTree → List Cell → Type 0
 IsRow db query row = (plain : List Range) × ArePlain query plain × IsRowOver db query plain plain row
 
--- rows are ordered by their cells from the left, objects by their numbers
-abbrev pub row_cmp : List Oid → List Oid → Ordering
-row_cmp = slice_cmp (λ (a b : Oid). nat_cmp a.0 b.0)
+-- cells of one kind stand in one column: objects by their numbers, words shortest first and then by label numbers
+abbrev pub cell_cmp : Cell → Cell → Ordering
+cell_cmp (cells.Object a) (cells.Object b) = nat_cmp a.0 b.0
+cell_cmp (cells.Object a) (cells.Path b) = Less
+cell_cmp (cells.Path a) (cells.Object b) = Greater
+cell_cmp (cells.Path a) (cells.Path b) = shortlex_cmp a b
+
+-- rows are ordered by their cells from the left
+abbrev pub row_cmp : List Cell → List Cell → Ordering
+row_cmp = slice_cmp cell_cmp
 
 -- the answer: all rows, each once, in this order
-pub record IsAnswer (db : Database) (query : SelectTree) (rows : List (List Oid)) : Type 0 where
+pub record IsAnswer (db : Database) (query : SelectTree) (rows : List (List Cell)) : Type 0 where
   pub ascending : AllPairs (λ a b. row_cmp a b ≡ Less) rows
-  pub exact : (row : List Oid) → Contains rows row ↔ IsRow db query row
+  pub exact : (row : List Cell) → Contains rows row ↔ IsRow db query row

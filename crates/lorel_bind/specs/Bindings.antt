@@ -4,11 +4,13 @@ use Rattle.std.specs.List.{AllZip}
 use Rattle.lorel_bind.specs.Types.{Oid, Start, BoundStart, RANGES, LEAVES, NESTING}
 use Rattle.lorel_bind.specs.Types.starts
 use Rattle.lorel_bind.specs.Types.bound_starts
+use Rattle.lorel_bind.specs.Types.{CellOf}
+use Rattle.lorel_bind.specs.Types.shown
 use Rattle.lore_base.specs.Names.{object_of}
 use Rattle.lore_base.specs.Paths.{PathTree, seq, trees_of, leaves}
 use Rattle.lorel_trees.specs.Trees.{SelectTree, ItemTree, CondTree, CondTrees}
 use Rattle.lorel_trees.specs.Trees as t
-use Rattle.lorel_bind.specs.Places.{named, quantified, Place, at_root, cell_places}
+use Rattle.lorel_bind.specs.Places.{named, quantified, Place, at_root, CellPlace, object, word, cells_of}
 use Rattle.lorel_bind.specs.Conditions.{OperandOf, constant, at, CondOf, or, and, not, exists, for_all, compare, same, CondsOf, no_cond, cond, cond_of, paths_in}
 use Rattle.lorel_bind.specs.Ranges.{Range, ArePlain, AreFused, IsUsed, IsFixed, places}
 use Rattle.lorel_bind.specs.Bound.{RangeTree, BoundPathTree, BoundTree}
@@ -30,6 +32,12 @@ pub record IsBoundRange (names : List (List ℕ × Oid)) (fused : List Range) (r
     Type 0 where
   pub start : StandsFor names fused range.start bound.start
   pub path : bound.path ≡ seq (trees_of range.parts)
+
+-- a bound cell shows the object of its place, or the word of the fused range of that place
+abbrev pub IsBoundCell : List (List ℕ × Oid) → List Range → CellPlace → CellOf → Type 0
+IsBoundCell names fused (object place) (shown.Object start) = StandsFor names fused place start
+IsBoundCell names fused (word place) (shown.PathOf slot) = slice_get (places fused) slot ≡ Some place
+IsBoundCell names fused _ _ = ⊥
 
 -- a bound path is a path of the text: it starts at the longest prefix that is a range
 pub record IsBoundPath (names : List (List ℕ × Oid)) (plain fused : List Range) (path : Place) (bound : BoundPathTree) :
@@ -77,13 +85,18 @@ pub record IsBinding (names : List (List ℕ × Oid)) (query : SelectTree) (boun
   pub made : ArePlain query plain
   pub fuses : AreFused (IsUsed query plain) plain fused
   pub ranges : AllZip (IsBoundRange names fused) fused bound.ranges
-  pub cells : AllZip (StandsFor names fused) (cell_places query) bound.cells
+  pub cells : AllZip (IsBoundCell names fused) (cells_of query) bound.cells
   pub condition : CorrespondIf (IsBoundPath names plain fused) (cond_of query) bound.cond
 
 -- a start is an object or one of so many slots
 abbrev pub IsWithin : ℕ → Start → Type 0
 IsWithin count (starts.Named oid) = Unit {0}
 IsWithin count (starts.Slot slot) = slot < count
+
+-- and so for a cell
+abbrev pub IsCellWithin : ℕ → CellOf → Type 0
+IsCellWithin count (shown.Object start) = IsWithin count start
+IsCellWithin count (shown.PathOf slot) = slot < count
 
 -- each range starts at an object or at an earlier range, where so many are earlier than the first
 abbrev pub AreInOrder : ℕ → List RangeTree → Type 0
@@ -100,18 +113,8 @@ pub record IsRunnable (bound : BoundTree) : Type 0 where
   pub few_leaves : sum_by (λ range. leaves range.path) bound.ranges
       + sum_by (λ path. leaves path.rest) (paths_in bound.cond) ≤ LEAVES
   pub in_order : AreInOrder 0 bound.ranges
-  pub cells_within : All (IsWithin (length bound.ranges)) bound.cells
+  pub cells_within : All (IsCellWithin (length bound.ranges)) bound.cells
   pub condition_within : All (λ path. IsBoundWithin (length bound.ranges) path.start) (paths_in bound.cond)
-
--- an item that is a path, and no path variable
-abbrev pub IsPath : ItemTree → Type 0
-IsPath (t.object path) = Unit {0}
-IsPath (t.path_of variable) = ⊥
-
--- the select has no path variable
-pub record HasNoPathVariable (query : SelectTree) : Type 0 where
-  pub items : All IsPath query.items
-  pub ranges : All (λ range. range.word ≡ None) query.tail.ranges
 
 -- how deep quantifiers stand in one another
 abbrev mutual

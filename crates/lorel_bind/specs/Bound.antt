@@ -1,6 +1,6 @@
 -- Bound selects as plain data: ranges that start at objects and slots, the cells of a row, and the condition.
 use Rattle.std.specs.Prelude.{List, [], ◌∷◌, map, Option, option_map}
-use Rattle.lorel_bind.specs.Types.{Start, BoundStart}
+use Rattle.lorel_bind.specs.Types.{Start, BoundStart, CellOf}
 use Rattle.lore_base.specs.Paths.{PathTree, path_tree}
 use Rattle.lorel_bind.specs.Conditions.{OperandOf, constant, at, CondOf, or, and, not, exists, for_all, compare, same, CondsOf, no_cond, cond}
 use Rattle.lorel_bind.specs.declared.bound.Range.{Range}
@@ -27,7 +27,7 @@ pub record BoundPathTree : Type 0 where
 -- a bound select
 pub record BoundTree : Type 0 where
   pub ranges : List RangeTree
-  pub cells : List Start
+  pub cells : List CellOf
   pub cond : Option (CondOf BoundPathTree)
 
 -- The plain data of the program's bound selects.

@@ -1,7 +1,7 @@
 -- Laws of the query language: ranges, bindings, answers and refusals are determined and exist, and neither fusing nor
 -- binding changes a row.
 use Rattle.std.specs.Prelude.{◌≡◌, ◌⊎◌, ◌↔◌, ℕ, List}
-use Rattle.lorel_bind.specs.Types.{Oid, Refusal}
+use Rattle.lorel_bind.specs.Types.{Oid, Refusal, Cell}
 use Rattle.lore_base.specs.Databases.{Database}
 use Rattle.lorel_trees.specs.Trees.{SelectTree}
 use Rattle.lorel_bind.specs.Ranges.{Range, ArePlain, AreFused, IsUsed}
@@ -31,12 +31,12 @@ HasSomeFused = (query : SelectTree) (plain : List Range) → ArePlain query plai
 abbrev pub FusingKeepsRows : Type 0
 FusingKeepsRows = (db : Database) (query : SelectTree) (plain fused : List Range) → ArePlain query plain
     → AreFused (IsUsed query plain) plain fused
-    → (row : List Oid) → IsRow db query row ↔ IsRowOver db query plain fused row
+    → (row : List Cell) → IsRow db query row ↔ IsRowOver db query plain fused row
 
 -- a bound select has the rows of the select of the text
 abbrev pub BindingKeepsRows : Type 0
 BindingKeepsRows = (db : Database) (query : SelectTree) (bound : BoundTree) → IsBinding db.graph.names query bound
-    → (row : List Oid) → IsRow db query row ↔ IsSlotRow db bound row
+    → (row : List Cell) → IsRow db query row ↔ IsSlotRow db bound row
 
 -- a select has one binding over some names
 abbrev pub HasOneBinding : Type 0
@@ -50,14 +50,14 @@ HasSomeBinding = (names : List (List ℕ × Oid)) (query : SelectTree) → IsAcc
 
 -- a select has one answer
 abbrev pub HasOneAnswer : Type 0
-HasOneAnswer = (db : Database) (query : SelectTree) (rows other : List (List Oid))
+HasOneAnswer = (db : Database) (query : SelectTree) (rows other : List (List Cell))
     → IsAnswer db query rows → IsAnswer db query other → rows ≡ other
 
 -- and has one where each of its paths starts somewhere
 abbrev pub HasSomeAnswer : Type 0
 HasSomeAnswer = (db : Database) (query : SelectTree)
     → ((start : List ℕ) → StartsNowhere db.graph.names query start → ⊥)
-    → (rows : List (List Oid)) × IsAnswer db query rows
+    → (rows : List (List Cell)) × IsAnswer db query rows
 
 -- each select is accepted, or has a first cause of refusal
 abbrev pub HasSomeVerdict : Type 0

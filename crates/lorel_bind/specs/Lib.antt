@@ -3,6 +3,7 @@ pub mod Places
 pub mod Conditions
 pub mod Ranges
 pub mod Answers
+pub mod CellOrder
 pub mod Faults
 pub mod Refusals
 pub mod Bound

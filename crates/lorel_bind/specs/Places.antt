@@ -1,7 +1,9 @@
 -- What the paths of a select stand for: places, which are starts with the parts behind them.
-use Rattle.std.specs.Prelude.{ℕ, List, [], ◌∷◌, ◌++◌, Option, Some, None, if◌then◌else◌}
+use Rattle.std.specs.Prelude.{ℕ, List, [], ◌∷◌, ◌++◌, map, Option, Some, None, if◌then◌else◌}
 use Rattle.std.specs.Str.{bytes_eq}
 use Rattle.std.specs.List.{flat_map}
+use Rattle.std.specs.Map.{lookup}
+use Rattle.std.specs.Option.{option_to_list}
 use Rattle.lore_base.specs.Paths.{PathTree}
 use Rattle.lorel_trees.specs.Trees.{RootedTree, FromTree, ItemTree, SelectTree}
 use Rattle.lorel_trees.specs.Trees as t
@@ -49,10 +51,37 @@ abbrev pub scope_of : Scope → List FromTree → Scope
 scope_of scope [] = scope
 scope_of scope (item ∷ items) = scope_of (scope_behind item.variable scope) items
 
--- the places that the cells of a row show
+-- the places whose objects the cells of a row show
 abbrev pub item_places : Scope → ItemTree → List Place
 item_places scope (t.object path) = place_of scope path ∷ []
 item_places scope (t.path_of variable) = []
 
 abbrev pub cell_places : SelectTree → List Place
 cell_places query = flat_map (item_places (scope_of [] query.tail.ranges)) query.items
+
+-- the path variables of from items, each with the place of its range; one stands only before an object variable
+abbrev pub item_path_variables : Option (List ℕ) → Option (List ℕ) → List (List ℕ × Place)
+item_path_variables (Some own) (Some variable) = (own, at_root (ranged variable)) ∷ []
+item_path_variables _ _ = []
+
+abbrev pub path_variables : List FromTree → List (List ℕ × Place)
+path_variables items = flat_map (λ (item : FromTree). item_path_variables item.word item.variable) items
+
+-- what a cell shows: the object of a place, or the word by which the range of a place is reached
+pub data CellPlace : Type 0 where
+  object : (place : Place) → CellPlace
+  word : (place : Place) → CellPlace
+
+-- the place of a path variable, if there is one
+abbrev pub word_place : List (List ℕ × Place) → List ℕ → Option Place
+word_place variables variable = lookup (bytes_eq variable) variables
+
+abbrev pub item_cells : Scope → List (List ℕ × Place) → ItemTree → List CellPlace
+item_cells scope variables (t.object path) = object (place_of scope path) ∷ []
+item_cells scope variables (t.path_of variable) = map word (option_to_list (word_place variables variable))
+
+-- what the cells of a row show, in text order; an item whose path variable no from item has shows nothing, and refuses
+-- the select
+abbrev pub cells_of : SelectTree → List CellPlace
+cells_of query =
+    flat_map (item_cells (scope_of [] query.tail.ranges) (path_variables query.tail.ranges)) query.items

@@ -3,7 +3,7 @@ use Rattle.std.specs.Prelude.{◌≡◌, ◌≢◌, ℕ, zero, suc, ◌⊎◌, L
 use Rattle.std.specs.List.{flat_map}
 use Rattle.lore_base.specs.Paths.{PathTree}
 use Rattle.lorel_trees.specs.Trees.{FromTree, SelectTree}
-use Rattle.lorel_bind.specs.Places.{ranged, Place, at_root, beyond, Scope, place_of, scope_behind, cell_places}
+use Rattle.lorel_bind.specs.Places.{ranged, Place, at_root, beyond, Scope, place_of, scope_behind, cell_places, word, cells_of}
 use Rattle.lorel_bind.specs.Conditions.{cond_places}
 
 -- a range gives an object to a place: one that its path reaches from the object at its start
@@ -59,10 +59,18 @@ pub record IsFixed (ranges : List Range) (path fixed : Place) (rest : List PathT
   pub longest : (further others : List PathTree) → rest ≡ further ++ others
       → Contains (places ranges) (beyond fixed further) → further ≡ []
 
--- a range is used where a cell shows its object, or where a path of the condition is fixed at it
+-- a cell shows the word of the range of this place, or of one that starts here
+abbrev pub IsNeededForWord : SelectTree → List Range → Place → Type 0
+IsNeededForWord query ranges place =
+    (range : Range) × Contains ranges range × Contains (cells_of query) (word range.place)
+    × ((range.place ≡ place) ⊎ (range.start ≡ place))
+
+-- a range is used where a cell shows its object, or its word, or the word of one that starts at it, or where a path of
+-- the condition is fixed at it
 abbrev pub IsUsed : SelectTree → List Range → Place → Type 0
 IsUsed query ranges place = Contains (cell_places query) place
-    ⊎ ((path : Place) × (rest : List PathTree) × Contains (cond_places query) path × IsFixed ranges path place rest)
+    ⊎ (IsNeededForWord query ranges place
+    ⊎ ((path : Place) × (rest : List PathTree) × Contains (cond_places query) path × IsFixed ranges path place rest))
 
 -- of all ranges exactly one starts at the place
 pub record IsOnlyStart (place : Place) (before : List Range) (other : Range) (after : List Range) : Type 0 where

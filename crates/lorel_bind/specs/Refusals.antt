@@ -10,7 +10,7 @@ use Rattle.lorel_trees.specs.Trees.{SelectTree, FromTree, CondTree, CondTrees}
 use Rattle.lorel_trees.specs.Trees as t
 use Rattle.lorel_bind.specs.Faults.{refusal_of}
 use Rattle.lorel_bind.specs.declared.faults.BindFault.{BindFault}
-use Rattle.lorel_bind.specs.Places.{named, Place, Scope, place_of, scope_behind, cell_places}
+use Rattle.lorel_bind.specs.Places.{named, Place, Scope, place_of, scope_behind, cell_places, path_variables, word_place}
 use Rattle.lorel_bind.specs.Conditions.{cond_places}
 use Rattle.lorel_bind.specs.Ranges.{Range, ArePlain, AreFused, IsUsed}
 
@@ -66,10 +66,17 @@ abbrev pub HasUnknownName : List (List ℕ × Oid) → SelectTree → Type 0
 HasUnknownName names query =
     (start : List ℕ) × StartsNowhere names query start × (Contains (ranged_identifiers query) start → ⊥)
 
--- such an identifier is ranged elsewhere
+-- an item names a path variable that no from item has
+abbrev pub HasUnknownPathVariable : SelectTree → Type 0
+HasUnknownPathVariable query =
+    (variable : List ℕ) × Contains query.items (t.path_of variable)
+    × (word_place (path_variables query.tail.ranges) variable ≡ None)
+
+-- such an identifier is ranged elsewhere, or an item names such a path variable
 abbrev pub HasUnknownVariable : List (List ℕ × Oid) → SelectTree → Type 0
 HasUnknownVariable names query =
-    (start : List ℕ) × StartsNowhere names query start × Contains (ranged_identifiers query) start
+    ((start : List ℕ) × StartsNowhere names query start × Contains (ranged_identifiers query) start)
+    ⊎ HasUnknownPathVariable query
 
 -- one identifier is ranged twice
 abbrev pub HasDuplicate : SelectTree → Type 0

@@ -1,7 +1,10 @@
 -- The rows of a bound select: its slots hold the objects of its ranges, and its cells show some of them.
-use Rattle.std.specs.Prelude.{◌≡◌, ℕ, List, [], Option, Some, MatchOption, slice_get, Contains}
+use Rattle.std.specs.Prelude.{◌≡◌, ℕ, List, [], Option, Some, MatchOption, slice_get, All, Contains}
 use Rattle.std.specs.List.{AllZip}
-use Rattle.lorel_bind.specs.Types.{Oid, Edge, Value, Start, BoundStart}
+use Rattle.lorel_bind.specs.Types.{Oid, Label, Edge, Value, Start, BoundStart, Cell, CellOf}
+use Rattle.lorel_bind.specs.Types.shown
+use Rattle.lorel_bind.specs.Types.cells
+use Rattle.lore_base.specs.LeastWords.{IsLeast, IsSpelledWalk}
 use Rattle.lorel_bind.specs.Types.starts
 use Rattle.lorel_bind.specs.Types.bound_starts
 use Rattle.lore_base.specs.Databases.{Database}
@@ -37,9 +40,35 @@ abbrev pub AreFilled : List (List ℕ) → List Edge → List RangeTree → List
 AreFilled labels edges ranges slots = AllZip (λ range oid.
     (start : Oid) × StartsAt slots range.start start × Reaches labels edges range.path start oid) ranges slots
 
+-- the least word by which the object in a slot is reached along the slot's range
+pub record IsSlotWord (labels : List (List ℕ)) (edges : List Edge) (ranges : List RangeTree) (slots : List Oid) (slot : ℕ)
+    (own : List Label) : Type 0 where
+  pub range : RangeTree
+  pub there : slice_get ranges slot ≡ Some range
+  pub start : Oid
+  pub begins : StartsAt slots range.start start
+  pub oid : Oid
+  pub ends : slice_get slots slot ≡ Some oid
+  pub least : IsLeast (IsSpelledWalk labels edges range.path start oid) own
+
+-- a cell shows the object of its start, or the word of its slot
+abbrev pub ShowsSlot : List (List ℕ) → List Edge → List RangeTree → List Oid → CellOf → Cell → Type 0
+ShowsSlot labels edges ranges slots (shown.Object start) (cells.Object oid) = StartsAt slots start oid
+ShowsSlot labels edges ranges slots (shown.PathOf slot) (cells.Path own) = IsSlotWord labels edges ranges slots slot own
+ShowsSlot labels edges ranges slots _ _ = ⊥
+
 -- the row shows the cells of slots that are filled and that the condition holds of
-pub record IsSlotRow (db : Database) (bound : BoundTree) (row : List Oid) : Type 0 where
+pub record IsSlotRow (db : Database) (bound : BoundTree) (row : List Cell) : Type 0 where
   pub slots : List Oid
   pub filled : AreFilled db.labels db.graph.edges bound.ranges slots
   pub holds : HoldsOver db.labels db.graph.edges db.graph.objects slots bound.cond
-  pub shown : AllZip (StartsAt slots) bound.cells row
+  pub shown : AllZip (ShowsSlot db.labels db.graph.edges bound.ranges slots) bound.cells row
+
+-- a cell shows an object, and no word
+abbrev pub IsObjectCell : CellOf → Type 0
+IsObjectCell (shown.Object start) = Unit {0}
+IsObjectCell (shown.PathOf slot) = ⊥
+
+-- no cell shows a word
+abbrev pub ShowsObjects : BoundTree → Type 0
+ShowsObjects bound = All IsObjectCell bound.cells

@@ -19,3 +19,7 @@ pub use Rattle.lorel_bind.specs.declared.plans.PlanKind.TheVariants as plan_kind
 pub use Rattle.lorel_bind.specs.declared.plans.PlanStep.{PlanStep}
 pub use Rattle.lorel_bind.specs.declared.plans.PlanStep.TheVariants as plan_steps
 pub use Rattle.lorel_bind.specs.declared.plans.Plan.{Plan}
+pub use Rattle.lorel_bind.specs.declared.bound.CellOf.{CellOf}
+pub use Rattle.lorel_bind.specs.declared.bound.CellOf.TheVariants as shown
+pub use Rattle.lorel_bind.specs.declared.cells.Cell.{Cell}
+pub use Rattle.lorel_bind.specs.declared.cells.Cell.TheVariants as cells

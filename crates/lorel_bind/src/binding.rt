@@ -1,7 +1,7 @@
 ghost use Rattle.std.specs.Prelude.{ℕ, List, IfOk, IfErr, OnOk};
 ghost use Rattle.lorel_trees.specs.Trees.{select_tree};
 ghost use Rattle.lorel_bind.specs.Bound.{bound_tree};
-ghost use Rattle.lorel_bind.specs.Bindings.{HasNoPathVariable, IsShallow, IsBinding, IsRunnable};
+ghost use Rattle.lorel_bind.specs.Bindings.{IsShallow, IsBinding, IsRunnable};
 ghost use Rattle.lorel_bind.specs.Refusals.{StartsNowhere, IsAccepted, IsRefusedBy};
 ghost use Rattle.lorel_bind.specs.inside.Views.{ranges_of};
 ghost use Rattle.lorel_bind.specs.inside.Texts.{IsTextOf};
@@ -20,16 +20,18 @@ use lore_base::{Names, NoMemory};
 use lorel_trees::Select;
 use std::alloc::Global;
 
-/// Binds a select that has no path variable: finds what each of its paths starts at, makes its
-/// ranges, fuses those whose objects nobody looks at, and gives each that is left a slot.
+/// Binds a select: finds what each of its paths starts at, makes its ranges, fuses those whose
+/// objects nobody looks at, and gives each that is left a slot. An item that names a path variable
+/// shows the word by which the range of that variable is reached: neither this range nor the one that
+/// it starts at is fused into what follows.
 ///
 /// It answers the first cause that applies: a path starts at an identifier that is neither a
 /// variable in scope nor a name, and is ranged nowhere (UnknownName), or elsewhere
-/// (UnknownVariable); an identifier is ranged twice (DuplicateVariable); or there are more than 8
-/// ranges after fusing, more than 8 items, or more than 64 path leaves (TooManyRanges). It takes
-/// steps linear in the text of the select.
+/// (UnknownVariable), or an item names a path variable that no from item has (UnknownVariable too);
+/// an identifier is ranged twice (DuplicateVariable); or there are more than 8 ranges after fusing,
+/// more than 8 items, or more than 64 path leaves (TooManyRanges). It takes steps linear in the text
+/// of the select.
 pub fn bind(alloc: Global, query: &Select, names: &Names) -> Result<Bound, BindFault>
-    requires plain { HasNoPathVariable (select_tree query.now) }
     requires shallow { IsShallow (select_tree query.now) }
     ensures binding { IfOk result (λ bound.
         IsBinding names.now (select_tree query.now) (bound_tree bound)) }
@@ -79,7 +81,7 @@ fn bound_select<'q>(
         IsBinding slots.now.names.now (select_tree query.now) (bound_tree bound)) }
 {
     let ranges = slots.ranges(alloc)?;
-    let cells = slots.cells(alloc, text.cells.as_slice())?;
+    let cells = slots.cells(alloc, text.items.shown.as_slice())?;
     let binder = Binder {
         variables: &text.variables,
         plain,

@@ -1,8 +1,12 @@
 ghost use Rattle.std.specs.Prelude.{◌≡◌, List, [], ◌∷◌, ◌++◌, length, map, slice_get};
 ghost use Rattle.std.specs.Prelude.{OnOk, OnErr};
 ghost use Rattle.std.specs.Option.{option_copied};
+ghost use Rattle.lorel_bind.specs.Types.{RANGES};
 ghost use Rattle.lorel_bind.specs.Bound.{bound_cond, bound_conds, conds_of};
+ghost use Rattle.lorel_bind.specs.Bindings.{IsWithin};
+ghost use Rattle.lorel_bind.specs.SlotRows.{StartsAt};
 
+use index_traits::Row;
 use lore_base::{Listing, NoMemory, Oid, Op, Path, Value};
 use std::alloc::Global;
 
@@ -15,6 +19,19 @@ pub enum Start {
     Slot(u32),
 }
 
+impl Start {
+    /// The object of the start, where the row gives each slot its object.
+    pub fn object(self, row: &Row) -> Oid
+        requires { IsWithin RANGES self }
+        ensures { StartsAt row.now self result }
+    {
+        match self {
+            Start::Named(oid) => oid,
+            Start::Slot(slot) => row.get(slot),
+        }
+    }
+}
+
 /// A range gives an object to the slot with its number: one that its path reaches from its start.
 #[derive(Drop)]
 pub struct Range {
@@ -25,8 +42,17 @@ pub struct Range {
 /// The ranges of a select, each behind the one that it starts at.
 pub type RangeList = Listing<Range>;
 
-/// The cells of each row, in text order: each shows the object of a start.
-pub type CellList = Listing<Start>;
+/// What a cell of each row shows.
+#[derive(Clone, Copy, Debug, PartialEq, Eq)]
+pub enum CellOf {
+    /// The object of a start.
+    Object(Start),
+    /// The least word by which the object in this slot is reached along its range.
+    PathOf(u32),
+}
+
+/// The cells of each row, in text order.
+pub type CellList = Listing<CellOf>;
 
 /// What a path of a condition starts at.
 #[derive(Clone, Copy, Debug, PartialEq, Eq)]

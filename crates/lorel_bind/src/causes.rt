@@ -4,7 +4,6 @@ ghost use Rattle.lore_base.specs.Names.{object_of};
 ghost use Rattle.lore_base.specs.Paths.{path_tree, trees_of, leaves_of};
 ghost use Rattle.lorel_trees.specs.Trees.{SelectTree};
 ghost use Rattle.lorel_bind.specs.Places.{named, Place as ThePlace};
-ghost use Rattle.lorel_bind.specs.Bindings.{HasNoPathVariable};
 ghost use Rattle.lorel_bind.specs.Refusals.{IsRefusedBy, leaves_in};
 ghost use Rattle.lorel_bind.specs.inside.Views.{root_tree, place_tree, place_trees, texts};
 ghost use Rattle.lorel_bind.specs.inside.Texts.{IsTextOf, places_of, ranged_of, HasNoted, HasMet};
@@ -18,10 +17,11 @@ use lore_base::limits::{ITEMS, LEAVES};
 use lore_base::{Names, NoMemory, OemText, Path, path_leaf_count};
 use std::alloc::Global;
 
-// Looks at what each path of a select starts at, at the identifiers that are ranged, and at the
-// numbers of items and path leaves. Answers the first cause that applies.
+// Looks at what each path of a select starts at, at the path variables that items name, at the
+// identifiers that are ranged, and at the numbers of items and path leaves. Answers the first cause
+// that applies.
 pub(crate) fn check_text(alloc: Global, text: &Text, names: &Names) -> Result<(), BindFault>
-    ensures passes { (query : SelectTree) → HasNoPathVariable query → IsTextOf query text.now
+    ensures passes { (query : SelectTree) → IsTextOf query text.now
         → OnOk result (PassesText names.now query) }
     ensures refused { (query : SelectTree) → IsTextOf query text.now
         → IfErr result (IsRefusedBy names.now query) }
@@ -31,13 +31,13 @@ pub(crate) fn check_text(alloc: Global, text: &Text, names: &Names) -> Result<()
     if unknown.names {
         return Err(BindFault::UnknownName);
     }
-    if unknown.variables {
+    if unknown.variables || text.items.unknown {
         return Err(BindFault::UnknownVariable);
     }
     if ranged.doubled {
         return Err(BindFault::DuplicateVariable);
     }
-    if ITEMS < text.cells.len() || (LEAVES as u64) < count_leaves(text) {
+    if ITEMS < text.item_count || (LEAVES as u64) < count_leaves(text) {
         return Err(BindFault::TooManyRanges);
     }
     Ok(())
@@ -101,7 +101,7 @@ fn unknown_starts(text: &Text, names: &Names, ranged: &IndexSet<&[u8]>) -> Unkno
         variables: false,
     };
     unknown.note_all(text.from.places.as_slice(), names, ranged);
-    unknown.note_all(text.cells.as_slice(), names, ranged);
+    unknown.note_all(text.items.cells.as_slice(), names, ranged);
     unknown.note_all(text.condition.places.as_slice(), names, ranged);
     unknown
 }
@@ -152,7 +152,7 @@ fn count_leaves(text: &Text) -> u64
     ensures { result ≡ min (2 ^ 64 - 1) (leaves_in (places_of text.now)) }
 {
     let from = leaves_of_places(text.from.places.as_slice());
-    let cells = leaves_of_places(text.cells.as_slice());
+    let cells = leaves_of_places(text.items.cells.as_slice());
     let conditions = leaves_of_places(text.condition.places.as_slice());
     from.saturating_add(cells).saturating_add(conditions)
 }

@@ -1,18 +1,18 @@
 ghost use Rattle.std.specs.Prelude.{◌≡◌, List, option_map, IfOk};
-ghost use Rattle.lorel_bind.specs.Types.{Start as TheStart};
+ghost use Rattle.lorel_bind.specs.Types.{CellOf as TheCell};
 ghost use Rattle.lorel_bind.specs.Conditions.{OperandOf, CondOf, compare, same};
 ghost use Rattle.lorel_bind.specs.Bound.{RangeTree, BoundPathTree, BoundTree};
 ghost use Rattle.lorel_bind.specs.Bound.{range_tree, bound_path, bound_operand, bound_cond};
 ghost use Rattle.lorel_bind.specs.Bound.{bound_conds, bound_tree};
 
-use crate::bound::{Bound, BoundCond, BoundCondList, BoundOperand, BoundPath, Range, Start};
+use crate::bound::{Bound, BoundCond, BoundCondList, BoundOperand, BoundPath, CellOf, Range};
 use lore_base::{NoMemory, Op, TryCopy};
 use std::alloc::Global;
 
-impl TryCopy for Start {
-    ghost Seen = { TheStart };
+impl TryCopy for CellOf {
+    ghost Seen = { TheCell };
 
-    ghost seen = { λ start. start };
+    ghost seen = { λ cell. cell };
 
     fn try_copy(&self, _alloc: Global) -> Result<Self, NoMemory> {
         Ok(*self)

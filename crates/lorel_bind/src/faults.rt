@@ -14,8 +14,8 @@ pub enum BindFault {
     #[error("a path starts at an unknown name")]
     UnknownName,
     /// A path starts at an identifier that is neither a variable in scope nor a name, but is ranged
-    /// elsewhere.
-    #[error("a path starts at a variable that is not in scope")]
+    /// elsewhere; or an item names a path variable that no from item has.
+    #[error("a path starts at a variable that is not in scope, or path-of names a path variable that no range has")]
     UnknownVariable,
     /// An identifier is ranged twice.
     #[error("a variable is ranged twice")]

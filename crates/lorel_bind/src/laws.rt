@@ -1,6 +1,7 @@
 //! Laws of the query language: ranges, bindings, answers and refusals are determined and exist, and
 //! neither fusing nor binding changes a row.
 
+ghost use Rattle.lore_base.specs.LeastWords.{HasSomeLeastWord};
 ghost use Rattle.lorel_bind.specs.Laws.{HasOnePlain, HasSomePlain, HasOneFused, HasSomeFused};
 ghost use Rattle.lorel_bind.specs.Laws.{FusingKeepsRows, BindingKeepsRows, HasOneAnswer, HasSomeAnswer};
 ghost use Rattle.lorel_bind.specs.Laws.{HasOneBinding, HasSomeBinding};
@@ -34,6 +35,11 @@ pub fn one_binding()
 /// A select that is accepted has a binding.
 pub fn some_binding()
     ensures { HasSomeBinding }
+{}
+
+/// Where a path reaches an object, one of its words there is the least.
+pub fn some_least_word()
+    ensures { HasSomeLeastWord }
 {}
 
 /// A select has one answer.

@@ -7,21 +7,24 @@
 
 pub use binding::bind;
 pub use bound::{
-    Bound, BoundCond, BoundCondList, BoundOperand, BoundPath, BoundStart, CellList, Range,
+    Bound, BoundCond, BoundCondList, BoundOperand, BoundPath, BoundStart, CellList, CellOf, Range,
     RangeList, Start,
 };
+pub use cells::Cell;
 pub use faults::BindFault;
 pub use plans::{Plan, PlanKind, PlanStep, PlanSteps};
 
 mod binding;
 mod bound;
 mod causes;
+mod cells;
 mod conditions;
 mod copies;
 mod faults;
 mod fusing;
 pub mod laws;
 mod links;
+mod path_variables;
 mod places;
 mod plans;
 mod slots;

@@ -7,13 +7,15 @@ ghost use Rattle.lorel_bind.specs.Places.{Place as ThePlace};
 ghost use Rattle.lorel_bind.specs.Ranges.{Range, ArePlain, AreGathered, IsFixed, IsUsed, places};
 ghost use Rattle.lorel_bind.specs.Ranges.{path_ranges, from_item_ranges};
 ghost use Rattle.lorel_bind.specs.inside.Views.{place_tree, place_trees, prefix_of, ranges_of};
+ghost use Rattle.lorel_bind.specs.inside.Views.{shown_tree, shown_trees};
 ghost use Rattle.lorel_bind.specs.inside.Texts.{IsTextOf};
 ghost use Rattle.lorel_bind.specs.inside.Links.{IsVariable, IsIndexed, AreLinked, AreFresh};
 ghost use Rattle.lorel_bind.specs.inside.Links.{further, GainsFollower, ArePushed, IsMarked};
-ghost use Rattle.lorel_bind.specs.inside.Links.{AreMarked, IsFixedOf, part_range, item_ranges};
+ghost use Rattle.lorel_bind.specs.inside.Links.{AreMarked, IsNeededAt, IsNeededOf, IsFixedOf};
+ghost use Rattle.lorel_bind.specs.inside.Links.{part_range, item_ranges};
 
 use crate::places::{Place, Root, same_place};
-use crate::text::Text;
+use crate::text::{Shown, Text};
 use crate::variables::Variables;
 use lore_base::{NoMemory, OemText, Path};
 use lorel_trees::{FromItem, Select};
@@ -25,7 +27,8 @@ pub(crate) struct Link<'q> {
     pub(crate) start: Place<'q>,
     pub(crate) parts: Vec<&'q Path>,
     pub(crate) place: Place<'q>,
-    // Whether a cell shows its object, or a path of the condition is fixed at it.
+    // Whether a cell shows its object or its word, or the word of one that starts at it, or a path
+    // of the condition is fixed at it.
     pub(crate) used: bool,
     // The ranges that start at it.
     pub(crate) followers: Followers,
@@ -148,7 +151,7 @@ pub(crate) fn plain_links<'q>(
         query.tail.ranges.as_slice(),
         text.from.places.as_slice(),
     )?;
-    links.add_paths(alloc, text.cells.as_slice())?;
+    links.add_paths(alloc, text.items.cells.as_slice())?;
     Ok(links)
 }
 
@@ -314,7 +317,8 @@ impl<'q> Links<'q> {
         }
     }
 
-    // Marks the ranges whose objects cells show, and those that paths of the condition are fixed at.
+    // Marks the ranges whose objects cells show, those that are needed for words that cells show, and
+    // those that paths of the condition are fixed at.
     pub(crate) fn mark_used(&mut self, text: &Text<'q>)
         requires fresh { AreFresh self.old }
         ensures linked { AreLinked self.new }
@@ -325,7 +329,8 @@ impl<'q> Links<'q> {
             → IsMarked self.new.links.items place
             ↔ IsUsed query (ranges_of self.old.links.items) place }
     {
-        self.mark_places(text.cells.as_slice());
+        self.mark_places(text.items.cells.as_slice());
+        self.mark_words(text.items.shown.as_slice());
         self.mark_fixed(text.condition.places.as_slice());
     }
 
@@ -336,6 +341,42 @@ impl<'q> Links<'q> {
     {
         'places: for place in places {
             self.mark(*place);
+        }
+    }
+
+    // Marks the ranges whose words cells show, and those that these start at.
+    fn mark_words(&mut self, shown: &[Shown<'q>])
+        requires linked { AreLinked self.old }
+        ensures { AreMarked self.old self.new
+            (IsNeededOf (ranges_of self.old.links.items) (shown_trees shown.now)) }
+    {
+        'shown: for cell in shown {
+            self.mark_cell(*cell);
+        }
+    }
+
+    // Marks the range whose word a cell shows, if it shows one, and the range that this starts at.
+    fn mark_cell(&mut self, cell: Shown<'q>)
+        requires linked { AreLinked self.old }
+        ensures { AreMarked self.old self.new
+            (IsNeededOf (ranges_of self.old.links.items) (shown_tree cell.entry ∷ [])) }
+    {
+        match cell {
+            Shown::Object(_) => {}
+            Shown::Word(place) => self.mark_word(place),
+        }
+    }
+
+    // Marks the range with this place, if there is one, and the range that it starts at.
+    fn mark_word(&mut self, place: Place<'q>)
+        requires linked { AreLinked self.old }
+        ensures { AreMarked self.old self.new
+            (IsNeededAt (ranges_of self.old.links.items) (place_tree place.entry)) }
+    {
+        if let Some(number) = self.plain.find(place) {
+            let start = self.links[number].start;
+            self.mark(place);
+            self.mark(start);
         }
     }
 

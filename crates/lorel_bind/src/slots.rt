@@ -8,12 +8,14 @@ ghost use Rattle.lorel_bind.specs.Bound.{range_tree};
 ghost use Rattle.lorel_bind.specs.Places.{at_root, quantified};
 ghost use Rattle.lorel_bind.specs.Ranges.{places};
 ghost use Rattle.lorel_bind.specs.Bindings.{StandsFor};
-ghost use Rattle.lorel_bind.specs.inside.Views.{place_tree, place_trees, range_of, ranges_of};
-ghost use Rattle.lorel_bind.specs.inside.Slots.{Starts, StartsAny, BindsRange};
+ghost use Rattle.lorel_bind.specs.inside.Views.{place_tree, range_of, ranges_of};
+ghost use Rattle.lorel_bind.specs.inside.Views.{shown_tree, shown_trees};
+ghost use Rattle.lorel_bind.specs.inside.Slots.{Starts, StartsAny, BindsRange, BindsCell};
 
-use crate::bound::{BoundStart, CellList, Range, RangeList, Start};
+use crate::bound::{BoundStart, CellList, CellOf, Range, RangeList, Start};
 use crate::links::Link;
 use crate::places::{Place, Root, same_place};
+use crate::text::Shown;
 use lore_base::limits::RANGES;
 use lore_base::{Names, NoMemory, Oid, Path, PathList, TryCopy};
 use std::alloc::Global;
@@ -103,16 +105,27 @@ impl<'q, 'n> Slots<'q, 'n> {
     }
 
     // The cells by slots.
-    pub(crate) fn cells(&self, alloc: Global, cells: &[Place<'q>]) -> Result<CellList, NoMemory>
-        ensures { IfOk result (λ starts.
-            AllZip (Starts self.now.names.now (ranges_of self.now.links.items))
-            (place_trees cells.now) starts) }
+    pub(crate) fn cells(&self, alloc: Global, shown: &[Shown<'q>]) -> Result<CellList, NoMemory>
+        ensures { IfOk result (λ cells.
+            AllZip (BindsCell self.now.names.now (ranges_of self.now.links.items))
+            (shown_trees shown.now) cells) }
     {
-        let mut starts = CellList::with_capacity(alloc, cells.len())?;
-        'cells: for place in cells {
-            starts.push(self.start(*place))?;
+        let mut cells = CellList::with_capacity(alloc, shown.len())?;
+        'cells: for cell in shown {
+            cells.push(self.cell(*cell))?;
         }
-        Ok(starts)
+        Ok(cells)
+    }
+
+    // A cell by slots.
+    fn cell(&self, shown: Shown<'q>) -> CellOf
+        ensures { BindsCell self.now.names.now (ranges_of self.now.links.items)
+            (shown_tree shown.entry) result }
+    {
+        match shown {
+            Shown::Object(place) => CellOf::Object(self.start(place)),
+            Shown::Word(place) => CellOf::PathOf(self.slot(place)),
+        }
     }
 }
 

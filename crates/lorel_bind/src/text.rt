@@ -1,18 +1,19 @@
-ghost use Rattle.std.specs.Prelude.{◌≡◌, ◌+◌, ◌≤◌, [], ◌∷◌, ◌++◌, length, map, option_map, IfOk};
-ghost use Rattle.std.specs.Prelude.{OnOk, MatchOption};
+ghost use Rattle.std.specs.Prelude.{◌≡◌, ℕ, ◌+◌, ◌≤◌, List, [], ◌∷◌, ◌++◌, length, map, option_map};
+ghost use Rattle.std.specs.Prelude.{IfOk, OnOk, MatchOption};
 ghost use Rattle.lorel_trees.specs.Trees.{from_tree, item_tree, select_tree, cond_tree, conds_from};
-ghost use Rattle.lorel_trees.specs.Trees.{operand_tree};
+ghost use Rattle.lorel_trees.specs.Trees.{operand_tree, ItemTree};
 ghost use Rattle.lorel_bind.specs.Types.{NESTING};
-ghost use Rattle.lorel_bind.specs.Places.{Scope, item_places};
+ghost use Rattle.lorel_bind.specs.Places.{Scope, Place as ThePlace};
 ghost use Rattle.lorel_bind.specs.Conditions.{cond_in, conds_in, operand_in, paths_in, paths_of};
 ghost use Rattle.lorel_bind.specs.Conditions.{paths_of_all, operand_paths};
 ghost use Rattle.lorel_bind.specs.Refusals.{item_variables, cond_variables, quantifier_variables};
 ghost use Rattle.lorel_bind.specs.Refusals.{all_quantifier_variables};
 ghost use Rattle.lorel_bind.specs.Bindings.{IsShallow, depth_of, depth_of_all};
-ghost use Rattle.lorel_bind.specs.inside.Views.{place_trees, texts};
-ghost use Rattle.lorel_bind.specs.inside.Scopes.{enclosed, IsScope, names_of};
+ghost use Rattle.lorel_bind.specs.inside.Views.{place_trees, places_found, texts};
+ghost use Rattle.lorel_bind.specs.inside.Scopes.{enclosed, IsScope, FindAlike, names_of};
 ghost use Rattle.lorel_bind.specs.inside.Texts.{IsTextOf, ReadsFrom, ReadsItems};
 
+use crate::path_variables::PathVariables;
 use crate::places::Place;
 use crate::variables::Variables;
 use lore_base::{NoMemory, OemText};
@@ -25,10 +26,28 @@ pub(crate) struct Text<'q> {
     // The from items, and the variables that they bring into scope.
     pub(crate) from: Found<'q>,
     pub(crate) variables: Variables<'q>,
-    // The items.
-    pub(crate) cells: Vec<Place<'q>>,
+    // The items, and how many there are.
+    pub(crate) items: Items<'q>,
+    pub(crate) item_count: usize,
     // The condition.
     pub(crate) condition: Found<'q>,
+}
+
+// The paths among some items, and what each item shows. One that names a path variable which no
+// from item has shows nothing.
+#[derive(Drop)]
+pub(crate) struct Items<'q> {
+    pub(crate) cells: Vec<Place<'q>>,
+    pub(crate) shown: Vec<Shown<'q>>,
+    // Whether some item names such a path variable.
+    pub(crate) unknown: bool,
+}
+
+// What an item shows: the object of a place, or the word by which the range of a place is reached.
+#[derive(Clone, Copy)]
+pub(crate) enum Shown<'q> {
+    Object(Place<'q>),
+    Word(Place<'q>),
 }
 
 // The places of some paths, and the identifiers that are ranged there.
@@ -43,14 +62,17 @@ pub(crate) fn text_of<'q>(alloc: Global, query: &'q Select) -> Result<Text<'q>, 
     requires shallow { IsShallow (select_tree query.now) }
     ensures { IfOk result (IsTextOf (select_tree query.now)) }
 {
+    let ranges = query.tail.ranges.as_slice();
     let mut variables = Variables::new(alloc);
-    let from = from_text(alloc, query.tail.ranges.as_slice(), &mut variables)?;
-    let cells = item_text(alloc, query.items.as_slice(), &variables)?;
+    let from = from_text(alloc, ranges, &mut variables)?;
+    let words = PathVariables::from_items(alloc, ranges)?;
+    let items = item_text(alloc, query.items.as_slice(), &variables, &words)?;
     let condition = condition_text(alloc, &query.tail.cond, &variables)?;
     Ok(Text {
         from,
         variables,
-        cells,
+        items,
+        item_count: query.items.len(),
         condition,
     })
 }
@@ -75,38 +97,67 @@ fn from_text<'q>(
     Ok(found)
 }
 
-// The paths of items.
+// The items, where these path variables are known.
 fn item_text<'q>(
     alloc: Global,
-    items: &'q [Item],
+    list: &'q [Item],
     variables: &Variables<'q>,
-) -> Result<Vec<Place<'q>>, NoMemory>
-    ensures { IfOk result (λ places. (scope : Scope) → IsScope (names_of variables.now) scope
-        → ReadsItems scope (map item_tree items.now) places.items) }
+    words: &PathVariables<'q>,
+) -> Result<Items<'q>, NoMemory>
+    ensures { IfOk result (λ items. (scope : Scope) (known : List (List ℕ × ThePlace))
+        → IsScope (names_of variables.now) scope → FindAlike (places_found words.now) known
+        → ReadsItems scope known (map item_tree list.now) items) }
 {
-    let mut places = Vec::with_capacity(alloc, items.len())?;
-    'items: for item in items {
-        push_item(&mut places, variables, item)?;
+    let mut items = Items::new(alloc);
+    'items: for item in list {
+        items.add(variables, words, item)?;
     }
-    Ok(places)
+    Ok(items)
 }
 
-// Adds the path of an item, if it is one.
-fn push_item<'q>(
-    places: &mut Vec<Place<'q>>,
-    variables: &Variables<'q>,
-    item: &'q Item,
-) -> Result<(), NoMemory>
-    ensures { OnOk result ((scope : Scope) → IsScope (names_of variables.now) scope
-        → place_trees places.new.items
-        ≡ place_trees places.old.items ++ item_places scope (item_tree item.now)) }
-{
-    match item {
-        Item::Object(path) => {
-            places.push(variables.place(&[], path))?;
-            Ok(())
+impl<'q> Items<'q> {
+    // No item. Takes no memory.
+    fn new(alloc: Global) -> Items<'q>
+        ensures { (scope : Scope) (known : List (List ℕ × ThePlace))
+            → ReadsItems scope known [] result }
+    {
+        Items {
+            cells: Vec::new(alloc),
+            shown: Vec::new(alloc),
+            unknown: false,
         }
-        Item::PathOf(_) => Ok(()),
+    }
+
+    // Adds an item.
+    fn add(
+        &mut self,
+        variables: &Variables<'q>,
+        words: &PathVariables<'q>,
+        item: &'q Item,
+    ) -> Result<(), NoMemory>
+        ensures { OnOk result ((scope : Scope) (known : List (List ℕ × ThePlace))
+            (earlier : List ItemTree) → IsScope (names_of variables.now) scope
+            → FindAlike (places_found words.now) known → ReadsItems scope known earlier self.old
+            → ReadsItems scope known (earlier ++ item_tree item.now ∷ []) self.new) }
+    {
+        match item {
+            Item::Object(path) => {
+                let place = variables.place(&[], path);
+                self.cells.push(place)?;
+                self.shown.push(Shown::Object(place))?;
+                Ok(())
+            }
+            Item::PathOf(variable) => match words.place(variable) {
+                Some(place) => {
+                    self.shown.push(Shown::Word(place))?;
+                    Ok(())
+                }
+                None => {
+                    self.unknown = true;
+                    Ok(())
+                }
+            },
+        }
     }
 }
 

@@ -12,7 +12,7 @@ use std::alloc::Global;
 pub enum Item {
     /// The object that the path reaches.
     Object(Rooted),
-    /// `path-of(name)`: the labels of the walk that the path variable is bound to.
+    /// `path-of(name)`: the least word by which the range of this path variable is reached.
     PathOf(OemText),
 }
 
@@ -23,7 +23,7 @@ pub type ItemList = Listing<Item>;
 #[derive(Drop)]
 pub struct FromItem {
     pub path: Rooted,
-    /// The path variable: it is bound to the labels of the walk.
+    /// The path variable: it is bound to the least word of the path between both objects.
     pub word: Option<OemText>,
     /// The object variable: it is bound to the object that the walk reaches.
     pub variable: Option<OemText>,

@@ -5,3 +5,5 @@ pub mod CompiledLaws
 pub mod StepLaws
 pub mod ReverseLaws
 pub mod PathLaws
+pub mod ReadsOnLaws
+pub mod MoverLaws

@@ -1,5 +1,6 @@
 -- Machines over labels: one reads a word label by label and accepts it where it comes to its end.
 use Rattle.std.specs.Prelude.{◌≡◌, ◌↔◌, ℕ, ◌≤◌, List, [], ◌∷◌, length, reverse, All, Some, slice_get}
+use Rattle.std.specs.Prelude.{◌==◌, Bool, not, bit_and}
 use Rattle.std.specs.Int.{bit_at}
 use Rattle.lore_base.specs.Paths.{PathTree, Fits, Spells}
 use Rattle.path_expr.specs.Types.{Label, States, END, Leaf, One, AnyLabel}
@@ -7,6 +8,10 @@ use Rattle.path_expr.specs.Types.{Label, States, END, Leaf, One, AnyLabel}
 -- the state is in the set
 abbrev pub IsIn : States → ℕ → Type 0
 IsIn states state = bit_at states.0 state ≡ 1
+
+-- some state of the set comes before the end: one of the 64 lowest bits is set
+abbrev pub reads_on : States → Bool
+reads_on states = not (bit_and states.0 18_446_744_073_709_551_615 == 0)
 
 -- a machine: in state i it is about to read its leaf i and then goes on to one of the states that follow it, the
 -- end among them; it begins in one of its starts
@@ -63,6 +68,11 @@ StepsTo labels machine states label next =
 abbrev pub IsStep : List (List ℕ) → Machine → States → Label → States → Type 0
 IsStep labels machine states label after =
     (state : ℕ) → IsIn after state ↔ StepsTo labels machine states label state
+
+-- a machine that moves, over a table of labels
+pub record Moving : Type 0 where
+  pub labels : List (List ℕ)
+  pub machine : Machine
 
 -- a set of states is left of another after a word, one step for each label
 abbrev pub StepsThrough : List (List ℕ) → Machine → States → List Label → States → Type 0

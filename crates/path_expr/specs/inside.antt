@@ -1,3 +1,4 @@
 -- Definitions that no public contract cites.
 pub mod Compiled
 pub mod Reverses
+pub mod Movers

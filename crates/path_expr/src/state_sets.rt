@@ -1,5 +1,5 @@
 ghost use Rattle.std.specs.Prelude.{◌≡◌, ◌↔◌, ◌⊎◌, ℕ, ◌<◌, ◌≤◌, IsTrue, IfSome, IfNone};
-ghost use Rattle.path_expr.specs.Machines.{IsIn};
+ghost use Rattle.path_expr.specs.Machines.{IsIn, reads_on};
 
 /// The state at the end of each automaton. The states before its leaves are numbered from 0 on.
 pub const END: u8 = 64;
@@ -36,6 +36,14 @@ impl States {
         ensures { IsTrue result ↔ ((state : ℕ) → IsIn self state → ⊥) }
     {
         self.0 == 0
+    }
+
+    /// Whether some state of the set comes before the end, so that a label may be read there.
+    pub fn reads_on(self) -> bool
+        ensures { result ≡ reads_on self }
+    {
+        // END is 64, so the states before it are the 64 lowest bits.
+        self.0 & 0xffff_ffff_ffff_ffff != 0
     }
 
     /// The states of either set.

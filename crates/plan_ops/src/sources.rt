@@ -2,7 +2,7 @@ ghost use Rattle.plan_ops.specs.Steps.{steps_over};
 
 use crate::offers::{Offer, Offers};
 use crate::ready_steps::ReadyStep;
-use crate::step_objects::{candidates, is_among, leading_to, leading_to_some, object_at, reached};
+use crate::step_objects::{candidates, is_among, leading_to, leading_to_some, reached};
 use index_traits::{Adjacent, Links, Paths, Row, RowTest, Values};
 use lore_base::{NoMemory, Steps, TryCopy};
 use oem_labels::LabelTable;
@@ -35,7 +35,7 @@ impl<'a, A: Adjacent, K: Links, V: Values, P: Paths, T: RowTest> Offers
     ) -> Result<Offer, NoMemory> {
         match step {
             ReadyStep::Forward { start, route, slot } => {
-                let from = object_at(*start, row);
+                let from = start.object(row);
                 let oids = reached(alloc, self.graph, self.labels, route, from, steps)?;
                 Ok(Offer::Fill { slot: *slot, oids })
             }

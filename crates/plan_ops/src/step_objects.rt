@@ -3,29 +3,15 @@ ghost use Rattle.std.specs.Prelude.{IsTrue, IfOk, OnOk};
 ghost use Rattle.index_traits.specs.Entries.{IsProbed};
 ghost use Rattle.lore_base.specs.Paths.{path_tree, leaves, Reaches};
 ghost use Rattle.lore_base.specs.TargetSets.{ListsInOrder};
-ghost use Rattle.lorel_bind.specs.Bindings.{IsWithin};
 ghost use Rattle.lorel_bind.specs.Plans.{IsCandidate};
-ghost use Rattle.lorel_bind.specs.SlotRows.{StartsAt};
 ghost use Rattle.product_walk.specs.ProductWalks.{ReachesInto};
-ghost use Rattle.plan_ops.specs.Types.{Complex, LEAVES, RANGES};
+ghost use Rattle.plan_ops.specs.Types.{Complex, LEAVES};
 
-use index_traits::{Adjacent, Links, Paths, Row, Values};
+use index_traits::{Adjacent, Links, Paths, Values};
 use lore_base::{Label, LabelTest, NoMemory, Oid, OidBuf, Op, Path, Steps, Value};
-use lorel_bind::Start;
 use product_walk::{Route, WayBack};
 use std::alloc::Global;
 use std::sync::ledger::Ledger;
-
-/// The object of a start, of a name or in a slot.
-pub(crate) fn object_at(start: Start, row: &Row) -> Oid
-    requires { IsWithin RANGES start }
-    ensures { StartsAt row.now start result }
-{
-    match start {
-        Start::Named(oid) => oid,
-        Start::Slot(slot) => row.get(slot),
-    }
-}
 
 /// The objects that the path reaches from the object, ascending, each once.
 pub(crate) fn reached<A: Adjacent, T: LabelTest, L: Ledger>(

@@ -1,6 +1,4 @@
 pub mod ArcLaws
-pub mod MoverLaws
-pub mod StateLaws
 pub mod ProductLaws
 pub mod PathLaws
 pub mod LevelLaws

@@ -13,8 +13,8 @@ use Rattle.product_walk.proofs.ProductLaws.{turned_accepts}
 pub accepted_reaches : (labels : List (List ℕ)) (edges : List Edge) (machine : Machine) (path : PathTree) → StandsFor machine path
     → (x y : Oid) → IsAcceptedFrom labels edges machine x y ↔ Reaches labels edges path x y
 accepted_reaches labels edges machine path stands x y = (
-  λ h. (h.0, (stands labels h.0).0 h.1, h.2),
-  λ h. (h.0, (stands labels h.0).1 h.1, h.2),
+  λ h. (h.0, (stands labels h.0).0 (h.1).0, (h.1).1),
+  λ h. (h.0, ((stands labels h.0).1 h.1, h.2)),
 )
 
 -- and what it reads backwards, turned, is what the path spells

@@ -19,13 +19,13 @@ use Rattle.lore_base.proofs.MemberLaws.{Contains-none, Contains-head, Contains-c
 use Rattle.graph_search.specs.Closures.{IsMet, LeadAlong, IsLedTo, LeadsOn, IsClosure, Lists}
 use Rattle.graph_search.proofs.MeetingLaws.{IsMet-none, IsMet-one, IsMet-append_left, IsMet-append_right, IsMet-append_cases}
 use Rattle.graph_search.proofs.PriceLaws.{IsPriced, sum_by-places}
-use Rattle.path_expr.specs.Machines.{Machine, IsIn, IsBounded, Moves, Runs, Accepts, ReadsBackwards, StepsTo, IsStep}
+use Rattle.path_expr.specs.Machines.{Machine, IsIn, IsBounded, Moves, Runs, Accepts, ReadsBackwards, StepsTo, IsStep, reads_on}
+use Rattle.path_expr.proofs.ReadsOnLaws.{reads_on-false, reads_on-true}
 use Rattle.product_walk.specs.Types.{Oid, Label, Edge, States, StateMarks, END}
-use Rattle.product_walk.specs.ProductWalks.{IsWalked, WalksInto, IsAcceptedFrom, TakesReads}
+use Rattle.product_walk.specs.ProductWalks.{IsWalked, WalksInto, IsAcceptedFrom, IsAcceptedInto, TakesReads}
 use Rattle.product_walk.specs.inside.Arcs.{along, against, WalkBy, AreArcs}
 use Rattle.product_walk.specs.inside.Products.{Leads, CanBe, IsNext, ReadsTurned, ReadsInto}
-use Rattle.product_walk.specs.inside.StateSets.{HasState, marks, reads_on}
-use Rattle.product_walk.proofs.StateLaws.{reads_on-false, reads_on-true}
+use Rattle.product_walk.specs.inside.StateSets.{HasState, marks}
 
 -- far ends that are listed edge by edge
 module _ (labels : List (List ℕ)) (machine : Machine) (far : Edge → Oid) (states : States) where
@@ -208,8 +208,8 @@ module _ (edges : List Edge) where
     pub ends_along : (oid : Oid) → CanBe labels machine (along edges) (λ there. Contains (from ∷ []) there.0 × IsIn machine.start there.1) (oid, END)
         ↔ IsAcceptedFrom labels edges machine from oid
     ends_along oid = (
-      λ can. (can.1, ((can.0).1, can.2.1, can.3), subst (λ o. Walk edges o can.1 oid) (only (can.0).0 can.2.0) (Walk-along can.1 (can.0).0 oid can.4)),
-      λ accepted. ((from, accepted.1.0), accepted.0, (Contains-head from [], accepted.1.1), accepted.1.2, along-Walk accepted.0 from oid accepted.2),
+      λ can. (can.1, (((can.0).1, can.2.1, can.3), subst (λ o. Walk edges o can.1 oid) (only (can.0).0 can.2.0) (Walk-along can.1 (can.0).0 oid can.4))),
+      λ accepted. ((from, ((accepted.1).0).0), accepted.0, (Contains-head from [], ((accepted.1).0).1), ((accepted.1).0).2, along-Walk accepted.0 from oid (accepted.1).1),
     )
       where
         only : (start : Oid) → Contains (from ∷ []) start → start ≡ from
@@ -251,6 +251,14 @@ pub turned_accepts : (labels : List (List ℕ)) (machine turned : Machine) → R
 turned_accepts labels machine turned turns word = (
   λ h. subst (Accepts labels machine) (reverse-reverse word) ((turns labels (reverse word)).0 h),
   λ h. (turns labels (reverse word)).1 (subst (Accepts labels machine) (sym (reverse-reverse word)) h),
+)
+
+-- what a turned machine reads backwards into some objects, the machine accepts
+pub accepted_into : (edges : List Edge) (labels : List (List ℕ)) (machine turned : Machine) (to : List Oid) → ReadsBackwards machine turned
+    → (oid : Oid) → ReadsInto edges (ReadsTurned labels turned) to oid ↔ IsAcceptedInto labels edges machine to oid
+accepted_into edges labels machine turned to turns oid = (
+  λ h. (h.0, h.1, (h.2.0, ((turned_accepts labels machine turned turns h.2.0).0 h.2.1, h.2.2))),
+  λ h. (h.0, h.1, (h.2.0, (turned_accepts labels machine turned turns h.2.0).1 (h.2.1).0, (h.2.1).1)),
 )
 
 -- a search reads at most once for each object and state

@@ -13,9 +13,13 @@ IsWalked edges x y = (word : List Label) × Walk edges x word y
 abbrev pub WalksInto : List Edge → List Oid → Oid → Type 0
 WalksInto edges to x = (y : Oid) × Contains to y × IsWalked edges x y
 
--- a word that the machine accepts is walked from one object to another
+-- the machine accepts the word, which is walked from one object to another
+abbrev pub IsAcceptedWalk : List (List ℕ) → List Edge → Machine → Oid → Oid → List Label → Type 0
+IsAcceptedWalk labels edges machine x y word = Accepts labels machine word × Walk edges x word y
+
+-- some word is so
 abbrev pub IsAcceptedFrom : List (List ℕ) → List Edge → Machine → Oid → Oid → Type 0
-IsAcceptedFrom labels edges machine x y = (word : List Label) × Accepts labels machine word × Walk edges x word y
+IsAcceptedFrom labels edges machine x y = (word : List Label) × IsAcceptedWalk labels edges machine x y word
 
 -- a word that the machine accepts is walked from the object to a member of the list
 abbrev pub IsAcceptedInto : List (List ℕ) → List Edge → Machine → List Oid → Oid → Type 0

@@ -2,5 +2,4 @@
 pub mod Arcs
 pub mod StateSets
 pub mod Products
-pub mod Movers
 pub mod Ways

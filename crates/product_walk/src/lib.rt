@@ -15,7 +15,6 @@ pub use ways_back::WayBack;
 mod direction;
 mod label_paths;
 mod label_step;
-mod mover;
 mod naive_paths;
 mod product;
 mod routes;

@@ -3,14 +3,13 @@ ghost use Rattle.lore_base.specs.Databases.{AreAscendingEdges};
 ghost use Rattle.lore_base.specs.Paths.{Reaches};
 
 use crate::direction::Listed;
-use crate::mover::Mover;
 use crate::product::Product;
 use crate::searches::append_ended;
 use crate::state_marks::StateMarks;
 use graph_search::search;
 use index_traits::Paths;
 use lore_base::{EdgeBuf, LabelTest, NoMemory, Oid, OidBuf, Path};
-use path_expr::Automaton;
+use path_expr::{Automaton, Mover};
 use std::alloc::Global;
 use std::marker::Model;
 

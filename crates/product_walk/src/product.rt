@@ -1,17 +1,16 @@
 ghost use Rattle.std.specs.Prelude.{◌≡◌, ◌↔◌, ◌==◌, not, cond, ℕ, ◌+◌, true, List, IsTrue, OnOk};
 ghost use Rattle.graph_search.specs.Closures.{LeadsOn, Lists};
-ghost use Rattle.path_expr.specs.Machines.{IsIn};
+ghost use Rattle.path_expr.specs.Machines.{IsIn, reads_on};
 ghost use Rattle.product_walk.specs.Types.{Oid as TheOid};
 ghost use Rattle.product_walk.specs.inside.Products.{Product as TheProduct, product_of, Leads, IsNext};
 ghost use Rattle.product_walk.specs.inside.Arcs.{along};
-ghost use Rattle.product_walk.specs.inside.StateSets.{HasState, reads_on, same_oid};
+ghost use Rattle.product_walk.specs.inside.StateSets.{HasState, same_oid};
 
 use crate::direction::{Arcs, Direction, Listed};
-use crate::mover::Mover;
 use crate::state_marks::StateMarks;
 use graph_search::{Counter, Space};
 use lore_base::{Edge, EdgeBuf, LabelTest, NoMemory, Oid, Steps};
-use path_expr::States;
+use path_expr::{Mover, States};
 use std::alloc::Global;
 use std::sync::ledger::Ledger;
 

@@ -10,13 +10,12 @@ ghost use Rattle.product_walk.specs.inside.Products.{ReadsInto, ReadsTurned};
 ghost use Rattle.product_walk.specs.inside.StateSets.{HasState, marks};
 
 use crate::direction::{Against, Along, Direction};
-use crate::mover::Mover;
 use crate::product::Product;
 use crate::state_marks::StateMarks;
 use graph_search::search;
 use index_traits::{Adjacent, Links};
 use lore_base::{EdgeBuf, LabelTest, NoMemory, Oid, OidBuf, Steps};
-use path_expr::{Automaton, END, States};
+use path_expr::{Automaton, END, Mover, States};
 use std::alloc::Global;
 use std::sync::ledger::Ledger;
 

@@ -1,6 +1,6 @@
 use crate::people::row;
 use lore_base::{NoMemory, OemText, Oid, Path, PathList, Pattern, TryCopy};
-use lorel_bind::{Bound, CellList, Range, RangeList, Start};
+use lorel_bind::{Bound, CellList, CellOf, Range, RangeList, Start};
 use std::alloc::Global;
 use std::test::Fail;
 
@@ -12,10 +12,11 @@ fn step(alloc: Global) -> Result<Path, NoMemory> {
     Ok(Path::Seq(parts))
 }
 
-// A select of one range, whose objects it shows.
+// A select of one range, whose objects it shows, and the words that lead to them.
 fn bound(alloc: Global) -> Result<Bound, NoMemory> {
     let mut cells = CellList::new(alloc);
-    cells.push(Start::Slot(0))?;
+    cells.push(CellOf::Object(Start::Slot(0)))?;
+    cells.push(CellOf::PathOf(0))?;
     let mut ranges = RangeList::new(alloc);
     ranges.push(Range {
         start: Start::Named(Oid(1)),
@@ -36,8 +37,12 @@ fn copy_of(alloc: Global) -> Result<Bound, NoMemory> {
 fn a_bound_select_is_copied(rt: HostRuntime) -> Result<(), Fail> {
     let copy = copy_of(rt.alloc())?;
     assert_eq!(rt; copy.ranges.len(), 1);
-    assert_eq!(rt; copy.cells.len(), 1);
-    assert_eq!(rt; copy.cells.get(0).copied(), Some(Start::Slot(0)));
+    assert_eq!(rt; copy.cells.len(), 2);
+    assert_eq!(rt;
+        copy.cells.get(0).copied(),
+        Some(CellOf::Object(Start::Slot(0)))
+    );
+    assert_eq!(rt; copy.cells.get(1).copied(), Some(CellOf::PathOf(0)));
     assert!(rt; copy.cond.is_none());
     let Some(range) = copy.ranges.get(0) else {
         return Err(Fail::new("the copy has no range"));

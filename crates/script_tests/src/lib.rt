@@ -4,7 +4,7 @@
 #![tactic(auto)]
 
 #[cfg(test)]
-mod answers;
+mod answer_rows;
 #[cfg(test)]
 mod faults;
 #[cfg(test)]

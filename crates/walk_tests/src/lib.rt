@@ -6,3 +6,5 @@
 mod shapes;
 #[cfg(test)]
 mod walks;
+#[cfg(test)]
+mod words;

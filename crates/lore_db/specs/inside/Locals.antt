@@ -7,9 +7,9 @@ use Rattle.lore_base.specs.Verdicts.{IsClear, IsToldBy}
 use Rattle.lorel_trees.specs.Trees.{StatementTree}
 use Rattle.lorel_bind.specs.Bound.{BoundTree}
 use Rattle.lorel_bind.specs.SlotRows.{IsSlotRow}
+use Rattle.answers.specs.Asked.{AreTooMany}
 use Rattle.oem_text.specs.Parts.{LocalCause, local_order}
 use Rattle.lore_db.specs.Built.{makes}
-use Rattle.lore_db.specs.inside.Finding.{AreTooMany}
 
 -- no local of the literal is wrong
 abbrev pub HasSoundLocals : StatementTree → Type 0

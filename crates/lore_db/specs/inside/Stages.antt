@@ -1,19 +1,18 @@
 -- The order of refusals in stages: those of what a statement reads, of its rows, and of its changes.
-use Rattle.std.specs.Prelude.{◌≡◌, ◌≢◌, ℕ, true, List, [], ◌∷◌, ◌++◌, length, Some}
-use Rattle.lore_db.specs.Types.{Oid, Changes, Refusal}
+use Rattle.std.specs.Prelude.{◌≡◌, ◌≢◌, ℕ, List, [], ◌∷◌, ◌++◌, length, Some}
+use Rattle.lore_db.specs.Types.{Oid, Cell, Changes, Refusal}
+use Rattle.lore_db.specs.Types.cells
 use Rattle.lore_db.specs.Types.refusals
 use Rattle.lore_base.specs.Databases.{Database}
 use Rattle.lorel_trees.specs.Trees.{SelectTree}
 use Rattle.lorel_bind.specs.Refusals as binding
 use Rattle.oem_text.specs.declared.parts.Part.{Part}
 use Rattle.lore_db.specs.declared.stops.Stop.{Stop}
-use Rattle.lore_db.specs.Built.{has_path_variable}
 use Rattle.lore_db.specs.Statements.{HasTooManyRows}
 use Rattle.lore_db.specs.inside.Stops.{told}
 
 -- the cause of each refusal of a select
 abbrev pub ReadCause : Database → SelectTree → Refusal → Type 0
-ReadCause db query refusals.Syntax = has_path_variable query ≡ true
 ReadCause db query refusals.TooManyRows = HasTooManyRows db query
 ReadCause db query refusal = binding.Cause db.graph.names query refusal
 
@@ -53,10 +52,14 @@ loading_part name part = record {
   labels = part.labels;
 }
 
--- there is one row, and it has this object
-abbrev pub IsOnly : List (List Oid) → Oid → Type 0
-IsOnly rows oid = rows ≡ (oid ∷ []) ∷ []
+-- the row shows one object
+abbrev pub IsOneObject : List Cell → Type 0
+IsOneObject row = (oid : Oid) × (row ≡ cells.Object oid ∷ [])
+
+-- there is one row, and it shows this object
+abbrev pub IsOnly : List (List Cell) → Oid → Type 0
+IsOnly rows oid = rows ≡ (cells.Object oid ∷ []) ∷ []
 
 -- there is no row, or there are several
-abbrev pub IsNotOnly : List (List Oid) → Stop → Type 0
+abbrev pub IsNotOnly : List (List Cell) → Stop → Type 0
 IsNotOnly rows stop = (told stop ≡ Some refusals.NotOne) × (length rows ≢ 1)

@@ -41,7 +41,7 @@ pub record Replied (before : Standing) (part : ScriptPart) (after : Standing) : 
   pub yielded : Yields before.database part reply after.database
   pub done : after.tally.done ≡ before.tally.done + 1
   pub refused : after.tally.refused ≡ before.tally.refused + refusals reply
-  pub printed : Appends before.written after.written (rendered after.database.graph.objects reply)
+  pub printed : Appends before.written after.written (rendered after.database.labels after.database.graph.objects reply)
 
 -- a part was executed and counted, and the sink failed in its reply
 pub record RepliedInPart (before : Standing) (part : ScriptPart) (after : Standing) : Type 0 where
@@ -49,7 +49,7 @@ pub record RepliedInPart (before : Standing) (part : ScriptPart) (after : Standi
   pub yielded : Yields before.database part reply after.database
   pub done : after.tally.done ≡ before.tally.done + 1
   pub refused : after.tally.refused ≡ before.tally.refused + refusals reply
-  pub printed : AppendsProperFront before.written after.written (rendered after.database.graph.objects reply)
+  pub printed : AppendsProperFront before.written after.written (rendered after.database.labels after.database.graph.objects reply)
 
 -- nothing was executed, counted or written
 pub record Unmoved (before after : Standing) : Type 0 where

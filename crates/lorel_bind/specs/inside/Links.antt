@@ -2,7 +2,7 @@
 use Rattle.std.specs.Prelude.{◌≡◌, ◌≢◌, ◌↔◌, ℕ, ◌+◌, ◌<◌, ◌⊎◌, suc, List, [], ◌∷◌, ◌++◌, take, drop, Some, true, false, All, Contains, slice_get}
 use Rattle.lore_base.specs.Paths.{PathTree}
 use Rattle.lorel_trees.specs.Trees.{FromTree}
-use Rattle.lorel_bind.specs.Places.{ranged, Place, at_root}
+use Rattle.lorel_bind.specs.Places.{ranged, Place, at_root, CellPlace, word}
 use Rattle.lorel_bind.specs.Ranges.{Range, from_item_ranges, places, IsFixed}
 use Rattle.lorel_bind.specs.inside.Fusing.{start_count}
 use Rattle.lorel_bind.specs.inside.Scopes.{linked}
@@ -110,6 +110,15 @@ pub record ArePushed (old new : Links) (start : Place) (parts : List PathTree) (
 -- a link with this place is marked as used
 abbrev pub IsMarked : List Link → Place → Type 0
 IsMarked links place = (link : Link) × Contains links link × (place_tree link.place ≡ place) × (link.used ≡ true)
+
+-- a range has the place of a word, and the other place is its own or that which it starts at
+abbrev pub IsNeededAt : List Range → Place → Place → Type 0
+IsNeededAt ranges shown place =
+    (range : Range) × Contains ranges range × (range.place ≡ shown) × ((range.place ≡ place) ⊎ (range.start ≡ place))
+
+-- so for one of the words that cells show
+abbrev pub IsNeededOf : List Range → List CellPlace → Place → Type 0
+IsNeededOf ranges cells place = (shown : Place) × Contains cells (word shown) × IsNeededAt ranges shown place
 
 -- one of the paths is fixed at the place
 abbrev pub IsFixedOf : List Range → List Place → Place → Type 0

@@ -1,8 +1,8 @@
--- Scopes as the program keeps them: the variables of from items, and those of quantifiers around.
+-- Scopes as the program keeps them: the variables of from items, and those of quantifiers around. Path variables.
 use Rattle.std.specs.Prelude.{◌≡◌, ◌↔◌, ℕ, suc, Bool, true, false, List, [], ◌∷◌, ◌++◌, map, Option, Some, None, All, Contains, MatchOption}
 use Rattle.std.specs.Str.{bytes_eq}
 use Rattle.std.specs.Map.{lookup}
-use Rattle.lorel_bind.specs.Places.{ranged, quantified, Scope}
+use Rattle.lorel_bind.specs.Places.{ranged, quantified, Place, Scope, word_place}
 
 -- a scope with the variables of quantifiers around, the outermost first, so many further ones enclosing them
 abbrev pub enclosed : ℕ → List (List ℕ) → Scope → Scope
@@ -37,3 +37,7 @@ abbrev pub IsAdded : Option (List ℕ) → ℕ → List (List ℕ × ℕ) → Li
 IsAdded None number old new = new ≡ old
 IsAdded (Some variable) number old new =
     MatchOption (linked old variable) (new ≡ old ++ (variable, number) ∷ []) (λ earlier. new ≡ old)
+
+-- in two lists of path variables each one is found to have the same place
+abbrev pub FindAlike : List (List ℕ × Place) → List (List ℕ × Place) → Type 0
+FindAlike old new = (variable : List ℕ) → word_place old variable ≡ word_place new variable

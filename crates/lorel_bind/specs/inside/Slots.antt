@@ -1,11 +1,11 @@
 -- What the program finds of slots: starts, ranges and paths that are right wherever some start stands for the place.
-use Rattle.std.specs.Prelude.{ℕ, List}
+use Rattle.std.specs.Prelude.{ℕ, List, Contains}
 use Rattle.lore_base.specs.Paths.{PathTree}
-use Rattle.lorel_bind.specs.Types.{Oid, Start, BoundStart}
-use Rattle.lorel_bind.specs.Places.{Place}
-use Rattle.lorel_bind.specs.Ranges.{Range, IsFixed}
+use Rattle.lorel_bind.specs.Types.{Oid, Start, BoundStart, CellOf}
+use Rattle.lorel_bind.specs.Places.{Place, CellPlace, object, word}
+use Rattle.lorel_bind.specs.Ranges.{Range, IsFixed, places}
 use Rattle.lorel_bind.specs.Bound.{RangeTree, BoundPathTree}
-use Rattle.lorel_bind.specs.Bindings.{StandsFor, StandsForAny, IsBoundRange, IsBoundPath}
+use Rattle.lorel_bind.specs.Bindings.{StandsFor, StandsForAny, IsBoundRange, IsBoundCell, IsBoundPath}
 
 -- over these names and fused ranges
 module _ (names : List (List ℕ × Oid)) (fused : List Range) where
@@ -28,6 +28,15 @@ module _ (names : List (List ℕ × Oid)) (fused : List Range) where
   -- where some start stands for that of the range, it is bound
   abbrev pub BindsRange : Range → RangeTree → Type 0
   BindsRange range bound = CanStart range.start → IsBoundRange names fused range bound
+
+  -- some start stands for what the cell shows, or a range has the place of its word
+  abbrev pub CanShow : CellPlace → Type 0
+  CanShow (object place) = CanStart place
+  CanShow (word place) = Contains (places fused) place
+
+  -- where that is so, the cell is bound
+  abbrev pub BindsCell : CellPlace → CellOf → Type 0
+  BindsCell cell bound = CanShow cell → IsBoundCell names fused cell bound
 
   -- some start stands for what the path is fixed at
   abbrev pub CanBind : List Range → Place → Type 0

@@ -1,18 +1,18 @@
 -- The text of a select as the program reads it: its places and the identifiers that it ranges.
 use Rattle.std.specs.Prelude.{◌≡◌, ◌≢◌, ◌↔◌, ℕ, ◌≤◌, List, [], ◌++◌, length, None, AllPairs, Contains, IsTrue}
 use Rattle.std.specs.List.{flat_map}
-use Rattle.lorel_trees.specs.Trees.{FromTree, ItemTree, SelectTree}
+use Rattle.lorel_trees.specs.Trees.{FromTree, ItemTree, path_of, SelectTree}
 use Rattle.lorel_bind.specs.Types.{Oid, ITEMS, LEAVES}
 use Rattle.lore_base.specs.Names.{object_of}
 use Rattle.lorel_bind.specs.Places as p
-use Rattle.lorel_bind.specs.Places.{Scope, scope_of, item_places, cell_places}
+use Rattle.lorel_bind.specs.Places.{Scope, scope_of, item_places, path_variables, word_place, item_cells}
 use Rattle.lorel_bind.specs.Conditions.{cond_places}
 use Rattle.lorel_bind.specs.Refusals.{from_places, from_variables, cond_variables, text_places, leaves_in}
 use Rattle.lorel_bind.specs.Refusals.{HasUnknownName, HasUnknownVariable, HasDuplicate}
 use Rattle.lorel_bind.specs.inside.Scopes.{IsScope, names_of}
-use Rattle.lorel_bind.specs.inside.Views.{place_trees, texts}
-use Rattle.lorel_bind.specs.declared.places.Place.{Place}
+use Rattle.lorel_bind.specs.inside.Views.{place_trees, shown_trees, texts}
 use Rattle.lorel_bind.specs.declared.text.Text.{Text}
+use Rattle.lorel_bind.specs.declared.text.Items.{Items}
 use Rattle.lorel_bind.specs.declared.text.Found.{Found}
 use Rattle.lorel_bind.specs.declared.causes.Ranged.{Ranged}
 use Rattle.lorel_bind.specs.declared.causes.Unknown.{Unknown}
@@ -23,21 +23,28 @@ pub record ReadsFrom (items : List FromTree) (found : Found) (variables : List (
   pub ranged : texts found.ranged.items ≡ from_variables items
   pub scope : IsScope (names_of variables) (scope_of [] items)
 
--- items are read
-abbrev pub ReadsItems : Scope → List ItemTree → List Place → Type 0
-ReadsItems scope items places = place_trees places ≡ flat_map (item_places scope) items
+-- an item names a path variable that isn't known
+abbrev pub NamesUnknown : List (List ℕ × p.Place) → List ItemTree → Type 0
+NamesUnknown known items = (variable : List ℕ) × Contains items (path_of variable) × (word_place known variable ≡ None)
+
+-- items are read, where these path variables are known: their paths, and what they show
+pub record ReadsItems (scope : Scope) (known : List (List ℕ × p.Place)) (items : List ItemTree) (read : Items) : Type 0 where
+  pub cells : place_trees read.cells.items ≡ flat_map (item_places scope) items
+  pub shown : shown_trees read.shown.items ≡ flat_map (item_cells scope known) items
+  pub unknown : IsTrue read.unknown ↔ NamesUnknown known items
 
 -- the text of a select
 pub record IsTextOf (query : SelectTree) (text : Text) : Type 0 where
   pub from : ReadsFrom query.tail.ranges text.from text.variables
-  pub cells : place_trees text.cells.items ≡ cell_places query
+  pub items : ReadsItems (scope_of [] query.tail.ranges) (path_variables query.tail.ranges) query.items text.items
+  pub count : text.item_count ≡ length query.items
   pub conditions : place_trees text.condition.places.items ≡ cond_places query
   pub ranged : texts text.condition.ranged.items ≡ cond_variables query.tail.cond
 
 -- each path of the text, in text order
 abbrev pub places_of : Text → List p.Place
 places_of text = place_trees text.from.places.items
-    ++ (place_trees text.cells.items ++ place_trees text.condition.places.items)
+    ++ (place_trees text.items.cells.items ++ place_trees text.condition.places.items)
 
 -- each identifier that is ranged
 abbrev pub ranged_of : Text → List (List ℕ)

@@ -7,6 +7,9 @@ use Rattle.lorel_bind.specs.Ranges as r
 use Rattle.lorel_bind.specs.declared.places.Root.{Root}
 use Rattle.lorel_bind.specs.declared.places.Root.TheVariants.{Named, Ranged, Quantified}
 use Rattle.lorel_bind.specs.declared.places.Place.{Place}
+use Rattle.lorel_bind.specs.declared.path_variables.PathVariables.{PathVariables}
+use Rattle.lorel_bind.specs.declared.text.Shown.{Shown}
+use Rattle.lorel_bind.specs.declared.text.Shown.TheVariants.{Object, Word}
 use Rattle.lorel_bind.specs.declared.links.Link.{Link}
 
 abbrev pub root_tree : Root → p.Root
@@ -23,6 +26,18 @@ prefix_of len place = record { root = place.root; parts = take len place.parts }
 
 abbrev pub place_trees : List Place → List p.Place
 place_trees places = map place_tree places
+
+-- what an item shows
+abbrev pub shown_tree : Shown → p.CellPlace
+shown_tree (Object place) = p.object (place_tree place)
+shown_tree (Word place) = p.word (place_tree place)
+
+abbrev pub shown_trees : List Shown → List p.CellPlace
+shown_trees shown = map shown_tree shown
+
+-- path variables, each with the place of its range
+abbrev pub places_found : PathVariables → List (List ℕ × p.Place)
+places_found variables = map (λ entry. (entry.0.now, place_tree entry.1)) variables.places.entries
 
 abbrev pub texts : List (Bor (List ℕ)) → List (List ℕ)
 texts list = map (λ text. text.now) list

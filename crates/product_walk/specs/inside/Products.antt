@@ -1,10 +1,9 @@
 -- The product of a graph with a machine: objects under the states that the machine is in there.
 use Rattle.std.specs.Prelude.{◌≡◌, ℕ, List, reverse, Contains}
 use Rattle.lore_base.specs.Walks.{Walk}
-use Rattle.path_expr.specs.Machines.{Machine, Accepts, Moves, Runs, StepsTo}
+use Rattle.path_expr.specs.Machines.{Machine, Moving, Accepts, Moves, Runs, StepsTo}
 use Rattle.product_walk.specs.Types.{Oid, Label, Edge, States}
 use Rattle.product_walk.specs.inside.Arcs.{WalkBy}
-use Rattle.product_walk.specs.inside.Movers.{Moving}
 
 -- label texts, a machine and edges
 pub record Product : Type 0 where

@@ -1,5 +1,5 @@
 -- States of an automaton as the marks of an object.
-use Rattle.std.specs.Prelude.{◌≡◌, ◌==◌, ℕ, zero, suc, ◌<◌, ◌⊎◌, Bool, true, not, bit_and, refl}
+use Rattle.std.specs.Prelude.{◌≡◌, ◌==◌, ℕ, zero, suc, ◌<◌, ◌⊎◌, true, refl}
 use Rattle.std.specs.Int.{bit_at}
 use Rattle.std.proofs.Common.{inl, inr, arith}
 use Rattle.std.proofs.lemmas.Bool.{eqb-true}
@@ -13,10 +13,6 @@ HasState set state = IsIn set.0 state
 
 abbrev pub marks : States → StateMarks
 marks states = record { 0 = states }
-
--- some of the states come before the end
-abbrev pub reads_on : States → Bool
-reads_on states = not (bit_and states.0 18_446_744_073_709_551_615 == 0)
 
 -- a state is in a set, or it isn't
 pub told_in : (states : States) (state : ℕ) → IsIn states state ⊎ (IsIn states state → ⊥)

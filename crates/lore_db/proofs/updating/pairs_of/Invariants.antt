@@ -1,6 +1,7 @@
-use Rattle.std.proofs.Common.{◌≡◌, map, take}
-use Rattle.lore_db.specs.Statements.{pair_of}
+use Rattle.std.proofs.Common.{◌≡◌, List, map, take}
+use Rattle.lore_db.specs.Types.{Oid}
+use Rattle.lore_db.specs.Statements.{object_cells, pair_of}
 use Rattle.lore_db.proofs.updating.pairs_of.Given as goal
 
 abbrev pub invariant-rows : goal.invariant-rows
-invariant-rows l = l.pairs ≡ map pair_of (take l.row-index l.row-items)
+invariant-rows l = (rows : List (List Oid)) → l.row-items ≡ map object_cells rows → l.pairs ≡ map pair_of (take l.row-index rows)

@@ -7,5 +7,5 @@ use Rattle.lore_run.proofs.rendering.put_other_cells.Given as goal
 
 abbrev pub invariant-cells : goal.invariant-cells
 invariant-cells g l = Takes (g.O.Out.state l.fn.out)
-    (flat_map (λ oid. codes " | " ++ cell_text l.db.graph.objects oid) (take l.cell-index l.cells))
+    (flat_map (λ other. codes " | " ++ cell_text l.db.labels l.db.graph.objects other) (take l.cell-index l.cells))
     (g.O.Out.state l.out)

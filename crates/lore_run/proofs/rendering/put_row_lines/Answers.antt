@@ -7,7 +7,7 @@ use Rattle.lore_run.proofs.rendering.put_row_lines.Goals as goal
 
 pub returns-in_err-put_row : goal.returns-in_err-put_row
 returns-in_err-put_row g c =
-    let row = row_line c.args.db.now.graph.objects in
+    let row = row_line c.args.db.now.labels c.args.db.now.graph.objects in
     let item = ap row (c.as_slice.ensures ∙ c.row-item.is) in
     let parts = printed_around row c.args.rows.now c.rows.row-index c.row-item.result c.rows-test.true in
     Puts-broken g.O.Out.is_memory c.from_residual.result c.from_residual.ensures.1
@@ -16,7 +16,7 @@ returns-in_err-put_row g c =
 
 pub rows-preserved : goal.rows-preserved
 rows-preserved g c =
-    let row = row_line c.args.db.now.graph.objects in
+    let row = row_line c.args.db.now.labels c.args.db.now.graph.objects in
     let item = ap row (c.as_slice.ensures ∙ c.row-item.is) in
     let parts = printed_next row c.args.rows.now c.rows.row-index c.row-item.result c.rows-test.true in
     Takes-same parts (Takes-then c.rows.invariant (Takes-same item c.in_ok-put_row.ensures))

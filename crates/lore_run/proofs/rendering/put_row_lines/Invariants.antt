@@ -6,5 +6,5 @@ use Rattle.lore_run.proofs.rendering.put_row_lines.Given as goal
 
 abbrev pub invariant-rows : goal.invariant-rows
 invariant-rows g l = Takes (g.O.Out.state l.fn.out)
-    (flat_map (row_line l.db.graph.objects) (take l.row-index l.rows))
+    (flat_map (row_line l.db.labels l.db.graph.objects) (take l.row-index l.rows))
     (g.O.Out.state l.out)

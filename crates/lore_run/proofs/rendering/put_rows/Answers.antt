@@ -13,13 +13,13 @@ returns-in_err-put_row_lines g c =
 
 pub returns-in_err-put_count : goal.returns-in_err-put_count
 returns-in_err-put_count g c =
-    let lines = flat_map (row_line c.args.db.now.graph.objects) c.args.rows.now in
+    let lines = flat_map (row_line c.args.db.now.labels c.args.db.now.graph.objects) c.args.rows.now in
     let parts = sym (append_assoc lines (codes "rows ") (decimal (length c.args.rows.now))) in
     Puts-broken g.O.Out.is_memory c.from_residual-in_err-put_count.result c.from_residual-in_err-put_count.ensures.1
     (Breaks-early (codes "\n") (Breaks-same parts (Breaks-late c.in_ok-put_row_lines.ensures c.in_err-put_count.ensures)))
 
 pub returns : goal.returns
 returns g c =
-    let lines = flat_map (row_line c.args.db.now.graph.objects) c.args.rows.now in
+    let lines = flat_map (row_line c.args.db.now.labels c.args.db.now.graph.objects) c.args.rows.now in
     let parts = sym (append_assoc lines (codes "rows ") (decimal (length c.args.rows.now))) in
     Puts-then g.O.Out.is_memory _ (codes "\n") c.put.result (Takes-same parts (Takes-then c.in_ok-put_row_lines.ensures c.in_ok-put_count.ensures)) c.put.ensures

@@ -16,5 +16,5 @@ returns-clause-plain c =
     plain_made (select_tree c.args.query.now) (map from_tree c.as_slice.result.now) (place_trees c.as_slice-2.result.now)
     (place_trees c.as_slice-3.result.now) (ranges_of c.new-links.result.links.items) (ranges_of c.add_items.new.self.links.items)
     (ranges_of c.add_paths.new.self.links.items) (ap ranges_of c.new-links.ensures.none) (ap (map from_tree) c.as_slice.ensures)
-    (ap place_trees c.as_slice-2.ensures.value ∙ c.requires.from.places) (ap place_trees c.as_slice-3.ensures.value ∙ c.requires.cells)
+    (ap place_trees c.as_slice-2.ensures.value ∙ c.requires.from.places) (ap place_trees c.as_slice-3.ensures.value ∙ c.requires.items.cells)
     c.in_ok-add_items.ensures.made c.in_ok-add_paths.ensures.made

@@ -1,9 +1,11 @@
-use Rattle.std.proofs.Common.{map, take}
+use Rattle.std.proofs.Common.{ℕ, List, map, take}
 use Rattle.lorel_trees.specs.Trees.{item_tree}
-use Rattle.lorel_bind.specs.Places.{Scope}
-use Rattle.lorel_bind.specs.inside.Scopes.{IsScope, names_of}
+use Rattle.lorel_bind.specs.Places.{Scope, Place}
+use Rattle.lorel_bind.specs.inside.Scopes.{IsScope, FindAlike, names_of}
+use Rattle.lorel_bind.specs.inside.Views.{places_found}
 use Rattle.lorel_bind.specs.inside.Texts.{ReadsItems}
 use Rattle.lorel_bind.proofs.text.item_text.Given as goal
 
 abbrev pub invariant-items : goal.invariant-items
-invariant-items l = (scope : Scope) → IsScope (names_of l.variables) scope → ReadsItems scope (map item_tree (take l.item-index l.items)) l.places.items
+invariant-items l = (scope : Scope) (known : List (List ℕ × Place)) → IsScope (names_of l.variables) scope → FindAlike (places_found l.words) known
+    → ReadsItems scope known (map item_tree (take l.item-index l.list)) l.items

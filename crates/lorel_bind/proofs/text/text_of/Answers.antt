@@ -1,6 +1,9 @@
-use Rattle.std.proofs.Common.{[], map, subst}
+use Rattle.std.proofs.Common.{[], map, subst, sym, ◌∙◌}
+use Rattle.std.proofs.lemmas.List.{length-map}
 use Rattle.lorel_trees.specs.Trees.{from_tree, item_tree, select_tree}
-use Rattle.lorel_bind.specs.Places.{scope_of}
+use Rattle.lorel_bind.specs.Places.{scope_of, path_variables}
+use Rattle.lorel_bind.specs.inside.Scopes.{FindAlike}
+use Rattle.lorel_bind.specs.inside.Views.{places_found}
 use Rattle.lorel_bind.specs.inside.Texts.{ReadsFrom, ReadsItems}
 use Rattle.lorel_bind.proofs.text.text_of.Goals as goal
 
@@ -8,10 +11,13 @@ pub returns : goal.returns
 returns c =
     let query = select_tree c.args.query.now in
     let scope = scope_of [] query.tail.ranges in
-    let from = subst (λ l. ReadsFrom (map from_tree l) c.in_ok-from.from c.from_text.new.variables) c.as_slice.ensures c.in_ok-from.ensures in
+    let known = path_variables query.tail.ranges in
+    let from = subst (λ l. ReadsFrom (map from_tree l) c.in_ok-from.from c.from_text.new.variables) c.as_slice-ranges.ensures c.in_ok-from.ensures in
+    let alike = subst (λ l. FindAlike (places_found c.in_ok-words.words) (path_variables (map from_tree l))) c.as_slice-ranges.ensures c.in_ok-words.ensures in
     record {
       from = from;
-      cells = subst (λ l. ReadsItems scope (map item_tree l) c.in_ok-cells.cells.items) c.as_slice-2.ensures (c.in_ok-cells.ensures scope from.scope);
+      items = subst (λ l. ReadsItems scope known (map item_tree l) c.in_ok-items.items) c.as_slice.ensures (c.in_ok-items.ensures scope known from.scope alike);
+      count = c.len.ensures ∙ sym (length-map c.args.query.now.items item_tree);
       conditions = c.in_ok-condition.ensures.places scope from.scope;
       ranged = c.in_ok-condition.ensures.ranged;
     }

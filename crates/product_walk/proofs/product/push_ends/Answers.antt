@@ -1,9 +1,8 @@
 use Rattle.std.proofs.Common.{[], get_or, take, refl, subst, sym, ◌∙◌}
 use Rattle.std.proofs.lemmas.List.{take_more}
 use Rattle.graph_search.specs.Closures.{Lists}
-use Rattle.path_expr.specs.Machines.{IsStep}
+use Rattle.path_expr.specs.Machines.{Moving, IsStep}
 use Rattle.product_walk.specs.Types.{Edge}
-use Rattle.product_walk.specs.inside.Movers.{Moving}
 use Rattle.product_walk.specs.inside.Products.{IsNext}
 use Rattle.product_walk.specs.inside.StateSets.{HasState}
 use Rattle.product_walk.proofs.ProductLaws.{ends_none, ends_more}

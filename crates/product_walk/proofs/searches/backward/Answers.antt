@@ -1,7 +1,6 @@
-use Rattle.path_expr.specs.Machines.{Accepts}
 use Rattle.product_walk.specs.ProductWalks.{IsAcceptedInto}
 use Rattle.product_walk.specs.inside.Products.{ReadsTurned, ReadsInto}
-use Rattle.product_walk.proofs.ProductLaws.{lists_same, reads_alike, turned_accepts}
+use Rattle.product_walk.proofs.ProductLaws.{lists_same, accepted_into}
 use Rattle.product_walk.proofs.searches.backward.Goals as goal
 
 pub returns-clause-objects : goal.returns-clause-objects
@@ -12,4 +11,4 @@ returns-clause-objects g c =
     let turned = c.in_ok-turned.turned in
     let to = c.args.to.now in
     lists_same c.turned_back.result (ReadsInto edges (ReadsTurned labels turned) to) (IsAcceptedInto labels edges machine to) c.args.buf.now c.turned_back.new.buf
-    (reads_alike edges (ReadsTurned labels turned) (Accepts labels machine) to (turned_accepts labels machine turned c.in_ok-turned.ensures)) c.turned_back.ensures.objects
+    (accepted_into edges labels machine turned to c.in_ok-turned.ensures) c.turned_back.ensures.objects

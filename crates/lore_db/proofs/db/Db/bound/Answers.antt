@@ -1,4 +1,4 @@
-use Rattle.std.proofs.Common.{ℕ, List, sym, ap, subst, ◌∙◌}
+use Rattle.std.proofs.Common.{ℕ, List, ap, subst, ◌∙◌}
 use Rattle.lore_base.specs.Databases.{OemGraph, Database}
 use Rattle.lorel_trees.specs.Trees.{select_tree}
 use Rattle.lorel_bind.specs.Bound.{bound_tree}
@@ -17,10 +17,9 @@ returns-in_err-bind-clause-refused c =
     let db = c.args.self.now in
     let query = select_tree c.args.query.now in
     let fault = c.in_err-bind.field-0.0 in
-    let none = sym c.has_path_variable.ensures ∙ c.if-has_path_variable.false in
     let names = c.names.ensures ∙ ap (λ (g : OemGraph). g.names) c.graph.ensures.graph ∙ ap (λ (d : Database). d.graph.names) c.self.view_is in
     told_on (ReadCause db query) bind_order c.from_residual.result (refusal_of fault) c.from_residual.ensures.1
-    (bind_told db query none (refusal_of fault)
+    (bind_told db query (refusal_of fault)
     (subst (λ (l : List (List ℕ × Oid)). IsRefusedBy l query fault) names c.in_err-bind.ensures.refused))
 
 pub returns-clause-named : goal.returns-clause-named

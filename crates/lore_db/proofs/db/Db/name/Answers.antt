@@ -24,13 +24,11 @@ returns-in_err-answer-clause-refused g c =
 pub only_object-requires : goal.only_object-requires
 only_object-requires g c =
     let db = c.args.self.now in
-    let name = c.args.name.now in
     let path = rooted_tree c.args.path.now in
     let valid = subst (λ (d : Database). IsValid d) c.self.view_is c.self.invariant in
     let rows = c.in_ok-answer.field-0 in
     let answer = subst (λ (q : SelectTree). IsAnswer db q rows) c.in_ok-query.ensures c.in_ok-answer.ensures.rows in
-    let clear = subst (λ (q : SelectTree). IsClear (ReadCause db q) read_order) c.in_ok-query.ensures c.in_ok-answer.ensures.ok in
-    single_cells db valid name path rows answer clear
+    single_cells db valid c.args.name.now path rows answer
 
 pub returns-in_err-oid-clause-refused : goal.returns-in_err-oid-clause-refused
 returns-in_err-oid-clause-refused g c =

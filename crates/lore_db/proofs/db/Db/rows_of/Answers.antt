@@ -6,11 +6,11 @@ use Rattle.lorel_trees.specs.Trees.{select_tree}
 use Rattle.lorel_bind.specs.Answers.{IsAnswer}
 use Rattle.lorel_bind.specs.Bound.{bound_tree}
 use Rattle.lorel_bind.specs.SlotRows.{IsSlotRow}
+use Rattle.answers.specs.Asked.{AreRows, AreTooMany}
 use Rattle.lore_db.specs.Types.refusals
 use Rattle.lore_db.specs.Uncounted.{IsQuietBound, IsQuietSelect}
 use Rattle.lore_db.specs.inside.Stops.{told}
 use Rattle.lore_db.specs.inside.Stages.{ReadCause, read_order}
-use Rattle.lore_db.specs.inside.Finding.{AreRows, AreTooMany}
 use Rattle.lore_db.proofs.SelectLaws.{rows_answer, rows_clear, rows_told}
 use Rattle.lore_db.proofs.StageLaws.{on_ok}
 use Rattle.lore_db.proofs.StopLaws.{on_reply_weaker}

@@ -35,12 +35,10 @@ returns-in_err-answer-clause-refused g c =
 
 pub returns-clause-rows : goal.returns-clause-rows
 returns-clause-rows g c =
-    let form = sym c.in_ok-query.ensures ∙ ap (λ (o : Option Select). option_map select_tree o) c.in-Some.is in (
-      c.in_ok-answer.field-0,
-      rows_are c.args.self.now (statement_tree c.args.statement.now) c.requires.update (select_tree c.in-Some.query) form
-          (bound_tree c.in_ok-bound.bound) c.in_ok-bound.ensures.binding c.in_ok-answer.field-0 c.in_ok-answer.ensures.rows,
-      c.in_ok-pairs_of.ensures,
-    )
+    let form = sym c.in_ok-query.ensures ∙ ap (λ (o : Option Select). option_map select_tree o) c.in-Some.is in
+    let found = rows_are c.args.self.now (statement_tree c.args.statement.now) c.requires.update (select_tree c.in-Some.query) form
+    (bound_tree c.in_ok-bound.bound) c.in_ok-bound.ensures.binding c.in_ok-answer.field-0 c.in_ok-answer.ensures.rows in
+    (found.0, found.1, c.in_ok-pairs_of.ensures found.0 found.2)
 
 pub returns-clause-ok : goal.returns-clause-ok
 returns-clause-ok g c =

@@ -1,15 +1,19 @@
 use Rattle.std.proofs.Common.{List, subst}
 use Rattle.std.specs.List.{Contains}
 use Rattle.lorel_bind.specs.declared.places.Place.{Place}
-use Rattle.lorel_bind.specs.inside.Views.{place_trees, ranges_of}
-use Rattle.lorel_bind.specs.inside.Links.{AreMarked, IsFixedOf}
+use Rattle.lorel_bind.specs.declared.text.Shown.{Shown}
+use Rattle.lorel_bind.specs.inside.Views.{place_trees, shown_trees, ranges_of}
+use Rattle.lorel_bind.specs.inside.Links.{AreMarked, IsNeededOf, IsFixedOf}
 use Rattle.lorel_bind.proofs.MarkLaws.{marked_used}
 use Rattle.lorel_bind.proofs.links.Links.mark_used.Goals as goal
 
 pub returns-clause-marked : goal.returns-clause-marked
 returns-clause-marked c query =
     let middle = c.mark_places.new.self in
-    λ place is at. marked_used c.args.self.now middle c.mark_fixed.new.self query c.args.text.now c.requires.fresh
+    let third = c.mark_words.new.self in
+    λ place is at. marked_used c.args.self.now middle third c.mark_fixed.new.self query c.args.text.now c.requires.fresh
     (subst (λ (all : List Place). AreMarked c.args.self.now middle (Contains (place_trees all))) c.as_slice.ensures.value c.mark_places.ensures)
-    (subst (λ (all : List Place). AreMarked middle c.mark_fixed.new.self (IsFixedOf (ranges_of middle.links.items) (place_trees all)))
-    c.as_slice-2.ensures.value c.mark_fixed.ensures) is place at
+    (subst (λ (all : List Shown). AreMarked middle third (IsNeededOf (ranges_of middle.links.items) (shown_trees all)))
+    c.as_slice-2.ensures.value c.mark_words.ensures)
+    (subst (λ (all : List Place). AreMarked third c.mark_fixed.new.self (IsFixedOf (ranges_of third.links.items) (place_trees all)))
+    c.as_slice-3.ensures.value c.mark_fixed.ensures) is place at

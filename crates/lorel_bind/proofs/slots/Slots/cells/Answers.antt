@@ -1,18 +1,18 @@
 use Rattle.std.proofs.Common.{refl}
-use Rattle.lorel_bind.specs.inside.Views.{place_tree, ranges_of}
-use Rattle.lorel_bind.specs.inside.Slots.{Starts}
+use Rattle.lorel_bind.specs.inside.Views.{shown_tree, ranges_of}
+use Rattle.lorel_bind.specs.inside.Slots.{BindsCell}
 use Rattle.lorel_bind.proofs.SlotLaws.{pairs_read, all_pairs_read, pairs_of_first}
 use Rattle.lorel_bind.proofs.slots.Slots.cells.Goals as goal
 
 pub cells-preserved : goal.cells-preserved
 cells-preserved c =
     rw c.in_ok-push.ensures.ok
-    (pairs_read (λ cell start. Starts c.args.self.now.names.now (ranges_of c.args.self.now.links.items) (place_tree cell) start)
-    c.args.cells.now c.cells.starts c.cells.place-index c.place-item.result c.start.result
-    c.cells-test.true c.place-item.is c.cells.invariant c.start.ensures)
+    (pairs_read (λ cell bound. BindsCell c.args.self.now.names.now (ranges_of c.args.self.now.links.items) (shown_tree cell) bound)
+    c.args.shown.now c.cells.cells c.cells.cell-index c.cell-item.result c.cell.result
+    c.cells-test.true c.cell-item.is c.cells.invariant c.cell.ensures)
 
 pub returns : goal.returns
 returns c =
-    pairs_of_first (Starts c.args.self.now.names.now (ranges_of c.args.self.now.links.items)) place_tree c.args.cells.now c.cells.starts
-    (all_pairs_read (λ cell start. Starts c.args.self.now.names.now (ranges_of c.args.self.now.links.items) (place_tree cell) start)
-    c.args.cells.now c.args.cells.now c.cells.starts c.cells.place-index refl c.cells-test.false c.cells.invariant)
+    pairs_of_first (BindsCell c.args.self.now.names.now (ranges_of c.args.self.now.links.items)) shown_tree c.args.shown.now c.cells.cells
+    (all_pairs_read (λ cell bound. BindsCell c.args.self.now.names.now (ranges_of c.args.self.now.links.items) (shown_tree cell) bound)
+    c.args.shown.now c.args.shown.now c.cells.cells c.cells.cell-index refl c.cells-test.false c.cells.invariant)

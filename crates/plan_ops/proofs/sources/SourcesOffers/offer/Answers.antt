@@ -5,7 +5,7 @@ use Rattle.plan_ops.proofs.sources.SourcesOffers.offer.Goals as goal
 
 pub returns-in_ok-oids-in-Forward-clause-rows : goal.returns-in_ok-oids-in-Forward-clause-rows
 returns-in_ok-oids-in-Forward-clause-rows g c =
-    rw c.in-Forward.is (forward_offers _ _ _ _ _ _ _ (rw c.in-Forward.is at c.requires.stands) c.requires.eight c.object_at-from.ensures c.in_ok-oids-in-Forward.ensures)
+    rw c.in-Forward.is (forward_offers _ _ _ _ _ _ _ (rw c.in-Forward.is at c.requires.stands) c.requires.eight c.object-from.ensures c.in_ok-oids-in-Forward.ensures)
 
 pub returns-in_ok-oids-in-FromGuide-clause-rows : goal.returns-in_ok-oids-in-FromGuide-clause-rows
 returns-in_ok-oids-in-FromGuide-clause-rows g c =

@@ -1,0 +1,4 @@
+pub mod Types
+pub mod Answers
+pub mod Asked
+pub mod inside

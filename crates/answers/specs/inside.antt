@@ -1,0 +1,5 @@
+-- Definitions that no public contract cites.
+pub mod Finding
+pub mod RowOrder
+pub mod Words
+pub mod Showing

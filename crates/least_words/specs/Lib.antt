@@ -1,0 +1,3 @@
+pub mod Types
+pub mod MachineWords
+pub mod inside

@@ -1,0 +1,4 @@
+-- Definitions that no public contract cites.
+pub mod Arcs
+pub mod Groups
+pub mod Searches
