@@ -57,6 +57,19 @@ def in_turn(count):
     return braces("C", (f"m &{i} {{ n &{i + 1} }}" if i < count else f"m &{i} 0" for i in range(1, count + 1)))
 
 
+def dump_text(labels, names, children, paths):
+    """The dump of a database of these numbers of labels and names, so many children of one object, and so many edges to all of
+    them, each with a label of its own; four more labels lead back to the object."""
+    yield f"oem 1\nnext {children + 2}\nnodes 4096\nplan auto\n".encode()
+    yield "".join(f"label l{i}\n" for i in range(labels)).encode()
+    yield "".join(f"name n{i:04} &1\n" for i in range(names)).encode()
+    yield ("object &1 {}\n" + "".join(f"object &{i} {i}\n" for i in range(2, children + 2))).encode()
+    for label in range(paths):
+        yield "".join(f"edge &1 l{label} &{i}\n" for i in range(2, children + 2)).encode()
+    yield "".join(f"edge &1 l{paths + i} &1\n" for i in range(4)).encode()
+    yield b"end\n"
+
+
 def doubling(count):
     """A load of a graph with two to the power of the count target sets, for a count of at least 2, and more."""
     body = (f"x &{i} {{ a &{i + 1}, b &{i + 1} }}" if i < count else f"x &{i} 0" for i in range(2, count + 1))
@@ -208,9 +221,24 @@ def cases():
            b"ok objects 3 edges 2 nodes 2\n&2 1\n&3 2\nrows 2\n. | &2 1\n. | &3 2\nrows 2\n")
     yield ("sets that double with each object", [doubling(13), doubling(1_000), b"guide;"], 1,
            b"refused 22 GuideNodes\n" * 2 + b"nodes 0\n")
+    full = b"".join(dump_text(4_096, 1_024, 65_535, 4))
+    yield ("a dump of a full database", [b"restore ", full, b"; dump;"], 0, b"ok objects 65536 edges 262144 nodes 2\n" + full)
+    for name, more in [("label", (4_097, 1, 1, 4)), ("name", (8, 1_025, 1, 4)), ("object", (8, 1, 65_536, 1)), ("edge", (9, 1, 65_535, 4))]:
+        text = b"".join(dump_text(*more))
+        if name == "edge":
+            text = text.replace(b"end\n", b"edge &1 l8 &1\nend\n")
+        yield f"a dump of one {name} too many", [b"restore ", text, b"; restore oem 1 next 1 nodes 4096 plan auto end;"], 1, \
+            b"refused 25 BadRestore\nok objects 0 edges 0 nodes 0\n"
+    people = b"ok objects 40111 edges 60120 nodes 170\n"
+    yield ("as many generated objects as there are", [b"generate 2147483647 10000; generate 0 10000; name A := People; generate 1 10000;"], 1,
+           people * 3 + b"refused 20 TooManyObjects\n")
+    yield ("a sample of all objects", [braces("A", (f"a {i}" for i in range(65_535))), b"sample A.a 100000;"], 0,
+           b"ok objects 65536 edges 65535 nodes 2\n" + "".join(f"&{i + 2} {i}\n" for i in range(65_535)).encode() + b"sample 65535 of 65535\n")
+    yield ("as many labels as there are, browsed", [labelled("L", 4_096), b"browse L;"], 0,
+           b"ok objects 2 edges 4096 nodes 2\nat L 1\n" + "".join(f".l{i} 1\n" for i in range(4_096)).encode() + b"labels 4096\n")
     entries = CHUNK // len(b"label lost\n") - 100
     yield ("a dump text of almost the longest statement",
-           [b"restore oem 1 next 1 nodes 4096 plan auto\n", b"label lost\n" * entries, b"end;"], 1, b"refused 5 Syntax\n")
+           [b"restore oem 1 next 1 nodes 4096 plan auto\n", b"label lost\n" * entries, b"end;"], 1, b"refused 25 BadRestore\n")
     text = "street " * 500
     yield ("a statement of many megabytes", [braces("T", (f't "{text}{i}"' for i in range(2_000)))], 0,
            b"ok objects 2001 edges 2000 nodes 2\n")

@@ -7,3 +7,8 @@ pub mod OneListOfLines
 pub mod SomeLines
 pub mod GuideWalkLaws
 pub mod TellsLaws
+pub mod PathLaws
+pub mod ValueLaws
+pub mod PathLineLaws
+pub mod OnePathLines
+pub mod SomePathLines

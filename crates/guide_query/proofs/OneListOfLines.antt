@@ -22,7 +22,7 @@ one_texts labels (text ∷ texts) (other ∷ others) (label ∷ word) first seco
     let later = one_texts labels texts others word first.1 second.1 in
     λ i. here i ∷ later i
 
-zip_one : {X Y : Type 0} (R : X → Y → Type 0) → ((x : X) (y z : Y) → R x y → R x z → y ≡ z)
+pub zip_one : {X Y : Type 0} (R : X → Y → Type 0) → ((x : X) (y z : Y) → R x y → R x z → y ≡ z)
     → (xs : List X) (ys zs : List Y)
     → AllZip R xs ys → AllZip R xs zs → ys ≡ zs
 zip_one R one [] [] [] first second = refl

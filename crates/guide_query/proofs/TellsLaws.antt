@@ -16,7 +16,7 @@ use Rattle.guide_query.proofs.GuideWalkLaws.{member-set}
 module _ (names : List (List ℕ × Oid)) (edges : List Edge) (guide : GuideGraph)
     (stands : StandsFor guide names edges) where
   -- an edge leads to the step of the node's set
-  edge-steps : (node next : Node) (set : List Oid) (label : Label) → HasSet guide.nodes node set
+  pub edge-steps : (node next : Node) (set : List Oid) (label : Label) → HasSet guide.nodes node set
       → HasEdge guide.nodes node label next
       → (to : List Oid) × HasSet guide.nodes next to × IsStep edges set label to
   edge-steps node next set label has edge =
@@ -30,7 +30,7 @@ module _ (names : List (List ℕ × Oid)) (edges : List Edge) (guide : GuideGrap
       (step.0, step.1, subst (λ (s : List Oid). IsStep edges s label step.0) is step.2)
 
   -- and where a node has the step, an edge leads to it
-  step-edge : (node next : Node) (set to : List Oid) (label : Label) → HasSet guide.nodes node set
+  pub step-edge : (node next : Node) (set to : List Oid) (label : Label) → HasSet guide.nodes node set
       → HasSet guide.nodes next to
       → IsStep edges set label to → HasEdge guide.nodes node label next
   step-edge node next set to label has there step =
@@ -55,7 +55,7 @@ module _ (names : List (List ℕ × Oid)) (edges : List Edge) (guide : GuideGrap
 
   module _ (name : List ℕ) (named : Oid) (is : Contains names (name, named)) where
     -- a node has the step of a target set, if some object is in it
-    step-node : (done : List Label) (label : Label) (set : List Oid) (oid : Oid) → IsTargetSet edges named done set
+    pub step-node : (done : List Label) (label : Label) (set : List Oid) (oid : Oid) → IsTargetSet edges named done set
         → Contains (step_of edges set label) oid → (next : Node) × HasSet guide.nodes next (step_of edges set label)
     step-node done label set oid target there =
         let to = step_of edges set label in

@@ -2,3 +2,4 @@
 pub mod Origins
 pub mod Written
 pub mod GuideWalks
+pub mod PathNodes

@@ -14,7 +14,7 @@ use std::alloc::Global;
 const BEHIND_LABEL: usize = 24;
 
 // The size of the set of a node.
-fn size_at(guide: &Guide, node: Node) -> usize
+pub(crate) fn size_at(guide: &Guide, node: Node) -> usize
     ensures { result ≡ size_at guide.now.nodes node.0 }
 {
     match guide.set(node) {
@@ -74,7 +74,11 @@ fn text_len(labels: &LabelTable, label: Label) -> usize
 }
 
 // Puts a label behind a dot, where it has a text.
-fn put_label(line: &mut Vec<u8>, labels: &LabelTable, label: Label) -> Result<(), NoMemory>
+pub(crate) fn put_label(
+    line: &mut Vec<u8>,
+    labels: &LabelTable,
+    label: Label,
+) -> Result<(), NoMemory>
     ensures { OnOk result
         (line.new.items ≡ line.old.items ++ step_text (slice_get labels.now label.0)) }
 {

@@ -5,11 +5,15 @@
 #[cfg(test)]
 mod bits;
 #[cfg(test)]
+mod graphs;
+#[cfg(test)]
 mod guides;
 #[cfg(test)]
 mod lines;
 #[cfg(test)]
 mod lists;
+#[cfg(test)]
+mod path_lines;
 #[cfg(test)]
 mod paths;
 #[cfg(test)]

@@ -48,7 +48,7 @@ pub(crate) fn table_of(alloc: Global, texts: &[&str]) -> Result<LabelTable, NoMe
 }
 
 // The lines, each with a line feed behind it.
-fn joined(alloc: Global, lines: &TextList) -> Result<Vec<u8>, NoMemory> {
+pub(crate) fn joined(alloc: Global, lines: &TextList) -> Result<Vec<u8>, NoMemory> {
     let mut text = Vec::new(alloc);
     for line in lines.as_slice() {
         text.extend_from_slice(line.as_bytes())?;

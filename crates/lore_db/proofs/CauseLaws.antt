@@ -1,5 +1,5 @@
 -- Causes of refusals by the forms of statements: those that a form can't have, and those of its changes over its rows.
-use Rattle.std.proofs.Common.{◌≡◌, ◌≢◌, ◌↔◌, inl, inr, ℕ, ◌+◌, ◌<◌, ◌≤◌, true, true≢false, List, [], ◌∷◌, ◌++◌, length, map, Option, Some, None, refl, sym, ap, subst, ◌∙◌, arith}
+use Rattle.std.proofs.Common.{◌≡◌, ◌≢◌, ◌↔◌, inl, inr, ℕ, ◌+◌, ◌<◌, ◌≤◌, List, [], ◌∷◌, ◌++◌, length, map, Option, Some, None, refl, sym, ap, subst, ◌∙◌, arith}
 use Rattle.std.specs.Prelude.{MatchOption}
 use Rattle.std.proofs.lemmas.List.Elements.{All-contains}
 use Rattle.lore_base.specs.Databases.{Database, IsValid}
@@ -20,8 +20,9 @@ use Rattle.updates.specs.Causes.{IsUpdate}
 use Rattle.updates.proofs.RowLaws.{map_found}
 use Rattle.lore_db.specs.Types.{Oid, Edge, Value, Cell, Changes, Refusal, LABELS, NEXT_NUMBER}
 use Rattle.lore_db.specs.Types.refusals
-use Rattle.lore_db.specs.Built.{reads, path_select, makes_changes, is_built}
-use Rattle.lore_db.specs.Statements.{object_cells, pair_of, AreRowsOf, loading, naming, effects, IsUnbound, IsOutOfRange, ChangesCause, Cause, order}
+use Rattle.lore_db.specs.Forms.{reads, path_select, MakesChanges}
+use Rattle.lore_db.specs.Effects.{object_cells, pair_of, AreRowsOf, loading, naming, effects}
+use Rattle.lore_db.specs.Statements.{IsUnbound, IsOutOfRange, IsNotFresh, IsNoDump, ChangesCause, Cause, order}
 use Rattle.lore_db.specs.inside.Stages.{bind_order, found_order, fit_order}
 use Rattle.lore_db.proofs.ObjectRowLaws.{one_lists}
 use Rattle.lore_db.proofs.LiteralLaws.{length-objects_of}
@@ -29,15 +30,15 @@ use Rattle.lore_db.proofs.OrderLaws.{AreAlike, told_left, told_right, told_betwe
 use Rattle.lore_db.proofs.ChangedCauseLaws.{cause_same}
 
 -- the refusals of a literal's locals, of changes before they are made, of how large the database and its guide get, and
--- of the guide's limit
+-- of numbers out of range and dump texts
 abbrev pub locals : List Refusal
 locals = refusals.DuplicateLocal ∷ refusals.UndefinedLocal ∷ []
 
 abbrev pub sizes : List Refusal
 sizes = refusals.TooManyNames ∷ refusals.TooManyObjects ∷ refusals.TooManyEdges ∷ refusals.GuideNodes ∷ []
 
-abbrev pub range : List Refusal
-range = refusals.LimitRange ∷ []
+abbrev pub late : List Refusal
+late = refusals.LimitRange ∷ refusals.NotFresh ∷ refusals.BadRestore ∷ []
 
 abbrev pub early : List Refusal
 early = refusals.AtomicParent ∷ refusals.HasChildren ∷ refusals.OidsSpent ∷ refusals.TooManyLabels ∷ []
@@ -66,7 +67,7 @@ module _ (db : Database) (statement : StatementTree) (rows : List (List Oid)) (a
 
   -- the causes of a statement's changes are its own, and so are those of changes that are the same
   module _ (changes : Changes) (same : AreSame (effects db statement rows) changes)
-      (changing : makes_changes statement ≡ true) where
+      (changing : MakesChanges statement) where
     given : (refusal : Refusal) → DatabaseCause db changes refusal ↔ ChangesCause db statement refusal
     given refusal =
         let first = cause_same db (effects db statement rows) changes same refusal in
@@ -83,15 +84,15 @@ module _ (db : Database) (statement : StatementTree) (rows : List (List Oid)) (a
     pub sizes_told : (told : Option Refusal) → IsClear (Cause db statement) fit_order → IsToldBy (DatabaseCause db changes) sizes told
         → IsToldBy (Cause db statement) order told
     sizes_told told clear h =
-        told_right (Cause db statement) fit_order (sizes ++ range) told clear
-        (told_left (Cause db statement) sizes range told (told_alike (DatabaseCause db changes) (Cause db statement) sizes told sizes_alike h))
+        told_right (Cause db statement) fit_order (sizes ++ late) told clear
+        (told_left (Cause db statement) sizes late told (told_alike (DatabaseCause db changes) (Cause db statement) sizes told sizes_alike h))
 
-    -- which sets no limit
-    pub sizes_clear : (IsOutOfRange db statement → ⊥) → IsClear (Cause db statement) fit_order → IsClear (DatabaseCause db changes) sizes
+    -- which has no number out of range
+    pub sizes_clear : IsClear (Cause db statement) late → IsClear (Cause db statement) fit_order → IsClear (DatabaseCause db changes) sizes
         → IsClear (Cause db statement) order
     sizes_clear within clear h =
-        clear_both (Cause db statement) fit_order (sizes ++ range) clear
-        (clear_both (Cause db statement) sizes range (clear_alike (DatabaseCause db changes) (Cause db statement) sizes sizes_alike h) (within, tt))
+        clear_both (Cause db statement) fit_order (sizes ++ late) clear
+        (clear_both (Cause db statement) sizes late (clear_alike (DatabaseCause db changes) (Cause db statement) sizes sizes_alike h) within)
 
 -- ---- loads
 module _ (db : Database) (valid : IsValid db) (name : List ℕ) (literal : LiteralTree) where
@@ -112,10 +113,7 @@ module _ (db : Database) (valid : IsValid db) (name : List ℕ) (literal : Liter
   no_value hides = Contains-none (hides.oid, hides.value) hides.valued
 
   load_binds : IsClear (Cause db load_tree) bind_order
-  load_binds = (
-    λ none. true≢false none,
-    (λ h. elim h [ inl unbound ↦ unbound | inr unknown ↦ unknown ], (λ h. h, (λ h. h, (λ h. h, tt)))),
-  )
+  load_binds = (λ h. elim h [ inl unbound ↦ unbound | inr unknown ↦ unknown ], (λ h. h, (λ h. h, (λ h. h, tt))))
 
   load_between : IsClear (Cause db load_tree) (refusals.TooManyRows ∷ refusals.NotOne ∷ refusals.AtomicParent ∷ refusals.HasChildren ∷ [])
   load_between = (λ h. h, (λ h. h, (λ h. made_anew h.1.2, (λ h. no_value h.1.2, tt))))
@@ -127,8 +125,8 @@ module _ (db : Database) (valid : IsValid db) (name : List ℕ) (literal : Liter
         (
           (λ h. h, λ h. h),
           (
-            (λ h. (refl, ([], refl, omega (arith, h, count))), λ h. (let over = h.1.2 in omega (arith, over, count))),
-            ((λ h. (refl, ([], refl, h)), λ h. h.1.2), tt),
+            (λ h. (tt, ([], refl, omega (arith, h, count))), λ h. (let over = h.1.2 in omega (arith, over, count))),
+            ((λ h. (tt, ([], refl, h)), λ h. h.1.2), tt),
           ),
         ),
       )
@@ -137,7 +135,7 @@ module _ (db : Database) (valid : IsValid db) (name : List ℕ) (literal : Liter
   load_told told h =
       let back = refusals.OidsSpent ∷ refusals.TooManyLabels ∷ [] in
       let middle = refusals.TooManyRows ∷ refusals.NotOne ∷ refusals.AtomicParent ∷ refusals.HasChildren ∷ [] in
-      told_left (Cause db load_tree) fit_order (sizes ++ range) told
+      told_left (Cause db load_tree) fit_order (sizes ++ late) told
       (told_right (Cause db load_tree) bind_order (locals ++ (middle ++ back)) told load_binds
       (told_between (Cause db load_tree) locals middle back told load_between
       (told_alike (text.Cause db.labels db.graph.next literal) (Cause db load_tree) text.order told load_alike h)))
@@ -196,16 +194,13 @@ module _ (db : Database) (valid : IsValid db) where
   pub unname_clear : (name : List ℕ) → (IsUnbound db (t.unname name) → ⊥) → IsClear (Cause db (t.unname name)) fit_order
   unname_clear name bound =
       let first : IsClear (Cause db (t.unname name)) (found_order ++ refusals.NotOne ∷ []) = (
-        λ none. true≢false none,
-        (
-          λ h. elim h [ inl unbound ↦ bound unbound | inr unknown ↦ unknown ],
-          (λ h. h, (λ h. h, (λ h. h, (λ h. h, (λ h. h, (λ h. h, (λ h. h, tt))))))),
-        ),
+        λ h. elim h [ inl unbound ↦ bound unbound | inr unknown ↦ unknown ],
+        (λ h. h, (λ h. h, (λ h. h, (λ h. h, (λ h. h, (λ h. h, (λ h. h, tt))))))),
       ) in
       clear_both (Cause db (t.unname name)) (found_order ++ refusals.NotOne ∷ []) early first (unnamed_early name)
 
   pub unname_told : (name : List ℕ) → IsUnbound db (t.unname name) → IsToldBy (Cause db (t.unname name)) order (Some refusals.UnknownName)
-  unname_told name unbound = inr (λ none. true≢false none, inl (inl unbound, refl))
+  unname_told name unbound = inl (inl unbound, refl)
 
   -- the path has one object, or not
   pub name_clear : (name : List ℕ) (path : RootedTree) (rows : List (List Cell)) → IsAnswer db (path_select path) rows → length rows ≡ 1
@@ -218,33 +213,41 @@ module _ (db : Database) (valid : IsValid db) where
   pub name_told : (name : List ℕ) (path : RootedTree) (rows : List (List Cell)) → IsAnswer db (path_select path) rows → length rows ≢ 1
       → IsClear (Cause db (t.bind name path)) found_order → IsToldBy (Cause db (t.bind name path)) order (Some refusals.NotOne)
   name_told name path rows answer several clear =
-      told_right (Cause db (t.bind name path)) found_order (refusals.NotOne ∷ (early ++ (sizes ++ range))) (Some refusals.NotOne) clear
+      told_right (Cause db (t.bind name path)) found_order (refusals.NotOne ∷ (early ++ (sizes ++ late))) (Some refusals.NotOne) clear
       (inl ((rows, answer, several), refl))
 
 -- ---- updates
-pub update_changes : (statement : StatementTree) → IsUpdate statement → makes_changes statement ≡ true
-update_changes (t.assign target value tail) update = refl
-update_changes (t.add_new target label literal tail) update = refl
-update_changes (t.add_link target label right tail) update = refl
-update_changes (t.remove target label right tail) update = refl
+pub update_changes : (statement : StatementTree) → IsUpdate statement → MakesChanges statement
+update_changes (t.assign target value tail) update = tt
+update_changes (t.add_new target label literal tail) update = tt
+update_changes (t.add_link target label right tail) update = tt
+update_changes (t.remove target label right tail) update = tt
 update_changes _ update = absurd (update refl)
 
--- an update is built, and takes no name away
-pub update_built : (statement : StatementTree) → IsUpdate statement → is_built statement ≡ true
-update_built (t.assign target value tail) update = refl
-update_built (t.add_new target label literal tail) update = refl
-update_built (t.add_link target label right tail) update = refl
-update_built (t.remove target label right tail) update = refl
-update_built _ update = absurd (update refl)
-
+-- an update needs no name of its own
 pub update_names : (db : Database) (statement : StatementTree) → IsUpdate statement → IsUnbound db statement → ⊥
 update_names db (t.unname name) update unbound = update refl
+update_names db (t.browse start labels) update unbound = update refl
+update_names db (t.sample start labels count) update unbound = update refl
 update_names db _ update unbound = unbound
 
--- and it sets no limit
-pub update_within : (db : Database) (statement : StatementTree) → IsUpdate statement → IsOutOfRange db statement → ⊥
+-- it has no number of its own, and restores nothing
+update_within : (db : Database) (statement : StatementTree) → IsUpdate statement → IsOutOfRange db statement → ⊥
 update_within db (t.set_nodes nodes) update outside = update refl
+update_within db (t.sample start labels count) update outside = update refl
+update_within db (t.generate seed count) update outside = update refl
 update_within db _ update outside = outside
+
+update_fresh : (db : Database) (statement : StatementTree) → IsUpdate statement → IsNotFresh db statement → ⊥
+update_fresh db (t.restore text) update stale = update refl
+update_fresh db _ update stale = stale
+
+update_dumped : (statement : StatementTree) → IsUpdate statement → IsNoDump statement → ⊥
+update_dumped (t.restore text) update none = update refl
+update_dumped _ update none = none
+
+pub update_late : (db : Database) (statement : StatementTree) → IsUpdate statement → IsClear (Cause db statement) late
+update_late db statement update = (update_within db statement update, (update_fresh db statement update, (update_dumped statement update, tt)))
 
 pub update_single : (db : Database) (statement : StatementTree) → IsUpdate statement → Cause db statement refusals.NotOne → ⊥
 update_single db (t.bind name path) update h = update refl

@@ -1,5 +1,5 @@
 -- Executions of statements: a select that answers, and changes that are made.
-use Rattle.std.proofs.Common.{◌≡◌, inl, inr, true, List, ◌∷◌, ◌++◌, Option, Result, Ok, Err, IfOk, refl, sym, subst}
+use Rattle.std.proofs.Common.{◌≡◌, inl, inr, List, ◌∷◌, ◌++◌, Option, Result, Ok, Err, IfOk, refl, sym, subst}
 use Rattle.std.specs.Prelude.{IfErr, OnErr}
 use Rattle.lore_base.specs.Databases.{Database, IsValid}
 use Rattle.lore_base.specs.ChangeSets.{Fits, IsAfter, AreSame}
@@ -15,15 +15,16 @@ use Rattle.lorel_bind.specs.Answers.{IsAnswer}
 use Rattle.updates.specs.Causes.{IsUpdate}
 use Rattle.lore_db.specs.Types.{Oid, Cell, Changes, Refusal, Reply, Rows}
 use Rattle.lore_db.specs.Types.refusals
-use Rattle.lore_db.specs.Built.{makes_changes}
-use Rattle.lore_db.specs.Statements.{AreRowsOf, effects, IsOutOfRange, Cause, order, Counts, LeadsOn, Performs, Executes}
+use Rattle.lore_db.specs.Forms.{MakesChanges}
+use Rattle.lore_db.specs.Effects.{AreRowsOf, effects}
+use Rattle.lore_db.specs.Statements.{Cause, order, Counts, LeadsOn, Performs, Executes}
 use Rattle.lore_db.specs.inside.Stages.{ReadCause, read_order, found_order, change_order, fit_order}
 use Rattle.lore_db.specs.inside.Stops.{told, IsRepliedTo}
 use Rattle.lore_db.specs.declared.stops.Stop.{Stop}
 use Rattle.lore_db.specs.declared.stops.Stop.TheVariants as stop
 use Rattle.lore_db.proofs.OrderLaws.{told_left}
 use Rattle.lore_db.proofs.ReadLaws.{read_found, read_clear}
-use Rattle.lore_db.proofs.CauseLaws.{early, sizes, range, sizes_told, sizes_clear}
+use Rattle.lore_db.proofs.CauseLaws.{early, sizes, late, sizes_told, sizes_clear}
 use Rattle.lore_db.proofs.QuietLaws.{no_locals, no_changes}
 use Rattle.lore_db.proofs.EffectLaws.{effects_fit}
 
@@ -31,22 +32,22 @@ use Rattle.lore_db.proofs.EffectLaws.{effects_fit}
 module _ (db : Database) (query : SelectTree) where
   select_behind : IsClear (Cause db (t.select query)) change_order
   select_behind =
-      clear_both (Cause db (t.select query)) (refusals.NotOne ∷ (early ++ sizes)) range
-      (no_changes db (t.select query) refl) (λ h. h, tt)
+      clear_both (Cause db (t.select query)) (refusals.NotOne ∷ (early ++ sizes)) late
+      (no_changes db (t.select query) (λ h. h)) (λ h. h, (λ h. h, (λ h. h, tt)))
 
   pub select_performs : (rows : List (List Cell)) → IsClear (ReadCause db query) read_order → IsAnswer db query rows
       → Executes db (t.select query) (Rows rows) db
   select_performs rows clear answer =
       inl (
         clear_both (Cause db (t.select query)) found_order change_order
-            (read_clear db (t.select query) query refl refl (λ h. h) refl (no_locals db (t.select query) refl) clear) select_behind,
+            (read_clear db (t.select query) query refl (λ h. h) refl (no_locals db (t.select query) (λ h. h)) clear) select_behind,
         (refl, (rows, refl, answer)),
       )
 
   pub select_told : (told : Option Refusal) → IsToldBy (ReadCause db query) read_order told → IsToldBy (Cause db (t.select query)) order told
   select_told told h =
       told_left (Cause db (t.select query)) found_order change_order told
-      (read_found db (t.select query) query refl refl (λ h. h) refl (no_locals db (t.select query) refl) told h)
+      (read_found db (t.select query) query refl (λ h. h) refl (no_locals db (t.select query) (λ h. h)) told h)
 
 -- ---- changes
 -- changes that are equal list the same
@@ -63,15 +64,16 @@ same_as a b is = subst (λ (c : Changes). AreSame a c) (sym is) (record {
 
 module _ (db : Database) (statement : StatementTree) (rows : List (List Oid)) (are : AreRowsOf db statement rows) (changes : Changes)
     (same : AreSame (effects db statement rows) changes) (clear : IsClear (Cause db statement) fit_order) where
-  pub changes_fit : IsValid db → IsFormedStatement statement → Fits db changes
-  changes_fit valid formed = Fits-same (effects db statement rows) changes same db (effects_fit db valid statement formed rows are clear)
+  module _ (changing : MakesChanges statement) where
+    pub changes_fit : IsValid db → IsFormedStatement statement → Fits db changes
+    changes_fit valid formed =
+        Fits-same (effects db statement rows) changes same db (effects_fit db valid statement formed rows are changing clear)
 
-  module _ (changing : makes_changes statement ≡ true) where
     -- what refuses the changes refuses the statement
     pub changes_told : (told : Option Refusal) → IsToldBy (DatabaseCause db changes) sizes told → IsToldBy (Cause db statement) order told
     changes_told told h = sizes_told db statement rows are changes same changing told clear h
 
-    pub changes_lead : (IsOutOfRange db statement → ⊥) → (after : Database) (reply : Reply) → IsClear (DatabaseCause db changes) sizes
+    pub changes_lead : IsClear (Cause db statement) late → (after : Database) (reply : Reply) → IsClear (DatabaseCause db changes) sizes
         → IsAfter db changes after → Counts after reply → IsClear (Cause db statement) order × LeadsOn db statement reply after
     changes_lead within after reply left is counts = (
       sizes_clear db statement rows are changes same changing within clear left,

@@ -18,7 +18,7 @@ use Rattle.lore_db.specs.Plans.{AreCountsOver, IsKindOver, ShowsPlan}
 use Rattle.lore_db.specs.Statements.{Cause, order, Explains, Executes}
 use Rattle.lore_db.specs.inside.Stages.{ReadCause, bind_order}
 use Rattle.lore_db.proofs.OrderLaws.{told_left}
-use Rattle.lore_db.proofs.CauseLaws.{locals, early, sizes, range}
+use Rattle.lore_db.proofs.CauseLaws.{locals, early, sizes, late}
 use Rattle.lore_db.proofs.QuietLaws.{behind_binding}
 use Rattle.lore_db.proofs.ReadLaws.{read_binds, read_bound}
 
@@ -32,11 +32,11 @@ module _ (db : Database) (query : SelectTree) where
 
   explain_clear : IsClear (ReadCause db query) bind_order → IsClear (Cause db tree) order
   explain_clear clear =
-      clear_both (Cause db tree) bind_order (behind ++ range) (read_bound db tree query refl refl (λ h. h) clear)
-      (clear_both (Cause db tree) behind range (behind_binding db tree refl refl) (λ h. h, tt))
+      clear_both (Cause db tree) bind_order (behind ++ late) (read_bound db tree query refl (λ h. h) clear)
+      (clear_both (Cause db tree) behind late (behind_binding db tree (λ h. h) refl) (λ h. h, (λ h. h, (λ h. h, tt))))
 
   pub explain_told : (told : Option Refusal) → IsToldBy (ReadCause db query) bind_order told → IsToldBy (Cause db tree) order told
-  explain_told told h = told_left (Cause db tree) bind_order (behind ++ range) told (read_binds db tree query refl refl (λ h. h) told h)
+  explain_told told h = told_left (Cause db tree) bind_order (behind ++ late) told (read_binds db tree query refl (λ h. h) told h)
 
   pub explained : (reply : Reply) → IsClear (ReadCause db query) bind_order → ShowsPlan db query reply → Executes db tree reply db
   explained reply clear shows = inl (explain_clear clear, (refl, shows))

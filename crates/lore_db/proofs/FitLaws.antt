@@ -23,7 +23,7 @@ use Rattle.oem_labels.proofs.LabelLaws.{known_text}
 use Rattle.oem_text.specs.Literals.{Arc, bodies, arcs_of, labels_of, HasUndefined, objects_of, edge_at, edges_of}
 use Rattle.updates.specs.Effects.{Pair, no_changes, is_atomic, takers, assigning, links, linking, unlinking}
 use Rattle.updates.proofs.RowLaws.{map_holds, link_found, link_holds}
-use Rattle.lore_db.specs.Statements.{loading, naming, unnaming}
+use Rattle.lore_db.specs.Effects.{loading, naming, unnaming}
 use Rattle.lore_db.specs.Types.{Oid, Label, Edge, Value, Whole, Chars, Complex, Changes, LABELS, NEXT_NUMBER}
 use Rattle.lore_db.proofs.LabelFitLaws.{labels_come_new, labels_come_once, labels_come_formed, place_below, labels_there}
 use Rattle.lore_db.proofs.LiteralLaws.{values_of, numbered_on, length-objects_of, objects_sized, labels_formed, edges_linked, first_live}

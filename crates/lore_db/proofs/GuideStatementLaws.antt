@@ -21,24 +21,25 @@ use Rattle.lore_db.specs.inside.Stages.{fit_order}
 use Rattle.lore_db.specs.inside.Stops.{told}
 use Rattle.lore_db.specs.declared.stops.Stop.{Stop}
 use Rattle.lore_db.proofs.OrderLaws.{told_right}
-use Rattle.lore_db.proofs.CauseLaws.{sizes, range}
+use Rattle.lore_db.proofs.CauseLaws.{sizes, late}
 use Rattle.lore_db.proofs.QuietLaws.{nothing_before}
+use Rattle.lore_db.proofs.RangeLaws.{no_count}
 
 -- ---- what refuses them
 module _ (db : Database) where
   pub guide_clear : IsClear (Cause db t.guide) order
-  guide_clear = clear_both (Cause db t.guide) (fit_order ++ sizes) range (nothing_before db t.guide refl refl refl refl) (λ h. h, tt)
+  guide_clear = clear_both (Cause db t.guide) (fit_order ++ sizes) late (nothing_before db t.guide (λ h. h) (λ h. h) refl refl) (λ h. h, (λ h. h, (λ h. h, tt)))
 
 module _ (db : Database) (nodes : ℤ) where
   nodes_before : IsClear (Cause db (t.set_nodes nodes)) (fit_order ++ sizes)
-  nodes_before = nothing_before db (t.set_nodes nodes) refl refl refl refl
+  nodes_before = nothing_before db (t.set_nodes nodes) (λ h. h) (λ h. h) refl refl
 
   pub nodes_clear : (IsNoLimit db nodes → ⊥) → IsClear (Cause db (t.set_nodes nodes)) order
-  nodes_clear limit = clear_both (Cause db (t.set_nodes nodes)) (fit_order ++ sizes) range nodes_before (limit, tt)
+  nodes_clear limit = clear_both (Cause db (t.set_nodes nodes)) (fit_order ++ sizes) late nodes_before (limit, (λ h. h, (λ h. h, tt)))
 
   pub nodes_told : IsNoLimit db nodes → IsToldBy (Cause db (t.set_nodes nodes)) order (Some refusals.LimitRange)
   nodes_told none =
-      told_right (Cause db (t.set_nodes nodes)) (fit_order ++ sizes) range (Some refusals.LimitRange) nodes_before (inl (none, refl))
+      told_right (Cause db (t.set_nodes nodes)) (fit_order ++ sizes) late (Some refusals.LimitRange) nodes_before (inl (none, refl))
 
 -- ---- how they are executed
 pub shown : (db : Database) (done : Result Reply Stop) → IfOk done (λ reply. Shows db reply db) → IfOk done (λ reply. Executes db t.guide reply db)
@@ -76,7 +77,7 @@ counted db guide guided reply is = (
 
 -- and they are shown, with names and label texts that are the database's
 module _ (db : Database) (valid : IsValid db) (guide : GuideGraph) (guided : IsGuided db.graph guide) where
-  shown_guide : IsLabelledGuide guide db.labels db.graph.names db.graph.edges
+  pub shown_guide : IsLabelledGuide guide db.labels db.graph.names db.graph.edges
   shown_guide = record { ordered = guided; table = valid.well_formed.ordered.names_ascend; labelled = valid.labelled }
 
   pub shown_lines : (labels : List (List ℕ)) (names : List (List ℕ × Oid)) → labels ≡ db.labels → names ≡ db.graph.names
@@ -101,15 +102,7 @@ told_limit db limit = elim (told_below limit 1) [
   ]
 ]
 
--- a negative number is none
-abbrev IsNegative : ℤ → Type 0
-IsNegative (pos limit) = ⊥
-IsNegative (negsuc number) = Unit {0}
-
-no_count : (number limit : ℕ) → negsuc number ≡ pos limit → ⊥
-no_count number limit is = subst IsNegative is tt
-
--- any other is one limit, or none
+-- a number is one limit, or none
 pub no_limit : (db : Database) (limit : ℕ) → (IsLimit db limit → ⊥) → IsNoLimit db (pos limit)
 no_limit db limit none other is =
     let same : limit ≡ other = cc in

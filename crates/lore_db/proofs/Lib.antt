@@ -1,3 +1,4 @@
+pub mod AllEdgesLaws
 pub mod ShallowLaws
 pub mod ObjectRowLaws
 pub mod SlotLaws
@@ -6,6 +7,7 @@ pub mod StageLaws
 pub mod LabelFitLaws
 pub mod LiteralLaws
 pub mod FitLaws
+pub mod GeneratedFitLaws
 pub mod CopyFitLaws
 pub mod LiveRowLaws
 pub mod StopLaws
@@ -15,10 +17,14 @@ pub mod ReadLaws
 pub mod CauseLaws
 pub mod QuietLaws
 pub mod LoadLaws
+pub mod RangeLaws
 pub mod EffectLaws
 pub mod UpdateLaws
 pub mod ExecutionLaws
+pub mod GenerateLaws
 pub mod GuideStatementLaws
+pub mod PathStatementLaws
+pub mod DumpStatementLaws
 pub mod NamingLaws
 pub mod UpdatingLaws
 pub mod TurnLaws

@@ -27,7 +27,7 @@ use Rattle.lorel_bind.proofs.ToldLaws.{told_member, told_bytes}
 use Rattle.updates.specs.Effects.{Pair, targets}
 use Rattle.updates.proofs.RowLaws.{map_found, map_holds}
 use Rattle.lore_db.specs.Types.{Oid, Label, Cell}
-use Rattle.lore_db.specs.Statements.{object_cells, pair_of}
+use Rattle.lore_db.specs.Effects.{object_cells, pair_of}
 use Rattle.lore_db.proofs.ObjectRowLaws.{one_list, shown_objects}
 
 -- where no path starts at an unknown name or variable, none starts nowhere

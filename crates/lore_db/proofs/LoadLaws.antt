@@ -11,7 +11,8 @@ use Rattle.oem_text.specs.Parts.{IsPart}
 use Rattle.oem_text.specs.Parts as text
 use Rattle.oem_text.specs.declared.parts.Part.{Part}
 use Rattle.lore_db.specs.Types.{Refusal}
-use Rattle.lore_db.specs.Statements.{loading, Cause, order}
+use Rattle.lore_db.specs.Effects.{loading}
+use Rattle.lore_db.specs.Statements.{Cause, order}
 use Rattle.lore_db.specs.inside.Stages.{loading_part, fit_order}
 use Rattle.lore_db.proofs.CauseLaws.{load_told, load_clear}
 

@@ -14,8 +14,9 @@ use Rattle.lorel_bind.specs.Answers.{IsAnswer}
 use Rattle.updates.proofs.RowLaws.{map_holds}
 use Rattle.lore_db.specs.Types.{Oid, Cell, Changes, Refusal, Reply}
 use Rattle.lore_db.specs.Types.refusals
-use Rattle.lore_db.specs.Built.{path_select}
-use Rattle.lore_db.specs.Statements.{object_cells, pair_of, AreRowsOf, naming, unnaming, effects, Cause, order, Counts, Executes}
+use Rattle.lore_db.specs.Forms.{path_select}
+use Rattle.lore_db.specs.Effects.{object_cells, pair_of, AreRowsOf, naming, unnaming, effects}
+use Rattle.lore_db.specs.Statements.{Cause, order, Counts, Executes}
 use Rattle.lore_db.specs.inside.Stops.{told}
 use Rattle.lore_db.specs.inside.Stages.{ReadCause, read_order, found_order, change_order, fit_order, IsOneObject, IsOnly, IsNotOnly}
 use Rattle.lore_db.specs.declared.stops.Stop.{Stop}
@@ -54,7 +55,7 @@ module _ (db : Database) (valid : IsValid db) (name : List ℕ) (path : RootedTr
   pub path_stops : (told : Option Refusal) → IsToldBy (ReadCause db query) read_order told → IsToldBy (Cause db naming_tree) order told
   path_stops told h =
       told_left (Cause db naming_tree) found_order change_order told
-      (read_found db naming_tree query refl refl (λ unbound. unbound) refl (name_locals db valid name path) told h)
+      (read_found db naming_tree query refl (λ unbound. unbound) refl (name_locals db valid name path) told h)
 
   -- its rows show one object each
   pub single_cells : (rows : List (List Cell)) → IsAnswer db query rows → All IsOneObject rows
@@ -65,7 +66,7 @@ module _ (db : Database) (valid : IsValid db) (name : List ℕ) (path : RootedTr
 
   module _ (rows : List (List Cell)) (answer : IsAnswer db query rows) (clear : IsClear (ReadCause db query) read_order) where
     found_clear : IsClear (Cause db naming_tree) found_order
-    found_clear = read_clear db naming_tree query refl refl (λ unbound. unbound) refl (name_locals db valid name path) clear
+    found_clear = read_clear db naming_tree query refl (λ unbound. unbound) refl (name_locals db valid name path) clear
 
     pub several_stop : (stop : Stop) → IsNotOnly rows stop → IsToldBy (Cause db naming_tree) order (told stop)
     several_stop stop h =
@@ -81,7 +82,7 @@ module _ (db : Database) (valid : IsValid db) (name : List ℕ) (path : RootedTr
 
       each : (row : List Oid) → Contains objects row → IsOneCell db row
       each row there =
-          one_cell db valid path (record { ranges = []; cond = None }) (starts_somewhere db.graph.names query clear.1.0 clear.1.1.0) row
+          one_cell db valid path (record { ranges = []; cond = None }) (starts_somewhere db.graph.names query clear.0 clear.1.0) row
           ((are.exact (object_cells row)).0 (map_holds object_cells objects row there))
 
       lists : changes ≡ effects db naming_tree objects
@@ -95,13 +96,13 @@ module _ (db : Database) (valid : IsValid db) (name : List ℕ) (path : RootedTr
 
       pub named_stop : (told : Option Refusal) → IsToldBy (DatabaseCause db changes) sizes told → IsToldBy (Cause db naming_tree) order told
       named_stop told h =
-          changes_told db naming_tree objects are changes (same_as (effects db naming_tree objects) changes lists) fit_clear refl told h
+          changes_told db naming_tree objects are changes (same_as (effects db naming_tree objects) changes lists) fit_clear tt told h
 
       pub named_executes : (after : Database) (reply : Reply) → IsClear (DatabaseCause db changes) sizes → IsAfter db changes after
           → Counts after reply → Executes db naming_tree reply after
       named_executes after reply left leads counts =
-          inl (changes_lead db naming_tree objects are changes (same_as (effects db naming_tree objects) changes lists) fit_clear refl
-          (λ outside. outside) after reply left leads counts)
+          inl (changes_lead db naming_tree objects are changes (same_as (effects db naming_tree objects) changes lists) fit_clear tt
+          (λ h. h, (λ h. h, (λ h. h, tt))) after reply left leads counts)
 
 -- ---- a name taken away
 module _ (db : Database) (valid : IsValid db) (name : List ℕ) where
@@ -119,10 +120,10 @@ module _ (db : Database) (valid : IsValid db) (name : List ℕ) where
     unnamed_fit = subst (λ (c : Changes). Fits db c) (sym is) (unname_fits db valid name bound)
 
     pub unnamed_stop : (told : Option Refusal) → IsToldBy (DatabaseCause db changes) sizes told → IsToldBy (Cause db unnaming_tree) order told
-    unnamed_stop told h = changes_told db unnaming_tree [] refl changes (same_as (unnaming name) changes is) bound_clear refl told h
+    unnamed_stop told h = changes_told db unnaming_tree [] refl changes (same_as (unnaming name) changes is) bound_clear tt told h
 
     pub unnamed_executes : (after : Database) (reply : Reply) → IsClear (DatabaseCause db changes) sizes → IsAfter db changes after
         → Counts after reply → Executes db unnaming_tree reply after
     unnamed_executes after reply left leads counts =
-        inl (changes_lead db unnaming_tree [] refl changes (same_as (unnaming name) changes is) bound_clear refl (λ outside. outside)
+        inl (changes_lead db unnaming_tree [] refl changes (same_as (unnaming name) changes is) bound_clear tt (λ h. h, (λ h. h, (λ h. h, tt)))
         after reply left leads counts)

@@ -1,5 +1,5 @@
 -- Rows that show objects alone are rows of objects, and one such row is the cells of one list.
-use Rattle.std.proofs.Common.{◌≡◌, ℕ, ◌+◌, ◌<◌, true, true≢false, List, [], ◌∷◌, ◌++◌, length, get_or, take, map, Some, None, refl, sym, ap, subst, ◌∙◌, arith}
+use Rattle.std.proofs.Common.{◌≡◌, ℕ, ◌+◌, ◌<◌, List, [], ◌∷◌, ◌++◌, length, get_or, take, map, Some, None, refl, sym, ap, subst, ◌∙◌, arith}
 use Rattle.std.specs.List.{Contains, AllZip}
 use Rattle.std.proofs.lemmas.List.{length-map, get_or-map, get_or_default}
 use Rattle.std.proofs.lemmas.Option.{same_Some}
@@ -15,8 +15,8 @@ use Rattle.lorel_bind.proofs.ListLaws.{map-take_read}
 use Rattle.updates.specs.Effects.{Pair}
 use Rattle.lore_db.specs.Types.{Oid, Cell}
 use Rattle.lore_db.specs.Types.cells
-use Rattle.lore_db.specs.Built.{reads, path_select, makes_changes}
-use Rattle.lore_db.specs.Statements.{object_cells, pair_of}
+use Rattle.lore_db.specs.Forms.{reads, path_select, MakesChanges}
+use Rattle.lore_db.specs.Effects.{object_cells, pair_of}
 
 -- ---- the cells of objects tell these
 pub one_list : (a b : List Oid) → object_cells a ≡ object_cells b → a ≡ b
@@ -88,7 +88,7 @@ pair_shows target right tail =
     (place_of (scope_of [] tail.ranges) target ∷ place_of (scope_of [] tail.ranges) right ∷ [], refl)
 
 -- the select that a statement is executed over shows objects where that makes changes
-pub changing_shows : (statement : StatementTree) → makes_changes statement ≡ true → (query : SelectTree) → reads statement ≡ Some query
+pub changing_shows : (statement : StatementTree) → MakesChanges statement → (query : SelectTree) → reads statement ≡ Some query
     → ShowsPlaces query
 changing_shows (t.load name literal) changing query form = cc
 changing_shows (t.bind name path) changing query form = subst ShowsPlaces (same_Some (path_select path) query form) (target_shows path (record { ranges = []; cond = None }))
@@ -101,7 +101,8 @@ changing_shows (t.add_link target label right tail) changing query form =
     subst ShowsPlaces (same_Some (pair_select target right tail) query form) (pair_shows target right tail)
 changing_shows (t.remove target label right tail) changing query form =
     subst ShowsPlaces (same_Some (pair_select target right tail) query form) (pair_shows target right tail)
-changing_shows _ changing query form = absurd (true≢false (sym changing))
+changing_shows (t.generate seed count) changing query form = cc
+changing_shows _ changing query form = absurd changing
 
 -- ---- rows as pairs
 -- the pair of the next row stands behind those of the rows before it

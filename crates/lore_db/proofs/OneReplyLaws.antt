@@ -7,13 +7,19 @@ use Rattle.lore_base.proofs.VerdictLaws.{one_first, first_unclear}
 use Rattle.oem_changes.proofs.CountLaws.{distinct_as_long}
 use Rattle.oem_changes.proofs.DeterminedLaws.{one_database_after}
 use Rattle.guide_query.proofs.OneListOfLines.{one_list_of_lines}
-use Rattle.lorel_trees.specs.Trees.{StatementTree, select, explain, guide, set_nodes, set_plan}
+use Rattle.guide_query.proofs.OnePathLines.{one_browsing, one_sample}
+use Rattle.guide_query.specs.PathLines.{AreSampleLines}
+use Rattle.oem_text.proofs.DumpRuleLaws.{one_database}
+use Rattle.lorel_trees.specs.declared.dump_trees.DumpTree.{DumpTree}
+use Rattle.lorel_trees.specs.Trees.{StatementTree, select, explain, guide, browse, sample, set_nodes, set_plan, dump, restore}
 use Rattle.lorel_bind.proofs.AnswerLaws.{has_one_answer}
 use Rattle.lore_db.specs.Types.{Oid, Cell, Mode, Refusal, Reply, Changed, Rows, Lines, Refused}
-use Rattle.lore_db.specs.Statements.{effects, Cause, order, Counts, LeadsOn, Shows, Limits, ChoosesBy, Performs, Refuses}
+use Rattle.lore_db.specs.Effects.{effects}
+use Rattle.lore_db.specs.Statements.{Cause, order, Counts, LeadsOn, Shows, Browses, Samples, Limits, ChoosesBy, Dumps, Restores, Performs, Refuses}
 use Rattle.lore_db.specs.StatementLaws.{ExecutesOnce}
 use Rattle.lore_db.proofs.CauseLaws.{one_rows}
 use Rattle.lore_db.proofs.ExplainLaws.{one_explained}
+use Rattle.lore_db.proofs.DumpStatementLaws.{valid_restorable}
 
 -- a database is counted by one reply
 one_counted : (db : Database) (reply other : Reply) → Counts db reply → Counts db other → reply ≡ other
@@ -42,6 +48,32 @@ one_shown before reply other after later h k =
     let same = one_list_of_lines before.graph.names before.graph.edges before.labels h.1.0 k.1.0 h.1.2 k.1.2 in
     (h.1.1 ∙ ap (λ (lines : List (List ℕ)). Lines lines) same ∙ sym k.1.1, h.0 ∙ sym k.0)
 
+one_browsed : (before : Database) (start : List ℕ) (labels : List (List ℕ)) (reply other : Reply) (after later : Database)
+    → Browses before start labels reply after → Browses before start labels other later → (reply ≡ other) × (after ≡ later)
+one_browsed before start labels reply other after later h k =
+    let same = one_browsing before.graph.names before.graph.edges before.labels start labels h.1.0 k.1.0 h.1.2 k.1.2 in
+    (h.1.1 ∙ ap (λ (lines : List (List ℕ)). Lines lines) same ∙ sym k.1.1, h.0 ∙ sym k.0)
+
+one_sampled : (before : Database) (start : List ℕ) (labels : List (List ℕ)) (count : ℤ)
+    (reply other : Reply) (after later : Database) → Samples before start labels count reply after
+    → Samples before start labels count other later → (reply ≡ other) × (after ≡ later)
+one_sampled before start labels count reply other after later (kept, (most, is, lines, shown, are)) (left, (size, also, others, too, were)) =
+    let numbers : pos size ≡ pos most = sym also ∙ is in
+    let sizes : size ≡ most = cc in
+    let same = one_sample before.graph.names before.graph.objects before.graph.edges before.labels start labels most lines others are
+    (subst (λ (n : ℕ). AreSampleLines before.graph.names before.graph.objects before.graph.edges before.labels start labels n others) sizes were) in
+    (shown ∙ ap (λ (all : List (List ℕ)). Lines all) same ∙ sym too, kept ∙ sym left)
+
+one_dumped : (before : Database) (reply other : Reply) (after later : Database) → Dumps before reply after
+    → Dumps before other later → (reply ≡ other) × (after ≡ later)
+one_dumped before reply other after later h k = (h.1 ∙ sym k.1, h.0 ∙ sym k.0)
+
+one_restoring : (text : DumpTree) (reply other : Reply) (after later : Database) → Restores text reply after
+    → Restores text other later → (reply ≡ other) × (after ≡ later)
+one_restoring text reply other after later (dumped, valid, counted) (too, also, told) =
+    let same = one_database text after later dumped too (valid_restorable after valid) (valid_restorable later also) in
+    (same_counted after later reply other same counted told, same)
+
 one_limited : (before : Database) (nodes : ℤ) (reply other : Reply) (after later : Database) → Limits before nodes reply after
     → Limits before nodes other later → (reply ≡ other) × (after ≡ later)
 one_limited before nodes reply other after later h k =
@@ -64,6 +96,11 @@ one_performed before (select query) reply other after later h k =
     (h.1.1 ∙ ap (λ (rows : List (List Cell)). Rows rows) same ∙ sym k.1.1, h.0 ∙ sym k.0)
 one_performed before (explain query) reply other after later h k = one_explained before query reply other after later h k
 one_performed before guide reply other after later h k = one_shown before reply other after later h k
+one_performed before (browse start labels) reply other after later h k = one_browsed before start labels reply other after later h k
+one_performed before (sample start labels count) reply other after later h k =
+    one_sampled before start labels count reply other after later h k
+one_performed before dump reply other after later h k = one_dumped before reply other after later h k
+one_performed before (restore text) reply other after later h k = one_restoring text reply other after later h k
 one_performed before (set_nodes nodes) reply other after later h k = one_limited before nodes reply other after later h k
 one_performed before (set_plan mode) reply other after later h k = one_chosen before mode reply other after later h k
 one_performed before statement reply other after later h k = one_led before statement reply other after later h k

@@ -1,5 +1,5 @@
 -- A statement that is executed over a select is refused for what the select is refused for.
-use Rattle.std.proofs.Common.{◌≡◌, ◌≢◌, ◌↔◌, inl, inr, true, true≢false, List, [], ◌∷◌, Option, Some, None, AllPairs, All, sym, subst, ◌∙◌, arith}
+use Rattle.std.proofs.Common.{◌≡◌, ◌≢◌, ◌↔◌, inl, inr, List, [], ◌∷◌, Option, Some, None, AllPairs, All, sym, subst, ◌∙◌, arith}
 use Rattle.std.specs.Prelude.{MatchOption}
 use Rattle.std.specs.List.{Contains}
 use Rattle.graph_search.proofs.SumLaws.{sum_by-within, length-within}
@@ -14,7 +14,7 @@ use Rattle.lorel_bind.proofs.SomeAnswerLaws.{has_some_answer}
 use Rattle.answers.specs.Answers.{row_labels, IsTooMuch}
 use Rattle.lore_db.specs.Types.{Cell, Refusal}
 use Rattle.lore_db.specs.Types.refusals
-use Rattle.lore_db.specs.Built.{reads, binds, is_built}
+use Rattle.lore_db.specs.Forms.{reads, binds}
 use Rattle.lore_db.specs.Statements.{IsUnbound, OfBinds, HasTooManyRows, Cause}
 use Rattle.lore_db.specs.inside.Stages.{ReadCause, bind_order, read_order, found_order}
 use Rattle.lore_db.proofs.OrderLaws.{AreAlike, told_between, clear_between, clear_alike, told_alike}
@@ -42,25 +42,22 @@ many_rows db query rows accepted apart there many =
 pub bind_told : (db : Database) (query : SelectTree) (told : Option Refusal) → IsToldBy (binding.Cause db.graph.names query) binding.order told
     → IsToldBy (ReadCause db query) bind_order told
 bind_told db query None h = tt
-bind_told db query (Some refusal) h = inr (λ none. none, h)
+bind_told db query (Some refusal) h = h
 
 pub bind_clear : (db : Database) (query : SelectTree) → IsAccepted db.graph.names query → IsClear (ReadCause db query) bind_order
-bind_clear db query accepted = (λ none. none, accepted)
+bind_clear db query accepted = accepted
 
 pub accepted_from : (db : Database) (query : SelectTree) → IsClear (ReadCause db query) bind_order → IsAccepted db.graph.names query
-accepted_from db query clear = clear.1
+accepted_from db query clear = clear
 
 -- ---- the statement
-module _ (db : Database) (statement : StatementTree) (query : SelectTree) (built : is_built statement ≡ true)
+module _ (db : Database) (statement : StatementTree) (query : SelectTree)
     (bound_select : binds statement ≡ Some query) (named : IsUnbound db statement → ⊥) where
   of_binds : (Has : SelectTree → Type 0) → Has query ↔ OfBinds statement Has
   of_binds Has = (
     λ h. subst (λ (o : Option SelectTree). MatchOption o ⊥ Has) (sym bound_select) h,
     λ h. subst (λ (o : Option SelectTree). MatchOption o ⊥ Has) bound_select h,
   )
-
-  same_syntax : ReadCause db query refusals.Syntax ↔ Cause db statement refusals.Syntax
-  same_syntax = (λ none. absurd none, λ unbuilt. true≢false (sym built ∙ unbuilt))
 
   same_name : ReadCause db query refusals.UnknownName ↔ Cause db statement refusals.UnknownName
   same_name =
@@ -69,15 +66,12 @@ module _ (db : Database) (statement : StatementTree) (query : SelectTree) (built
 
   bind_alike : AreAlike (ReadCause db query) (Cause db statement) bind_order
   bind_alike = (
-    same_syntax,
+    same_name,
     (
-      same_name,
+      of_binds (λ q. binding.Cause db.graph.names q refusals.UnknownVariable),
       (
-        of_binds (λ q. binding.Cause db.graph.names q refusals.UnknownVariable),
-        (
-          of_binds (λ q. binding.Cause db.graph.names q refusals.DuplicateVariable),
-          (of_binds (λ q. binding.Cause db.graph.names q refusals.TooManyRanges), tt),
-        ),
+        of_binds (λ q. binding.Cause db.graph.names q refusals.DuplicateVariable),
+        (of_binds (λ q. binding.Cause db.graph.names q refusals.TooManyRanges), tt),
       ),
     ),
   )
@@ -100,7 +94,7 @@ module _ (db : Database) (statement : StatementTree) (query : SelectTree) (built
     read_alike : AreAlike (ReadCause db query) (Cause db statement) read_order
     read_alike =
         let bound = bind_alike in
-        (bound.0, (bound.1.0, (bound.1.1.0, (bound.1.1.1.0, (bound.1.1.1.1.0, (many_alike, tt))))))
+        (bound.0, (bound.1.0, (bound.1.1.0, (bound.1.1.1.0, (many_alike, tt)))))
 
     pub read_found : (told : Option Refusal) → IsToldBy (ReadCause db query) read_order told → IsToldBy (Cause db statement) found_order told
     read_found told h =

@@ -1,8 +1,8 @@
 -- From each valid database a sound statement has a reply, and leaves a valid one.
-use Rattle.std.proofs.Common.{◌≡◌, ◌≢◌, ℕ, ◌+◌, ◌<◌, ◌≤◌, inl, inr, Bool, true, false, true≢false, List, [], ◌∷◌, ◌++◌}
+use Rattle.std.proofs.Common.{◌≡◌, ◌≢◌, ℕ, ◌+◌, ◌<◌, ◌≤◌, inl, inr, List, [], ◌∷◌, ◌++◌}
 use Rattle.std.proofs.Common.{length, map, sum_by, Option, Some, None, refl, sym, subst}
-use Rattle.std.specs.Prelude.{ℤ, MatchOption}
-use Rattle.std.proofs.lemmas.Bool.{cases_Bool, cases_eq, cases_lt}
+use Rattle.std.specs.Prelude.{ℤ, pos, MatchOption}
+use Rattle.std.proofs.lemmas.Bool.{cases_eq, cases_lt}
 use Rattle.lore_base.specs.Databases.{OemGraph, Database, IsValid, new_database}
 use Rattle.lore_base.specs.TargetSets.{AreMoreThan}
 use Rattle.lore_base.specs.ChangeSets.{Fits, IsGraphAfter}
@@ -16,11 +16,13 @@ use Rattle.oem_changes.proofs.SomeAfterLaws.{some_database_after}
 use Rattle.oem_changes.proofs.ValidLaws.{valid_after}
 use Rattle.guide_laws.proofs.TargetSetLaws.{target_sets_exist, more_sets_are_told}
 use Rattle.guide_query.proofs.SomeLines.{lines_exist}
+use Rattle.guide_query.proofs.SomePathLines.{browsing_exists, sample_exists}
+use Rattle.oem_text.specs.Dumps.{dump_tree, dump_lines}
 use Rattle.lore_store.proofs.NewLaws.{new_valid}
 use Rattle.lore_store.proofs.ModeLaws.{valid_in_mode}
 use Rattle.lore_store.proofs.LimitLaws.{valid_limited}
 use Rattle.lorel_trees.specs.Trees.{LiteralTree, SelectTree, StatementTree, load, bind, unname, assign, add_new, add_link}
-use Rattle.lorel_trees.specs.Trees.{remove, select, explain, guide, set_nodes, set_plan}
+use Rattle.lorel_trees.specs.Trees.{remove, select, explain, guide, browse, sample, set_nodes, set_plan, dump, restore, generate}
 use Rattle.lorel_trees.specs.Formed.{IsFormedStatement}
 use Rattle.lorel_trees.proofs.FormLaws.{sound_statement}
 use Rattle.lorel_bind.specs.Answers.{IsAnswer}
@@ -35,8 +37,10 @@ use Rattle.answers.specs.Answers.{row_labels, IsTooMuch}
 use Rattle.lore_db.specs.Types.{Oid, Cell, Mode, Changes, Refusal, LABELS, NAMES, OBJECTS, EDGES, NEXT_NUMBER, Reply, Changed}
 use Rattle.lore_db.specs.Types.{Rows, Lines, Refused}
 use Rattle.lore_db.specs.Types.refusals
-use Rattle.lore_db.specs.Built.{reads, binds, makes, path_select, makes_changes, is_built}
-use Rattle.lore_db.specs.Statements.{object_cells, AreRowsOf, effects, IsUnbound, HasTooManyRows, IsNotOne, IsOutOfRange, ChangesCause, OfBinds, OfReads}
+use Rattle.lore_db.specs.Forms.{reads, binds, makes, path_select, MakesChanges, IsBetween, AreGenerable}
+use Rattle.lore_db.specs.Effects.{object_cells, AreRowsOf, effects}
+use Rattle.lore_db.specs.Statements.{IsUnbound, HasTooManyRows, IsNotOne, IsOutOfRange, IsNotFresh, IsNoDump, ChangesCause}
+use Rattle.lore_db.specs.Statements.{OfBinds, OfReads}
 use Rattle.lore_db.specs.Statements.{Cause, order, LeadsOn, Performs, Executes}
 use Rattle.lorel_trees.specs.Sound.{IsSound}
 use Rattle.lore_db.specs.StatementLaws.{ExecutesAlways}
@@ -47,9 +51,11 @@ use Rattle.lore_db.proofs.LiveRowLaws.{starts_somewhere}
 use Rattle.lore_db.proofs.EffectLaws.{effects_fit}
 use Rattle.lore_db.proofs.SomePlanLaws.{some_plan}
 use Rattle.lore_db.proofs.ObjectRowLaws.{answer_objects, changing_shows}
-use Rattle.lore_db.proofs.CauseLaws.{early, sizes, range, over_rows}
+use Rattle.lore_db.proofs.CauseLaws.{early, sizes, late, over_rows}
 use Rattle.lore_db.proofs.QuietLaws.{no_changes}
 use Rattle.lore_db.proofs.GuideStatementLaws.{GivesLimit, told_no_limit, some_limit}
+use Rattle.lore_db.proofs.RangeLaws.{told_between, between_not, told_generable, told_changing, in_range}
+use Rattle.lore_db.proofs.DumpStatementLaws.{told_new, told_no_dump, some_restored}
 
 -- the order in stages: what is told of the text, where the last are told of a select and of a literal; of rows and the
 -- changes over them; and of what these leave
@@ -60,7 +66,7 @@ abbrev local_order : List Refusal
 local_order = refusals.DuplicateLocal ∷ refusals.UndefinedLocal ∷ []
 
 abbrev text_order : List Refusal
-text_order = refusals.Syntax ∷ refusals.UnknownName ∷ (bound_order ++ local_order)
+text_order = refusals.UnknownName ∷ (bound_order ++ local_order)
 
 abbrev row_order : List Refusal
 row_order =
@@ -69,19 +75,13 @@ row_order =
 
 abbrev limit_order : List Refusal
 limit_order =
-    refusals.TooManyNames ∷ refusals.TooManyObjects ∷ refusals.TooManyEdges ∷ refusals.GuideNodes ∷ refusals.LimitRange ∷ []
+    refusals.TooManyNames ∷ refusals.TooManyObjects ∷ refusals.TooManyEdges ∷ refusals.GuideNodes ∷ late
 
 -- ---- what is told of the text
-told_false : (test : Bool) → IsTold (test ≡ false)
-told_false true = inr (λ is. true≢false is)
-told_false false = inl refl
-
-told_true : (test : Bool) → IsTold (test ≡ true)
-told_true true = inl refl
-told_true false = inr (λ is. true≢false (sym is))
-
 told_unbound : (db : Database) (statement : StatementTree) → IsTold (IsUnbound db statement)
 told_unbound db (unname name) = told_not (told_paired told_bytes db.graph.names name)
+told_unbound db (browse start labels) = told_not (told_paired told_bytes db.graph.names start)
+told_unbound db (sample start labels count) = told_not (told_paired told_bytes db.graph.names start)
 told_unbound db statement = inr (λ h. h)
 
 -- the causes that the select of a statement is refused for before it runs
@@ -113,7 +113,7 @@ some_read db statement known ranged query reading =
     (λ h. known (inr (of (HasUnknownName db.graph.names) h))) (λ h. ranged (of (HasUnknownVariable db.graph.names) h)))
 
 -- where changes are made it is rows of objects
-some_rows : (db : Database) (statement : StatementTree) → makes_changes statement ≡ true
+some_rows : (db : Database) (statement : StatementTree) → MakesChanges statement
     → (Cause db statement refusals.UnknownName → ⊥) → (Cause db statement refusals.UnknownVariable → ⊥)
     → (rows : List (List Oid)) × AreRowsOf db statement rows
 some_rows db statement changing known ranged =
@@ -155,7 +155,7 @@ told_changes : (db : Database) (statement : StatementTree) (rows : List (List Oi
     → IsTold (ChangesCause db statement refusal)
 told_changes db statement rows are refusal told =
     let over = over_rows db statement rows are refusal in
-    told_both (told_true (makes_changes statement)) (told_same over.0 over.1 told)
+    told_both (told_changing statement) (told_same over.0 over.1 told)
 
 -- where changes leave a graph, it is told whether more sets are led to than a limit
 told_leads_to_more : (graph : OemGraph) (changes : Changes) (limit : ℕ) (after : OemGraph) → IsGraphAfter graph changes after
@@ -169,7 +169,21 @@ told_leads_to_more graph changes limit after leaves =
 
 told_range : (db : Database) (statement : StatementTree) → IsTold (IsOutOfRange db statement)
 told_range db (set_nodes nodes) = told_no_limit db nodes
+told_range db (sample start labels count) = told_not (told_between 1 100000 count)
+told_range db (generate seed count) = told_not (told_generable seed count)
 told_range db statement = inr (λ h. h)
+
+told_fresh : (db : Database) (statement : StatementTree) → IsTold (IsNotFresh db statement)
+told_fresh db (restore text) = told_not (told_new db)
+told_fresh db statement = inr (λ h. h)
+
+told_dump : (statement : StatementTree) → IsTold (IsNoDump statement)
+told_dump (restore text) = told_no_dump text
+told_dump statement = inr (λ h. h)
+
+told_late : (db : Database) (statement : StatementTree) → AreTold (Cause db statement) late
+told_late db statement =
+    (told_range db statement, λ within. (told_fresh db statement, λ fresh. (told_dump statement, λ dumped. tt)))
 
 module _ (db : Database) (valid : IsValid db) (statement : StatementTree) (formed : IsFormedStatement statement) where
   -- ---- what is told of the changes
@@ -182,9 +196,9 @@ module _ (db : Database) (valid : IsValid db) (statement : StatementTree) (forme
     told_changed = told_changes db statement rows are
 
     -- where nothing before refuses them, they leave a graph
-    told_limits : IsClear (Cause db statement) fit_order → AreTold (Cause db statement) limit_order
-    told_limits clear =
-        let fits = effects_fit db valid statement formed rows are clear in
+    told_limits : MakesChanges statement → IsClear (Cause db statement) fit_order → AreTold (Cause db statement) limit_order
+    told_limits changing clear =
+        let fits = effects_fit db valid statement formed rows are changing clear in
         let left = some_database_after db changes valid.well_formed.ordered fits.graph in
         let told : (count : OemGraph → ℕ) (limit : ℕ) → IsTold (Outgrows db.graph changes count limit) =
         λ count limit. told_outgrows db.graph changes count limit left.0.graph left.1.graph in (
@@ -195,7 +209,7 @@ module _ (db : Database) (valid : IsValid db) (statement : StatementTree) (forme
               told_changed refusals.TooManyEdges (told (λ after. length after.edges) EDGES),
               λ edges. (
                 told_changed refusals.GuideNodes (told_leads_to_more db.graph changes db.nodes left.0.graph left.1.graph),
-                λ sets. (told_range db statement, λ within. tt),
+                λ sets. told_late db statement,
               ),
             ),
           ),
@@ -223,40 +237,38 @@ module _ (db : Database) (valid : IsValid db) (statement : StatementTree) (forme
       ),
     )
 
-    told_behind : IsClear (Cause db statement) text_order → AreTold (Cause db statement) (row_order ++ limit_order)
-    told_behind clear =
-        told_append (Cause db statement) row_order limit_order (told_rows clear.1.0 clear.1.1.0)
-        (λ behind. told_limits (clear_both (Cause db statement) text_order row_order clear behind))
+    told_behind : MakesChanges statement → IsClear (Cause db statement) text_order
+        → AreTold (Cause db statement) (row_order ++ limit_order)
+    told_behind changing clear =
+        told_append (Cause db statement) row_order limit_order (told_rows clear.0 clear.1.0)
+        (λ behind. told_limits changing (clear_both (Cause db statement) text_order row_order clear behind))
 
   -- what makes no changes is refused for none
-  told_still : makes_changes statement ≡ false → IsClear (Cause db statement) text_order
+  told_still : (MakesChanges statement → ⊥) → IsClear (Cause db statement) text_order
       → AreTold (Cause db statement) (row_order ++ limit_order)
   told_still still clear = (
-    told_many_rows db statement clear.1.0 clear.1.1.0,
-    λ few. told_append (Cause db statement) (refusals.NotOne ∷ (early ++ sizes)) range
+    told_many_rows db statement clear.0 clear.1.0,
+    λ few. told_append (Cause db statement) (refusals.NotOne ∷ (early ++ sizes)) late
         (told_from_verdict (Cause db statement) (refusals.NotOne ∷ (early ++ sizes)) (inl (no_changes db statement still)))
-        (λ unchanged. (told_range db statement, λ within. tt)),
+        (λ unchanged. told_late db statement),
   )
 
   -- ---- what is told of all
   told_text : AreTold (Cause db statement) text_order
   told_text =
       let read = told_read db.graph.names (binds statement) in (
-        told_false (is_built statement),
-        λ built. (
-          told_either (told_unbound db statement) read.0,
-          λ known. told_append (Cause db statement) bound_order local_order (read.1 (λ h. known (inr h)))
-              (λ bound. (
-                told_made HasDouble told_double (makes statement),
-                λ single. (told_made HasUndefined told_undefined (makes statement), λ defined. tt),
-              )),
-        ),
+        told_either (told_unbound db statement) read.0,
+        λ known. told_append (Cause db statement) bound_order local_order (read.1 (λ h. known (inr h)))
+            (λ bound. (
+              told_made HasDouble told_double (makes statement),
+              λ single. (told_made HasUndefined told_undefined (makes statement), λ defined. tt),
+            )),
       )
 
   told_order : AreTold (Cause db statement) order
   told_order = told_append (Cause db statement) text_order (row_order ++ limit_order) told_text (λ clear.
-      elim (cases_Bool (makes_changes statement)) [
-        | inl changing ↦ (let found = some_rows db statement changing clear.1.0 clear.1.1.0 in told_behind found.0 found.1 clear)
+      elim (told_changing statement) [
+        | inl changing ↦ (let found = some_rows db statement changing clear.0 clear.1.0 in told_behind found.0 found.1 changing clear)
         | inr still ↦ told_still still clear
       ])
 
@@ -315,12 +327,12 @@ some_chosen db valid mode =
 
 -- changes are made
 some_changed : (db : Database) → IsValid db → (statement : StatementTree) → IsFormedStatement statement
-    → makes_changes statement ≡ true → IsClear (Cause db statement) order
+    → MakesChanges statement → IsClear (Cause db statement) order
     → (reply : Reply) × (after : Database) × LeadsOn db statement reply after × IsValid after
 some_changed db valid statement formed changing clear =
-    let found = some_rows db statement changing clear.1.0 clear.1.1.0 in
+    let found = some_rows db statement changing clear.0 clear.1.0 in
     let limits = clear_right (Cause db statement) fit_order limit_order clear in
-    let fits = effects_fit db valid statement formed found.0 found.1
+    let fits = effects_fit db valid statement formed found.0 found.1 changing
     (clear_left (Cause db statement) fit_order limit_order clear) in
     some_led db valid statement formed found.0 found.1 fits (λ many. limits.0 (changing, (found.0, found.1, many)))
     (λ many. limits.1.0 (changing, (found.0, found.1, many)))
@@ -331,10 +343,10 @@ some_performed : (db : Database) → IsValid db → (statement : StatementTree) 
     → IsClear (Cause db statement) order
     → (reply : Reply) × (after : Database) × Performs db statement reply after × IsValid after
 some_performed db valid (select query) formed clear =
-    let found = some_read db (select query) clear.1.0 clear.1.1.0 query refl in
+    let found = some_read db (select query) clear.0 clear.1.0 query refl in
     (Rows found.0, db, (refl, (found.0, refl, found.1)), valid)
 some_performed db valid (explain query) formed clear =
-    let accepted : IsAccepted db.graph.names query = (λ unknown. clear.1.0 (inr unknown), (clear.1.1.0, (clear.1.1.1.0, (clear.1.1.1.1.0, tt)))) in
+    let accepted : IsAccepted db.graph.names query = (λ unknown. clear.0 (inr unknown), (clear.1.0, (clear.1.1.0, (clear.1.1.1.0, tt)))) in
     let plan = some_plan db valid query accepted in
     (plan.0, db, (refl, plan.1), valid)
 some_performed db valid (set_plan mode) formed clear = some_chosen db valid mode
@@ -342,20 +354,33 @@ some_performed db valid guide formed clear =
     let lines = lines_exist db.graph.names db.graph.edges db.labels valid.well_formed.ordered.names_ascend valid.labelled in
     (Lines lines.0, db, (refl, (lines.0, refl, lines.1)), valid)
 some_performed db valid (set_nodes nodes) formed clear =
-    let within = clear_right (Cause db (set_nodes nodes)) (fit_order ++ sizes) range clear in
+    let within = clear_right (Cause db (set_nodes nodes)) (fit_order ++ sizes) late clear in
     some_limited db valid nodes (some_limit db nodes within.0)
-some_performed db valid (load name literal) formed clear = some_changed db valid (load name literal) formed refl clear
-some_performed db valid (bind name path) formed clear = some_changed db valid (bind name path) formed refl clear
-some_performed db valid (unname name) formed clear = some_changed db valid (unname name) formed refl clear
+some_performed db valid (load name literal) formed clear = some_changed db valid (load name literal) formed tt clear
+some_performed db valid (bind name path) formed clear = some_changed db valid (bind name path) formed tt clear
+some_performed db valid (unname name) formed clear = some_changed db valid (unname name) formed tt clear
 some_performed db valid (assign target value tail) formed clear =
-    some_changed db valid (assign target value tail) formed refl clear
+    some_changed db valid (assign target value tail) formed tt clear
 some_performed db valid (add_new target label literal tail) formed clear =
-    some_changed db valid (add_new target label literal tail) formed refl clear
+    some_changed db valid (add_new target label literal tail) formed tt clear
 some_performed db valid (add_link target label right tail) formed clear =
-    some_changed db valid (add_link target label right tail) formed refl clear
+    some_changed db valid (add_link target label right tail) formed tt clear
 some_performed db valid (remove target label right tail) formed clear =
-    some_changed db valid (remove target label right tail) formed refl clear
-some_performed db valid statement formed clear = absurd (clear.0 refl)
+    some_changed db valid (remove target label right tail) formed tt clear
+some_performed db valid (generate seed count) formed clear =
+    some_changed db valid (generate seed count) formed (in_range db seed count (clear_right (Cause db (generate seed count)) (fit_order ++ sizes) late clear).0) clear
+some_performed db valid (browse start labels) formed clear =
+    let lines = browsing_exists db.graph.names db.graph.edges db.labels start labels valid.well_formed.ordered.names_ascend valid.labelled in
+    (Lines lines.0, db, (refl, (lines.0, refl, lines.1)), valid)
+some_performed db valid (sample start labels count) formed clear =
+    let within = clear_right (Cause db (sample start labels count)) (fit_order ++ sizes) late clear in
+    let size = between_not 1 100000 count within.0 in
+    let lines = sample_exists db.graph.names db.graph.objects db.graph.edges db.labels start labels size.0 valid.well_formed.ordered.names_ascend in
+    (Lines lines.0, db, (refl, (size.0, size.1, lines.0, refl, lines.1)), valid)
+some_performed db valid dump formed clear = (Lines (dump_lines (dump_tree db)), db, (refl, refl), valid)
+some_performed db valid (restore text) formed clear =
+    let dumped = clear_right (Cause db (restore text)) (fit_order ++ sizes) late clear in
+    some_restored text dumped.1.1.0
 
 pub executes_always : ExecutesAlways
 executes_always db statement valid sound =

@@ -19,14 +19,15 @@ use Rattle.updates.specs.Causes as updating
 use Rattle.answers.specs.Asked.{AreRows, AreTooMany}
 use Rattle.lore_db.specs.Types.{Oid, Cell, Changes, Refusal}
 use Rattle.lore_db.specs.Types.refusals
-use Rattle.lore_db.specs.Built.{reads, binds, makes}
-use Rattle.lore_db.specs.Statements.{pair_of, AreRowsOf, OfMakes, ChangesCause, Cause, order}
+use Rattle.lore_db.specs.Forms.{reads, binds, makes}
+use Rattle.lore_db.specs.Effects.{pair_of, AreRowsOf}
+use Rattle.lore_db.specs.Statements.{OfMakes, ChangesCause, Cause, order}
 use Rattle.lore_db.specs.inside.Stages.{ReadCause, bind_order, found_order, fit_order}
 use Rattle.lore_db.proofs.OrderLaws.{AreAlike, told_left, told_right, told_between, told_behind, clear_alike, told_alike}
 use Rattle.lore_db.proofs.ChangedCauseLaws.{few_names}
 use Rattle.lore_db.proofs.ReadLaws.{read_binds, read_bound, read_found, read_clear}
 use Rattle.lore_db.proofs.SelectLaws.{rows_clear, rows_told}
-use Rattle.lore_db.proofs.CauseLaws.{locals, sizes, range, early, over_rows, update_changes, update_built, update_names, update_single, update_effects, update_named}
+use Rattle.lore_db.proofs.CauseLaws.{locals, sizes, late, early, over_rows, update_changes, update_names, update_single, update_effects, update_named}
 
 -- ---- the select
 pub update_form : (statement : StatementTree) → IsUpdate statement → reads statement ≡ rows_of statement
@@ -72,14 +73,14 @@ module _ (db : Database) (statement : StatementTree) (update : IsUpdate statemen
   pub bind_stops : (told : Option Refusal) → IsToldBy (ReadCause db query) bind_order told → IsToldBy (Cause db statement) found_order told
   bind_stops told h =
       told_left (Cause db statement) bind_order (locals ++ refusals.TooManyRows ∷ []) told
-      (read_binds db statement query (update_built statement update) bound_select (update_names db statement update) told h)
+      (read_binds db statement query bound_select (update_names db statement update) told h)
 
   module _ (clear : IsClear (ReadCause db query) bind_order) where
     pub literal_stops : (told : Option Refusal) → IsToldBy (λ refusal. MatchOption (makes statement) ⊥ (λ tree. LocalCause tree refusal)) local_order told
         → IsToldBy (Cause db statement) found_order told
     literal_stops told h =
         told_right (Cause db statement) bind_order (locals ++ refusals.TooManyRows ∷ []) told
-        (read_bound db statement query (update_built statement update) bound_select (update_names db statement update) clear)
+        (read_bound db statement query bound_select (update_names db statement update) clear)
         (told_left (Cause db statement) locals (refusals.TooManyRows ∷ []) told (literal_told db statement told h))
 
     module _ (bound : BoundTree) (binds : IsBinding db.graph.names query bound)
@@ -87,12 +88,12 @@ module _ (db : Database) (statement : StatementTree) (update : IsUpdate statemen
       pub rows_stop : (told : Option Refusal)
           → IfSome told (λ refusal. (refusal ≡ refusals.TooManyRows) × AreTooMany (IsSlotRow db bound)) → IsToldBy (Cause db statement) found_order told
       rows_stop told h =
-          read_found db statement query (update_built statement update) bound_select (update_names db statement update) reading
+          read_found db statement query bound_select (update_names db statement update) reading
           (literal_clear db statement sound) told (rows_told db query bound binds clear told h)
 
       pub rows_go : (rows : List (List Cell)) → AreRows (IsSlotRow db bound) rows → IsClear (Cause db statement) found_order
       rows_go rows all =
-          read_clear db statement query (update_built statement update) bound_select (update_names db statement update) reading
+          read_clear db statement query bound_select (update_names db statement update) reading
           (literal_clear db statement sound) (rows_clear db query bound binds clear rows all)
 
 -- ---- the changes
@@ -100,7 +101,7 @@ abbrev large : List Refusal
 large = refusals.TooManyObjects ∷ refusals.TooManyEdges ∷ []
 
 abbrev guided : List Refusal
-guided = refusals.GuideNodes ∷ range
+guided = refusals.GuideNodes ∷ late
 
 of_literal : (statement : StatementTree) (Has : LiteralTree → Type 0) → OfLiteral statement Has → OfMakes statement Has
 of_literal (t.add_new target label literal tail) Has h = h
@@ -150,15 +151,15 @@ module _ (db : Database) (valid : IsValid db) (statement : StatementTree) (updat
 
   plain_told : (told : Option Refusal) → IsToldBy Told (locals ++ early) told → IsToldBy (Cause db statement) order told
   plain_told told h =
-      told_right (Cause db statement) found_order (refusals.NotOne ∷ (early ++ (sizes ++ range))) told clear
-      (told_right (Cause db statement) (refusals.NotOne ∷ []) (early ++ (sizes ++ range)) told single
-      (told_left (Cause db statement) early (sizes ++ range) told
+      told_right (Cause db statement) found_order (refusals.NotOne ∷ (early ++ (sizes ++ late))) told clear
+      (told_right (Cause db statement) (refusals.NotOne ∷ []) (early ++ (sizes ++ late)) told single
+      (told_left (Cause db statement) early (sizes ++ late) told
       (told_alike Told (Cause db statement) early told early_alike (told_behind Told locals early told sound_locals h))))
 
   copy_told : (told : Option Refusal) → IsToldBy Told (locals ++ (early ++ large)) told → IsToldBy (Cause db statement) order told
   copy_told told h =
-      told_right (Cause db statement) found_order (refusals.NotOne ∷ (early ++ (sizes ++ range))) told clear
-      (told_right (Cause db statement) (refusals.NotOne ∷ []) (early ++ (sizes ++ range)) told single
+      told_right (Cause db statement) found_order (refusals.NotOne ∷ (early ++ (sizes ++ late))) told clear
+      (told_right (Cause db statement) (refusals.NotOne ∷ []) (early ++ (sizes ++ late)) told single
       (told_between (Cause db statement) early (refusals.TooManyNames ∷ []) (large ++ guided) told names_stay
       (told_left (Cause db statement) (early ++ large) guided told
       (told_alike Told (Cause db statement) (early ++ large) told all_alike (told_behind Told locals (early ++ large) told sound_locals h)))))

@@ -18,12 +18,13 @@ use Rattle.updates.specs.Causes.{IsUpdate, HasTargets}
 use Rattle.updates.specs.Causes as updating
 use Rattle.answers.specs.Asked.{AreRows}
 use Rattle.lore_db.specs.Types.{Oid, Cell, Changes, Refusal, Reply}
-use Rattle.lore_db.specs.Built.{reads}
-use Rattle.lore_db.specs.Statements.{object_cells, pair_of, AreRowsOf, effects, Cause, order, Counts, Executes}
+use Rattle.lore_db.specs.Forms.{reads}
+use Rattle.lore_db.specs.Effects.{object_cells, pair_of, AreRowsOf, effects}
+use Rattle.lore_db.specs.Statements.{Cause, order, Counts, Executes}
 use Rattle.lore_db.specs.inside.Locals.{StopsRows}
 use Rattle.lore_db.specs.inside.Stages.{ReadCause, bind_order, found_order, fit_order}
 use Rattle.lore_db.proofs.ObjectRowLaws.{answer_objects, changing_shows}
-use Rattle.lore_db.proofs.CauseLaws.{sizes, update_changes, update_effects, update_within}
+use Rattle.lore_db.proofs.CauseLaws.{sizes, update_changes, update_effects, update_late}
 use Rattle.lore_db.proofs.EffectLaws.{rows_targets}
 use Rattle.lore_db.proofs.ExecutionLaws.{changes_fit, changes_told, changes_lead, update_performs}
 use Rattle.lore_db.proofs.SelectLaws.{rows_answer}
@@ -87,7 +88,8 @@ module _ (db : Database) (valid : IsValid db) (statement : StatementTree) (updat
         (moved (λ l g p. IsClear (updating.Cause l g statement p) (updating.order statement)) left)
 
     pub pairs_fit : IsSound statement → Fits db changes
-    pairs_fit sound = changes_fit db statement rows are changes same_effects fit_clear valid (sound_statement statement sound)
+    pairs_fit sound =
+        changes_fit db statement rows are changes same_effects fit_clear (update_changes statement update) valid (sound_statement statement sound)
 
     -- how large the database gets
     pub pairs_grown : (told : Option Refusal) → IsToldBy (DatabaseCause db changes) sizes told → IsToldBy (Cause db statement) order told
@@ -96,6 +98,6 @@ module _ (db : Database) (valid : IsValid db) (statement : StatementTree) (updat
     pub pairs_performed : (after : Database) (reply : Reply) → IsClear (DatabaseCause db changes) sizes → IsAfter db changes after
         → Counts after reply → Executes db statement reply after
     pairs_performed after reply few made counts =
-        let led = changes_lead db statement rows are changes same_effects fit_clear (update_changes statement update) (update_within db statement update)
+        let led = changes_lead db statement rows are changes same_effects fit_clear (update_changes statement update) (update_late db statement update)
         after reply few made counts in
         inl (led.0, update_performs db statement update reply after led.1)

@@ -1,5 +1,6 @@
 pub mod Types
-pub mod Built
+pub mod Forms
+pub mod Effects
 pub mod Plans
 pub mod Statements
 pub mod Uncounted

@@ -1,96 +1,36 @@
 -- What one statement answers, and the database that it leaves.
-use Rattle.std.specs.Prelude.{◌≡◌, ◌≢◌, ℕ, ℤ, pos, ◌⊎◌, true, false, List, [], ◌∷◌, ◌++◌, length, map}
-use Rattle.std.specs.Prelude.{Some, None, MatchOption}
-use Rattle.lore_db.specs.Types.{Oid, Mode, Changes, Refusal, Cell, Reply, Changed, Rows, Lines, Refused}
+use Rattle.std.specs.Prelude.{◌≡◌, ◌≢◌, ℕ, ℤ, pos, ◌⊎◌, List, [], ◌∷◌, length, MatchOption}
+use Rattle.lore_db.specs.Types.{Oid, Mode, Refusal, Cell, Reply, Changed, Rows, Lines, Refused}
 use Rattle.lore_db.specs.Types.refusals
-use Rattle.lore_db.specs.Types.cells
-use Rattle.lore_base.specs.Walks.{oid_of}
-use Rattle.lore_base.specs.Databases.{Database}
+use Rattle.lore_base.specs.Databases.{Database, IsValid, new_database}
 use Rattle.lore_base.specs.TargetSets.{AreTargetSets}
 use Rattle.lore_base.specs.ChangeSets.{IsBound, IsAfter}
 use Rattle.lore_base.specs.ChangeCauses.{DatabaseCause}
 use Rattle.lore_base.specs.Verdicts.{IsFirst, IsClear}
+use Rattle.lorel_trees.specs.declared.dump_trees.DumpTree.{DumpTree}
 use Rattle.lorel_trees.specs.Trees.{LiteralTree, SelectTree, StatementTree}
-use Rattle.lorel_trees.specs.Trees.{load, bind, unname, select, explain, guide, set_nodes, set_plan}
+use Rattle.lorel_trees.specs.Trees.{bind, unname, select, explain, guide, browse, sample, set_nodes, set_plan}
+use Rattle.lorel_trees.specs.Trees.{dump, restore, generate}
 use Rattle.lorel_bind.specs.Answers.{IsAnswer}
 use Rattle.lorel_bind.specs.Refusals as binding
 use Rattle.answers.specs.Answers.{IsTooMuch}
-use Rattle.oem_labels.specs.Labels.{first_uses}
-use Rattle.oem_text.specs.Literals.{HasDouble, HasUndefined, labels_of, objects_of, edges_of}
-use Rattle.updates.specs.Effects.{Pair, no_changes, changes_by}
+use Rattle.oem_text.specs.Literals.{HasDouble, HasUndefined}
+use Rattle.oem_text.specs.Dumps.{dump_tree, dump_lines}
+use Rattle.oem_text.specs.Restores.{IsDumpOf}
 use Rattle.guide_query.specs.GuideLines.{AreGuideLines}
+use Rattle.guide_query.specs.PathLines.{AreBrowseLines, AreSampleLines}
 use Rattle.lore_store.specs.Stores.{IsLimit}
-use Rattle.lore_db.specs.Built.{reads, binds, makes, path_select, makes_changes, is_built}
+use Rattle.lore_db.specs.Forms.{reads, binds, makes, path_select, MakesChanges, IsBetween, AreGenerable}
+use Rattle.lore_db.specs.Effects.{AreRowsOf, effects}
 use Rattle.lore_db.specs.Plans.{ShowsPlan}
-
--- What a statement changes.
-
--- the objects of a row: that of its first cell, and that of its second one, if it has one
-abbrev pub pair_of : List Oid → Pair
-pair_of [] = (oid_of 0, None)
-pair_of (first ∷ []) = (first, None)
-pair_of (first ∷ second ∷ others) = (first, Some second)
-
--- the cells of a row of objects
-abbrev pub object_cells : List Oid → List Cell
-object_cells row = map cells.Object row
-
--- the rows that a statement is executed over, which show objects alone: none where it reads nothing
-abbrev pub AreRowsOf : Database → StatementTree → List (List Oid) → Type 0
-AreRowsOf db statement rows =
-    MatchOption (reads statement) (rows ≡ []) (λ query. IsAnswer db query (map object_cells rows))
-
--- a literal is made and its first object named
-abbrev pub loading : Database → List ℕ → LiteralTree → Changes
-loading db name literal =
-    let new = first_uses db.labels (labels_of literal) in
-    record {
-      made = objects_of db.graph.next literal;
-      values = [];
-      added = edges_of db.graph.next (db.labels ++ new) literal;
-      removed = [];
-      named = (name, oid_of db.graph.next) ∷ [];
-      unnamed = [];
-      labels = new;
-    }
-
--- the name is bound to the object of the first row
-abbrev pub naming : List ℕ → List Pair → Changes
-naming name [] = no_changes
-naming name (row ∷ rows) = record {
-  made = [];
-  values = [];
-  added = [];
-  removed = [];
-  named = (name, row.0) ∷ [];
-  unnamed = [];
-  labels = [];
-}
-
--- the name is taken away
-abbrev pub unnaming : List ℕ → Changes
-unnaming name = record {
-  made = [];
-  values = [];
-  added = [];
-  removed = [];
-  named = [];
-  unnamed = name ∷ [];
-  labels = [];
-}
-
--- what a statement changes, over its rows
-abbrev pub effects : Database → StatementTree → List (List Oid) → Changes
-effects db (load name literal) rows = loading db name literal
-effects db (bind name path) rows = naming name (map pair_of rows)
-effects db (unname name) rows = unnaming name
-effects db statement rows = changes_by db.labels db.graph statement (map pair_of rows)
 
 -- Why a statement is refused.
 
--- the name that is to be taken away isn't bound
+-- the name that is to be taken away, or that a label path starts at, isn't bound
 abbrev pub IsUnbound : Database → StatementTree → Type 0
 IsUnbound db (unname name) = ¬ IsBound db.graph.names name
+IsUnbound db (browse start labels) = ¬ IsBound db.graph.names start
+IsUnbound db (sample start labels count) = ¬ IsBound db.graph.names start
 IsUnbound db statement = ⊥
 
 -- the select has more rows than an answer may have, or more labels in their words
@@ -107,16 +47,29 @@ IsNotOne db statement = ⊥
 -- only a database has (`DatabaseCause`)
 abbrev pub ChangesCause : Database → StatementTree → Refusal → Type 0
 ChangesCause db statement refusal =
-    (makes_changes statement ≡ true)
+    MakesChanges statement
     × ((rows : List (List Oid)) × AreRowsOf db statement rows × DatabaseCause db (effects db statement rows) refusal)
 
 -- the number is no limit on the guide's nodes
 abbrev pub IsNoLimit : Database → ℤ → Type 0
 IsNoLimit db nodes = (limit : ℕ) → nodes ≡ pos limit → ¬ IsLimit db limit
 
+-- a number of the statement is out of its range
 abbrev pub IsOutOfRange : Database → StatementTree → Type 0
 IsOutOfRange db (set_nodes nodes) = IsNoLimit db nodes
+IsOutOfRange db (sample start labels count) = ¬ IsBetween 1 100000 count
+IsOutOfRange db (generate seed count) = ¬ AreGenerable seed count
 IsOutOfRange db statement = ⊥
+
+-- a database is restored where there is another one than the new one
+abbrev pub IsNotFresh : Database → StatementTree → Type 0
+IsNotFresh db (restore text) = db ≢ new_database
+IsNotFresh db statement = ⊥
+
+-- the text is the dump of no valid database
+abbrev pub IsNoDump : StatementTree → Type 0
+IsNoDump (restore text) = (db : Database) → IsDumpOf text db → ¬ IsValid db
+IsNoDump statement = ⊥
 
 -- the select that a statement binds has this
 abbrev pub OfBinds : StatementTree → (SelectTree → Type 0) → Type 0
@@ -132,7 +85,6 @@ OfMakes statement Has = MatchOption (makes statement) ⊥ Has
 
 -- the cause of each refusal of a statement
 abbrev pub Cause : Database → StatementTree → Refusal → Type 0
-Cause db statement refusals.Syntax = is_built statement ≡ false
 Cause db statement refusals.UnknownName =
     IsUnbound db statement
     ⊎ OfBinds statement (λ query. binding.Cause db.graph.names query refusals.UnknownName)
@@ -147,16 +99,18 @@ Cause db statement refusals.UndefinedLocal = OfMakes statement HasUndefined
 Cause db statement refusals.TooManyRows = OfReads statement (HasTooManyRows db)
 Cause db statement refusals.NotOne = IsNotOne db statement
 Cause db statement refusals.LimitRange = IsOutOfRange db statement
+Cause db statement refusals.NotFresh = IsNotFresh db statement
+Cause db statement refusals.BadRestore = IsNoDump statement
 Cause db statement refusal = ChangesCause db statement refusal
 
 -- the order in which causes are tried: that of their numbers
 abbrev pub order : List Refusal
 order =
-    refusals.Syntax ∷ refusals.UnknownName ∷ refusals.UnknownVariable ∷ refusals.DuplicateVariable
-    ∷ refusals.TooManyRanges ∷ refusals.DuplicateLocal ∷ refusals.UndefinedLocal ∷ refusals.TooManyRows
-    ∷ refusals.NotOne ∷ refusals.AtomicParent ∷ refusals.HasChildren ∷ refusals.OidsSpent
-    ∷ refusals.TooManyLabels ∷ refusals.TooManyNames ∷ refusals.TooManyObjects ∷ refusals.TooManyEdges
-    ∷ refusals.GuideNodes ∷ refusals.LimitRange ∷ []
+    refusals.UnknownName ∷ refusals.UnknownVariable ∷ refusals.DuplicateVariable ∷ refusals.TooManyRanges
+    ∷ refusals.DuplicateLocal ∷ refusals.UndefinedLocal ∷ refusals.TooManyRows ∷ refusals.NotOne
+    ∷ refusals.AtomicParent ∷ refusals.HasChildren ∷ refusals.OidsSpent ∷ refusals.TooManyLabels
+    ∷ refusals.TooManyNames ∷ refusals.TooManyObjects ∷ refusals.TooManyEdges ∷ refusals.GuideNodes
+    ∷ refusals.LimitRange ∷ refusals.NotFresh ∷ refusals.BadRestore ∷ []
 
 -- What a statement does where nothing refuses it.
 
@@ -178,6 +132,18 @@ Shows before reply after =
     (after ≡ before) × ((lines : List (List ℕ)) × (reply ≡ Lines lines)
     × AreGuideLines before.graph.names before.graph.edges before.labels lines)
 
+-- the lines that show where a label path leads, and nothing changes
+abbrev pub Browses : Database → List ℕ → List (List ℕ) → Reply → Database → Type 0
+Browses before start labels reply after =
+    (after ≡ before) × ((lines : List (List ℕ)) × (reply ≡ Lines lines)
+    × AreBrowseLines before.graph.names before.graph.edges before.labels start labels lines)
+
+-- the lines that show the first objects that it leads to, at most so many, and nothing changes
+abbrev pub Samples : Database → List ℕ → List (List ℕ) → ℤ → Reply → Database → Type 0
+Samples before start labels count reply after =
+    (after ≡ before) × ((most : ℕ) × (count ≡ pos most) × (lines : List (List ℕ)) × (reply ≡ Lines lines)
+    × AreSampleLines before.graph.names before.graph.objects before.graph.edges before.labels start labels most lines)
+
 -- the plan of the select, which is not carried out, and nothing changes
 abbrev pub Explains : Database → SelectTree → Reply → Database → Type 0
 Explains before query reply after = (after ≡ before) × ShowsPlan before query reply
@@ -191,6 +157,14 @@ Limits before nodes reply after =
 abbrev pub ChoosesBy : Database → Mode → Reply → Database → Type 0
 ChoosesBy before mode reply after = (after ≡ record before { mode = mode }) × Counts after reply
 
+-- the lines of the dump, and nothing changes
+abbrev pub Dumps : Database → Reply → Database → Type 0
+Dumps before reply after = (after ≡ before) × (reply ≡ Lines (dump_lines (dump_tree before)))
+
+-- the database becomes that of which the text is the dump, a valid one
+abbrev pub Restores : DumpTree → Reply → Database → Type 0
+Restores text reply after = IsDumpOf text after × IsValid after × Counts after reply
+
 -- a select answers all of its rows and changes nothing
 abbrev pub Answers : Database → SelectTree → Reply → Database → Type 0
 Answers before query reply after =
@@ -200,8 +174,12 @@ abbrev pub Performs : Database → StatementTree → Reply → Database → Type
 Performs before (select query) reply after = Answers before query reply after
 Performs before (explain query) reply after = Explains before query reply after
 Performs before guide reply after = Shows before reply after
+Performs before (browse start labels) reply after = Browses before start labels reply after
+Performs before (sample start labels count) reply after = Samples before start labels count reply after
 Performs before (set_nodes nodes) reply after = Limits before nodes reply after
 Performs before (set_plan mode) reply after = ChoosesBy before mode reply after
+Performs before dump reply after = Dumps before reply after
+Performs before (restore text) reply after = Restores text reply after
 Performs before statement reply after = LeadsOn before statement reply after
 
 -- a refusal changes nothing

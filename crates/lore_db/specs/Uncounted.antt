@@ -1,7 +1,8 @@
 -- Statements that read no edge, so that no step is counted for them.
 use Rattle.std.specs.Prelude.{◌≡◌, ℕ, ◌≤◌, length, Option, Some, None}
 use Rattle.lore_base.specs.Databases.{Database}
-use Rattle.lorel_trees.specs.Trees.{SelectTree, StatementTree, select, explain, guide, set_nodes, set_plan}
+use Rattle.lorel_trees.specs.Trees.{SelectTree, StatementTree, select, explain, guide, browse, sample}
+use Rattle.lorel_trees.specs.Trees.{set_nodes, set_plan}
 use Rattle.lorel_bind.specs.Bound.{BoundTree}
 use Rattle.lorel_bind.specs.Bindings.{IsBinding}
 use Rattle.lorel_bind.specs.SlotRows.{ShowsObjects}
@@ -29,11 +30,13 @@ pub record IsQuietBound (db : Database) (bound : BoundTree) : Type 0 where
 abbrev pub IsQuietSelect : Database → SelectTree → Type 0
 IsQuietSelect db query = (bound : BoundTree) × IsBinding db.graph.names query bound × IsQuietBound db bound
 
--- a select by such a plan, a plan that is shown, the guide, and what is set
+-- a select by such a plan, a plan that is shown, the guide, what is shown of it along a label path, and what is set
 abbrev pub ReadsNoEdge : Database → StatementTree → Type 0
 ReadsNoEdge db (select query) = IsQuietSelect db query
 ReadsNoEdge db (explain query) = Unit {0}
 ReadsNoEdge db guide = Unit {0}
+ReadsNoEdge db (browse start labels) = Unit {0}
+ReadsNoEdge db (sample start labels count) = Unit {0}
 ReadsNoEdge db (set_nodes nodes) = Unit {0}
 ReadsNoEdge db (set_plan mode) = Unit {0}
 ReadsNoEdge db statement = ⊥

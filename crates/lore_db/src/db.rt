@@ -10,7 +10,7 @@ ghost use Rattle.lore_db.specs.Uncounted.{ReadsNoEdge};
 use crate::replies::Reply;
 use crate::stops::reply_of;
 use index_traits::ValueOf;
-use lore_base::{Label, NoMemory, OemText, Oid, Refusal, Steps, Value};
+use lore_base::{Label, NoMemory, OemText, Oid, Steps, Value};
 use lore_store::Store;
 use lorel_trees::Statement;
 use std::alloc::Global;
@@ -69,11 +69,9 @@ impl Db {
     }
 
     /// Executes a statement. A refusal, and want of memory, leave the database as it was. No step is
-    /// counted for a statement that shows a plan or the guide, or sets something, and for a select
-    /// for which no edge is read: where the guide tells all and no cell shows a word, or no value is
-    /// found to begin with.
-    ///
-    /// This match says which forms are built; each other one is refused `Syntax`.
+    /// counted for a statement that shows a plan, the guide, or where a label path leads, or sets
+    /// something, and for a select for which no edge is read: where the guide tells all and no cell
+    /// shows a word, or no value is found to begin with.
     pub fn execute<L: Ledger>(
         &mut self,
         alloc: Global,
@@ -98,9 +96,15 @@ impl Db {
             Statement::Select(query) => reply_of(self.select(alloc, query, steps)),
             Statement::Explain(query) => reply_of(self.explain(alloc, query)),
             Statement::Guide => reply_of(self.show_guide()),
+            Statement::Browse(path) => reply_of(self.browse(path)),
+            Statement::Sample(path, count) => reply_of(self.sample(path, *count)),
             Statement::SetNodes(nodes) => reply_of(self.set_nodes(*nodes)),
             Statement::SetPlan(mode) => Ok(self.set_plan(*mode)),
-            _ => Ok(Reply::Refused(Refusal::Syntax)),
+            Statement::Dump => reply_of(self.dump(alloc, steps)),
+            Statement::Restore(text) => reply_of(self.restore(alloc, text, steps)),
+            Statement::Generate(seed, count) => {
+                reply_of(self.generate(alloc, *seed, *count, steps))
+            }
         }
     }
 }

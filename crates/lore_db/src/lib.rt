@@ -2,12 +2,13 @@
 //!
 //! `Db::execute` (`db`) takes a statement of any form. A select (`selects`) is bound (`lorel_bind`);
 //! then its plan is chosen (`planner`), and what its cells show of the rows that come by it (`plan_ops`)
-//! is its answer (`answers`). A load (`loads`), a name bound or taken away (`namings`) and an
-//! update over the rows of its select (`updating`) list changes, which are made all at once
-//! (`applying`, over `lore_store`). The guide is shown, and its limit set, by `guides`; the plan of a
-//! select is shown by `explain` (over `planner`), and the plan mode set by `modes`. What ends the
-//! work early is a `Stop` (`stops`). What a statement answers is a `Reply` (`replies`), with the rows
-//! of a select among them.
+//! is its answer (`answers`). A load (`loads`), generated objects (`generating`), a name bound or
+//! taken away (`namings`) and an update over the rows of its select (`updating`) list changes, which
+//! are made all at once (`applying`, over `lore_store`). The guide is shown, and its limit set, by
+//! `guides`; where a label path leads is shown by `path_lines`; the plan of a select is shown by
+//! `explain` (over `planner`), and the plan mode set by `modes`. The whole database is dumped and
+//! restored by `dumps`. What ends the work early is a `Stop` (`stops`). What a statement answers is a
+//! `Reply` (`replies`), with the rows of a select among them.
 #![tactic(auto)]
 
 pub use answers::{Answer, AnswerRow};
@@ -17,12 +18,15 @@ pub use replies::Reply;
 
 mod applying;
 mod db;
+mod dumps;
 mod explain;
+mod generating;
 mod guides;
 pub mod laws;
 mod loads;
 mod modes;
 mod namings;
+mod path_lines;
 mod replies;
 mod selects;
 mod stops;

@@ -44,7 +44,7 @@ impl Db {
 }
 
 // The changes that make the part and bind the name to its first object.
-fn loading(alloc: Global, name: &OemText, part: Part) -> Result<Changes, NoMemory>
+pub(crate) fn loading(alloc: Global, name: &OemText, part: Part) -> Result<Changes, NoMemory>
     ensures { IfOk result (λ changes. changes ≡ loading_part name.now part) }
 {
     let Part {

@@ -3,8 +3,9 @@ ghost use Rattle.lore_base.specs.Names.{IsName};
 ghost use Rattle.lore_base.specs.Verdicts.{IsToldBy};
 ghost use Rattle.lorel_trees.specs.Trees.{rooted_tree, select_tree, bind, unname};
 ghost use Rattle.lorel_bind.specs.Bindings.{IsShallow};
-ghost use Rattle.lore_db.specs.Built.{path_select};
-ghost use Rattle.lore_db.specs.Statements.{naming, unnaming, Cause, order, Executes};
+ghost use Rattle.lore_db.specs.Forms.{path_select};
+ghost use Rattle.lore_db.specs.Effects.{naming, unnaming};
+ghost use Rattle.lore_db.specs.Statements.{Cause, order, Executes};
 ghost use Rattle.lore_db.specs.inside.Stops.{told};
 ghost use Rattle.lore_db.specs.inside.Stages.{IsOneObject, IsOnly, IsNotOnly};
 

@@ -1,15 +1,15 @@
 ghost use Rattle.std.specs.Prelude.{◌≡◌, None, IfOk, IfErr, OnErr};
 ghost use Rattle.lore_db.specs.inside.Stops.{told, IsRepliedTo};
 ghost use Rattle.lorel_bind.specs.Faults as binding;
-ghost use Rattle.oem_text.specs.Faults.{local_refusal, text_refusal};
+ghost use Rattle.oem_text.specs.Faults.{local_refusal, text_refusal, dump_refusal};
 ghost use Rattle.updates.specs.Faults as updating;
 ghost use Rattle.lore_store.specs.Faults as storing;
 
 use crate::replies::Reply;
 use lore_base::{Fault, NoMemory, Refusal};
-use lore_store::StoreFault;
+use lore_store::{RestoreFault, StoreFault};
 use lorel_bind::BindFault;
-use oem_text::{LocalFault, TextFault};
+use oem_text::{DumpFault, LocalFault, TextFault};
 use updates::UpdateFault;
 
 /// Why the work on a statement ends early.
@@ -76,6 +76,14 @@ impl From<TextFault> for Stop {
     }
 }
 
+impl From<DumpFault> for Stop {
+    ghost from_gives = { λ fault given. told given ≡ dump_refusal fault };
+
+    fn from(fault: DumpFault) -> Stop {
+        Stop::by(fault.refusal())
+    }
+}
+
 impl From<UpdateFault> for Stop {
     ghost from_gives = { λ fault given. told given ≡ updating.refusal_of fault };
 
@@ -88,6 +96,14 @@ impl From<StoreFault> for Stop {
     ghost from_gives = { λ fault given. told given ≡ storing.refusal_of fault };
 
     fn from(fault: StoreFault) -> Stop {
+        Stop::by(fault.refusal())
+    }
+}
+
+impl From<RestoreFault> for Stop {
+    ghost from_gives = { λ fault given. told given ≡ storing.restore_refusal fault };
+
+    fn from(fault: RestoreFault) -> Stop {
         Stop::by(fault.refusal())
     }
 }

@@ -24,7 +24,10 @@ lines-some (line ∷ lines) some =
     let first = line-some line in
     omega (arith, first, length-append (line ++ codes "\n") (flat_map (λ (other : List ℕ). other ++ codes "\n") lines))
 
--- lines of which one is the last
+-- lines of which one is the first, or the last
+first-some : (lines : List (List ℕ)) (first : List ℕ) (others : List (List ℕ)) → lines ≡ first ∷ others → 0 < length lines
+first-some lines first others are = omega (arith, ap length are)
+
 last-some : (front lines : List (List ℕ)) (last : List ℕ) → lines ≡ front ++ last ∷ [] → 0 < length lines
 last-some front lines last are = omega (arith, ap length are, length-append front (last ∷ []))
 
@@ -43,6 +46,9 @@ counts-some after reply (sets, targets, same) =
     same-some after reply (Changed objects edges (length sets)) same
     (line-some (codes "ok objects " ++ decimal objects ++ codes " edges " ++ decimal edges ++ codes " nodes " ++ decimal (length sets)))
 
+listed-some : (after : Database) (reply : Reply) (lines : List (List ℕ)) → reply ≡ Lines lines → 0 < length lines → IsSome after reply
+listed-some after reply lines same some = same-some after reply (Lines lines) same (lines-some lines some)
+
 performs-some : (before : Database) (statement : StatementTree) (reply : Reply) (after : Database) → Performs before statement reply after → IsSome after reply
 performs-some before (select query) reply after (kept, (rows, same, answered)) =
     same-some after reply (Rows rows) same
@@ -52,7 +58,7 @@ performs-some before (explain query) reply after (kept, shown) =
     (line-some (codes "plan " ++ kind_text shown.kind ++ given_text shown.candidates ++ given_text shown.found))
 performs-some before guide reply after (kept, (lines, same, shown)) =
     let some = last-some shown.set_lines lines (codes "nodes " ++ decimal (length shown.sets)) shown.are in
-    same-some after reply (Lines lines) same (lines-some lines some)
+    listed-some after reply lines same some
 performs-some before (set_nodes nodes) reply after (limited, counted) = counts-some after reply counted
 performs-some before (load name literal) reply after (led, counted) = counts-some after reply counted
 performs-some before (bind name path) reply after (led, counted) = counts-some after reply counted
@@ -61,11 +67,14 @@ performs-some before (assign target value tail) reply after (led, counted) = cou
 performs-some before (add_new target label literal tail) reply after (led, counted) = counts-some after reply counted
 performs-some before (add_link target label right tail) reply after (led, counted) = counts-some after reply counted
 performs-some before (remove target label right tail) reply after (led, counted) = counts-some after reply counted
-performs-some before (browse start labels) reply after (led, counted) = counts-some after reply counted
-performs-some before (sample start labels count) reply after (led, counted) = counts-some after reply counted
+performs-some before (browse start labels) reply after (kept, (lines, same, shown)) =
+    listed-some after reply lines same (first-some lines _ _ shown.are)
+performs-some before (sample start labels count) reply after (kept, (most, is, lines, same, shown)) =
+    listed-some after reply lines same (last-some _ lines _ shown.are)
 performs-some before (set_plan mode) reply after (led, counted) = counts-some after reply counted
-performs-some before dump reply after (led, counted) = counts-some after reply counted
-performs-some before (restore text) reply after (led, counted) = counts-some after reply counted
+performs-some before dump reply after (kept, same) =
+    listed-some after reply _ same (omega arith)
+performs-some before (restore text) reply after (dumped, valid, counted) = counts-some after reply counted
 performs-some before (generate seed count) reply after (led, counted) = counts-some after reply counted
 
 executes-some : (before : Database) (statement : StatementTree) (reply : Reply) (after : Database) → Executes before statement reply after → IsSome after reply

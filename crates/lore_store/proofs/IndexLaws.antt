@@ -172,18 +172,22 @@ settled graph edges rooted within = record {
   children = λ edge at. (All-contains (IsLinked graph.objects) graph.edges edge rooted.well_formed.edges_linked (within edge at)).child;
 }
 
+-- an object that is live in both keeps its value unless one is given to it
+abbrev pub KeepValues : OemGraph → OemGraph → List (Oid × Value) → Type 0
+KeepValues before after given = (oid : Oid) (value : Value) → Contains before.objects (oid, value) → IsLive after.objects oid
+    → IsLive given oid ⊎ Contains after.objects (oid, value)
+
 module _ (before : OemGraph) (changes : Changes) (after : OemGraph) (leaves : IsGraphAfter before changes after) where
-  -- a live object keeps its value unless one is given to it
-  keeps_value : (oid : Oid) (value : Value) → Contains before.objects (oid, value) → IsLive after.objects oid
-      → IsLive changes.values oid ⊎ Contains after.objects (oid, value)
+  pub keeps_value : KeepValues before after changes.values
   keeps_value oid value there (other, live) = elim (told_live changes.values oid) [
     | inl given ↦ inl given
     | inr none ↦ inr ((leaves.objects (oid, value)).1 (inr (inr (there, none)), ((leaves.objects (oid, other)).0 live).1))
   ]
 
+module _ (before after : OemGraph) (given : List (Oid × Value)) (keeps : KeepValues before after given) where
   -- the two states differ by the changes
   pub changed : (links lost fresh : List Edge) → AreLinks before.edges links → AreEdgeChanges before.edges after.edges lost fresh
-      → AreGraphChanges (record { objects = before.objects; edges = links }) (state_of after) lost fresh changes.values
+      → AreGraphChanges (record { objects = before.objects; edges = links }) (state_of after) lost fresh given
   changed links lost fresh stands differ = record {
     lost_exact = λ edge. (
       λ at. let only = (differ.lost_exact edge).0 at in ((stands.exact edge).1 only.0, only.1),
@@ -193,7 +197,7 @@ module _ (before : OemGraph) (changes : Changes) (after : OemGraph) (leaves : Is
       λ at. let only = (differ.fresh_exact edge).0 at in (only.0, λ there. only.1 ((stands.exact edge).0 there)),
       λ only. (differ.fresh_exact edge).1 (only.0, λ there. only.1 ((stands.exact edge).1 there)),
     );
-    keep = keeps_value;
+    keep = keeps;
   }
 
 -- entries of the links are entries of the edges
@@ -205,18 +209,18 @@ same_entries objects edges links stands entry = (
 )
 
 -- ---- what a store works out
-module _ (before : OemGraph) (changes : Changes) (after : OemGraph) (leaves : IsGraphAfter before changes after)
+module _ (before after : OemGraph) (given : List (Oid × Value)) (keeps : KeepValues before after given)
     (links lost fresh : List Edge) (stands : AreLinks before.edges links) (differ : AreEdgeChanges before.edges after.edges lost fresh) where
   -- what is found over the links is what goes and comes between the two graphs
   pub found_changes : (gone come : List ValueEntry) → IsRooted before → IsRooted after
       → ((old new : State) → old.objects ≡ before.objects → old.edges ≡ links → new.objects ≡ after.objects → IsSettled old
-      → IsSettled new → AreGraphChanges old new lost fresh changes.values → AreEntryChanges old new gone come)
+      → IsSettled new → AreGraphChanges old new lost fresh given → AreEntryChanges old new gone come)
       → AreEntryChanges (state_of before) (state_of after) gone come
   found_changes gone come rooted rooted_then found =
       let old : State = record { objects = before.objects; edges = links } in
       let changed_are = found old (state_of after) refl refl refl
       (settled before links rooted (λ edge. (stands.exact edge).0)) (settled after after.edges rooted_then (λ edge at. at))
-      (changed before changes after leaves links lost fresh stands differ) in
+      (changed before after given keeps links lost fresh stands differ) in
       record {
         gone_ascend = changed_are.gone_ascend;
         come_ascend = changed_are.come_ascend;

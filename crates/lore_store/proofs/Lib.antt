@@ -5,3 +5,4 @@ pub mod PreparedLaws
 pub mod LimitLaws
 pub mod ModeLaws
 pub mod CommitLaws
+pub mod RestoredLaws

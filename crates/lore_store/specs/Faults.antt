@@ -1,4 +1,4 @@
--- What a fault of a change is answered with.
+-- What a fault of a change, or of a database that is restored, is answered with.
 use Rattle.std.specs.Prelude.{Option, Some, None}
 use Rattle.lore_store.specs.Types.refusals
 use Rattle.lore_store.specs.Types.{Refusal}
@@ -6,6 +6,8 @@ use Rattle.dataguide.specs.declared.faults.GuideFault.{GuideFault}
 use Rattle.dataguide.specs.declared.faults.GuideFault.TheVariants as guide
 use Rattle.lore_store.specs.declared.faults.StoreFault.{StoreFault}
 use Rattle.lore_store.specs.declared.faults.StoreFault.TheVariants as fault
+use Rattle.lore_store.specs.declared.faults.RestoreFault.{RestoreFault}
+use Rattle.lore_store.specs.declared.faults.RestoreFault.TheVariants as restore
 
 -- the refusal of the same name; none for want of memory
 abbrev pub refusal_of : StoreFault → Option Refusal
@@ -19,3 +21,13 @@ refusal_of fault.NoMemory = None
 abbrev pub guide_fault : GuideFault → StoreFault
 guide_fault guide.Nodes = fault.GuideNodes
 guide_fault guide.NoMemory = fault.NoMemory
+
+-- a text whose label paths lead to more sets than its own limit is no dump of a database
+abbrev pub restore_refusal : RestoreFault → Option Refusal
+restore_refusal restore.GuideNodes = Some refusals.BadRestore
+restore_refusal restore.NoMemory = None
+
+-- what a fault of the guide is as one of a database that is restored
+abbrev pub guide_restore_fault : GuideFault → RestoreFault
+guide_restore_fault guide.Nodes = restore.GuideNodes
+guide_restore_fault guide.NoMemory = restore.NoMemory

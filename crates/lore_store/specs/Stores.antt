@@ -71,6 +71,10 @@ abbrev pub order : List Refusal
 order =
     refusals.TooManyNames ∷ refusals.TooManyObjects ∷ refusals.TooManyEdges ∷ refusals.GuideNodes ∷ []
 
+-- label paths lead to more sets in the database than its own limit
+abbrev pub HasTooManySets : Database → Type 0
+HasTooManySets db = AreMoreThan db.nodes db.graph.names db.graph.edges
+
 -- the number is a limit on the guide's nodes: it is in range, and label paths lead to no more sets
 pub record IsLimit (db : Database) (limit : ℕ) : Type 0 where
   pub low : 1 ≤ limit

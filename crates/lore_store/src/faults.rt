@@ -1,5 +1,6 @@
 ghost use Rattle.std.specs.Prelude.{◌≡◌};
 ghost use Rattle.lore_store.specs.declared.faults.StoreFault.TheVariants as fault;
+ghost use Rattle.lore_store.specs.declared.faults.RestoreFault.TheVariants as restore;
 ghost use Rattle.lore_store.specs.Faults as spec;
 
 use dataguide::GuideFault;
@@ -74,5 +75,48 @@ impl<T: Drop> From<AllocFailed<T>> for StoreFault {
 
     fn from(_error: AllocFailed<T>) -> StoreFault {
         StoreFault::NoMemory
+    }
+}
+
+/// Why a database can't be restored.
+#[derive(Clone, Copy, Debug, PartialEq, Eq, Error)]
+pub enum RestoreFault {
+    /// Label paths lead to more sets of objects than the guide may have nodes.
+    #[error("too many nodes of the guide")]
+    GuideNodes,
+    /// Memory was refused.
+    #[error("out of memory")]
+    NoMemory,
+}
+
+impl Fault for RestoreFault {
+    ghost refusal_of = { spec.restore_refusal };
+
+    fn refusal(&self) -> Option<Refusal> {
+        match self {
+            // The limit stands in the text as the edges do, so that the text contradicts itself: it
+            // is the dump of no database, and the session's own limit is not passed.
+            RestoreFault::GuideNodes => Some(Refusal::BadRestore),
+            RestoreFault::NoMemory => None,
+        }
+    }
+}
+
+impl From<NoMemory> for RestoreFault {
+    ghost from_gives = { λ _ given. given ≡ restore.NoMemory };
+
+    fn from(_error: NoMemory) -> RestoreFault {
+        RestoreFault::NoMemory
+    }
+}
+
+impl From<GuideFault> for RestoreFault {
+    ghost from_gives = { λ error given. given ≡ spec.guide_restore_fault error };
+
+    fn from(error: GuideFault) -> RestoreFault {
+        match error {
+            GuideFault::Nodes => RestoreFault::GuideNodes,
+            GuideFault::NoMemory => RestoreFault::NoMemory,
+        }
     }
 }

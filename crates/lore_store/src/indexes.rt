@@ -1,4 +1,4 @@
-ghost use Rattle.std.specs.Prelude.{◌≤◌, length, IfOk, OnOk};
+ghost use Rattle.std.specs.Prelude.{◌≡◌, ◌≤◌, length, IfOk, OnOk};
 ghost use Rattle.lore_base.specs.Databases.{OemGraph, IsRooted, new_graph};
 ghost use Rattle.lore_base.specs.ChangeSets.{FitsGraph, IsGraphAfter};
 ghost use Rattle.oem_graph.specs.Plans.{graph_then};
@@ -7,7 +7,7 @@ ghost use Rattle.lore_store.specs.Indexes.{AreIndexes, AreIndexed, HasIndexRoom}
 ghost use Rattle.lore_store.specs.inside.Fitting.{FitsIndexes};
 
 use link_index::{LinkIndex, LinkPlan};
-use lore_base::{Changes, NoMemory, Steps};
+use lore_base::{Changes, EdgeBuf, NoMemory, Steps};
 use oem_graph::{EdgeChanges, Graph, GraphPlan};
 use std::alloc::Global;
 use std::sync::ledger::Ledger;
@@ -38,6 +38,52 @@ impl Indexes {
             links: LinkIndex::new(alloc),
             values: ValueIndex::new(alloc),
         }
+    }
+
+    /// The indexes of a graph, which has these edges.
+    pub(crate) fn build<L: Ledger>(
+        alloc: Global,
+        graph: &Graph,
+        edges: &EdgeBuf,
+        steps: &mut Steps<L>,
+    ) -> Result<Indexes, NoMemory>
+        requires rooted { IsRooted graph.now.graph }
+        requires edges { edges.now ≡ graph.now.graph.edges }
+        requires few { length edges.now ≤ EDGES }
+        ensures { IfOk result (AreIndexes graph.now.graph) }
+    {
+        let mut indexes = Indexes::new(alloc);
+        let plan = indexes.prepare_first(alloc, graph, edges, steps)?;
+        indexes.reserve(&plan)?;
+        indexes.commit(plan);
+        Ok(indexes)
+    }
+
+    // Which entries come where the new graph becomes one with these edges.
+    fn prepare_first<L: Ledger>(
+        &self,
+        alloc: Global,
+        graph: &Graph,
+        edges: &EdgeBuf,
+        steps: &mut Steps<L>,
+    ) -> Result<IndexPlan, NoMemory>
+        requires kept { AreIndexes new_graph self.now }
+        requires rooted { IsRooted graph.now.graph }
+        requires edges { edges.now ≡ graph.now.graph.edges }
+        requires few { length edges.now ≤ EDGES }
+        ensures { IfOk result (AreIndexed new_graph graph.now.graph) }
+    {
+        let links = self.links.prepare(&EdgeBuf::new(alloc), edges)?;
+        let changes = GraphChanges {
+            lost: &[],
+            fresh: edges.as_slice(),
+            given: &[],
+        };
+        let nothing = Graph::new(alloc);
+        let entries = entry_changes(alloc, &self.links, &nothing, graph, changes, steps)?;
+        let EntryChanges { gone, come } = entries;
+        let values = self.values.prepare(&gone, &come)?;
+        Ok(IndexPlan { links, values })
     }
 
     /// Which entries go and come where the graph becomes that of the plan.

@@ -1,29 +1,33 @@
-ghost use Rattle.std.specs.Prelude.{◌≡◌, ◌↔◌, [], ◌∷◌, IsTrue, IfOk, IfErr, OnOk};
+ghost use Rattle.std.specs.Prelude.{◌≡◌, ◌↔◌, [], ◌∷◌, IsTrue, IfOk, IfErr, OnOk, OnErr};
 ghost use Rattle.lore_base.specs.Databases.{IsValid, new_database};
 ghost use Rattle.lore_base.specs.ChangeSets.{FitsGraph, Fits, IsAfter, IsGraphAfter, AreDead};
 ghost use Rattle.lore_base.specs.TargetSets.{AreMoreThan};
 ghost use Rattle.lore_base.specs.ChangeCauses.{DatabaseCause};
 ghost use Rattle.lore_base.specs.Verdicts.{IsClear, IsToldBy};
 ghost use Rattle.oem_graph.specs.Plans.{graph_then};
+ghost use Rattle.oem_text.specs.Restores.{IsWhole, database_from};
+ghost use Rattle.oem_labels.specs.Labels.{AreLabels};
 ghost use Rattle.index_traits.specs.Entries.{AreLinks, AreValueEntries};
 ghost use Rattle.lore_store.specs.Faults.{refusal_of};
 ghost use Rattle.lore_store.specs.Types.refusals;
+ghost use Rattle.lore_store.specs.declared.faults.RestoreFault.TheVariants as restore;
 ghost use Rattle.lore_store.specs.Stores as spec;
 ghost use Rattle.lore_store.specs.Stores.{database_then, LeadsOn, HasRoomFor, IsGuided};
-ghost use Rattle.lore_store.specs.Stores.{IsLimit, order};
+ghost use Rattle.lore_store.specs.Stores.{IsLimit, HasTooManySets, order};
 ghost use Rattle.lore_store.specs.inside.Sizes.{SizeCause, NodesCause};
 ghost use Rattle.lore_store.specs.inside.Unlinked.{LinkNothing};
 
-use crate::faults::StoreFault;
+use crate::faults::{RestoreFault, StoreFault};
 use crate::indexes::Indexes;
 use crate::prepared::Prepared;
 use dataguide::Guide;
 use link_index::LinkIndex;
 use lore_base::limits::{EDGES, NAMES, NODES, OBJECTS};
-use lore_base::{Changes, Mode, NoMemory, OidBuf, Steps};
+use lore_base::{Changes, Mode, NoMemory, OidBuf, Steps, TextList};
 use oem_graph::{Graph, GraphPlan};
 use oem_labels::LabelTable;
 use oem_reach::dead_objects;
+use oem_text::Restored;
 use std::alloc::Global;
 use std::marker::Model;
 use std::sync::ledger::Ledger;
@@ -213,6 +217,55 @@ impl Store {
         }
     }
 
+    /// Makes the new database the restored one, each part of which is built once. Where an error is
+    /// answered the database stays new. `GuideNodes` exactly where label paths lead to more sets of
+    /// objects than the restored limit.
+    pub fn restore<L: Ledger>(
+        &mut self,
+        alloc: Global,
+        restored: &Restored,
+        steps: &mut Steps<L>,
+    ) -> Result<(), RestoreFault>
+        requires new { self.old.db ≡ new_database }
+        requires whole { IsWhole restored.now }
+        ensures ok { OnOk result (self.new.db ≡ database_from restored.now) }
+        ensures same { OnErr result (self.new ≡ self.old) }
+        ensures few { OnOk result (¬ HasTooManySets (database_from restored.now)) }
+        ensures nodes { IfErr result (λ fault. fault ≡ restore.GuideNodes
+            → HasTooManySets (database_from restored.now)) }
+    {
+        *self = Store::restored(alloc, restored, steps)?;
+        Ok(())
+    }
+
+    // The store of the restored database.
+    fn restored<L: Ledger>(
+        alloc: Global,
+        restored: &Restored,
+        steps: &mut Steps<L>,
+    ) -> Result<Store, RestoreFault>
+        requires { IsWhole restored.now }
+        ensures ok { IfOk result (λ store. store.db ≡ database_from restored.now) }
+        ensures few { OnOk result (¬ HasTooManySets (database_from restored.now)) }
+        ensures nodes { IfErr result (λ fault. fault ≡ restore.GuideNodes
+            → HasTooManySets (database_from restored.now)) }
+    {
+        let limit = restored.nodes;
+        let changes = &restored.changes;
+        let graph = Graph::restored(alloc, changes, restored.next)?;
+        let guide = Guide::build(alloc, &graph, graph.names(), limit, steps)?;
+        let labels = table_of(alloc, &changes.labels)?;
+        let indexes = Indexes::build(alloc, &graph, &changes.added, steps)?;
+        Ok(Store {
+            graph,
+            labels,
+            indexes,
+            guide,
+            limit,
+            mode: restored.mode,
+        })
+    }
+
     // The objects that no name walks to once the changes are made. Where they link nothing anew
     // there is none, and nothing is searched.
     fn dead<L: Ledger>(
@@ -291,4 +344,15 @@ fn link_nothing(changes: &Changes) -> bool
         && changes.removed.is_empty()
         && changes.named.len() == 0
         && changes.unnamed.is_empty()
+}
+
+// The table of these texts, which are distinct.
+fn table_of(alloc: Global, texts: &TextList) -> Result<LabelTable, NoMemory>
+    requires { AreLabels texts.now }
+    ensures { IfOk result (λ table. table ≡ texts.now) }
+{
+    let mut table = LabelTable::new(alloc);
+    let plan = table.plan_new(texts)?;
+    table.commit_new(plan);
+    Ok(table)
 }

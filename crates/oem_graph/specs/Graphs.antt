@@ -1,5 +1,6 @@
--- A graph with the room that it keeps.
+-- A graph with the room that it keeps, and the graph that changes of nothing make.
 use Rattle.std.specs.Prelude.{ℕ, ◌<◌, ◌^◌, length}
+use Rattle.oem_graph.specs.Types.{Changes}
 use Rattle.lore_base.specs.Databases.{OemGraph, IsOrdered}
 
 -- a graph, and how many more objects and edges it takes in without asking for memory
@@ -12,3 +13,12 @@ pub record RoomyGraph : Type 0 where
 pub record IsIndexable (graph : OemGraph) : Type 0 where
   pub ordered : IsOrdered graph
   pub few_edges : length graph.edges < 2 ^ 32
+
+-- the graph whose names, objects and edges are those that the changes bring, with this next number
+abbrev pub graph_from : Changes → ℕ → OemGraph
+graph_from changes next = record {
+  names = changes.named;
+  objects = changes.made;
+  edges = changes.added;
+  next = next;
+}

@@ -12,6 +12,15 @@ use std::alloc::Global;
 // How many strands are taken out of the added edges before what is left is sorted as any list.
 const STRANDS: u8 = 8;
 
+// A copy of the edges, in the same order.
+pub(crate) fn copied_edges(alloc: Global, edges: &[Edge]) -> Result<EdgeBuf, NoMemory>
+    ensures { IfOk result (λ copy. copy ≡ edges.now) }
+{
+    let mut copy = EdgeBuf::with_capacity(alloc, edges.len())?;
+    copy.append(edges)?;
+    Ok(copy)
+}
+
 // Whether the edges of `more` come behind all that are kept, told by the last of these and the
 // first of those.
 pub(crate) fn come_behind(more: &[Edge], kept: &[Edge]) -> bool

@@ -1,25 +1,25 @@
-ghost use Rattle.std.specs.Prelude.{◌≡◌, ◌↔◌, length, IsTrue, IfOk, OnOk};
+ghost use Rattle.std.specs.Prelude.{◌≡◌, ◌↔◌, length, map, slice_get, IsTrue, IfOk, OnOk};
 ghost use Rattle.lore_base.specs.Names.{object_of};
 ghost use Rattle.lore_base.specs.Databases.{IsWellFormed, AreAscendingObjects, AreAscendingEdges};
 ghost use Rattle.lore_base.specs.Databases.{new_graph};
 ghost use Rattle.lore_base.specs.ChangeSets.{HasChildren, FitsGraph, IsOverlay, IsGraphAfter};
 ghost use Rattle.lore_base.specs.ChangeSets.{AreDead};
-ghost use Rattle.oem_graph.specs.Graphs.{IsIndexable};
+ghost use Rattle.oem_graph.specs.Graphs.{IsIndexable, graph_from};
 ghost use Rattle.oem_graph.specs.Plans.{graph_then, HasRoom, AreEdgeChanges};
 
 use crate::edge_changes::{EdgeChanges, planned_changes};
 use crate::edge_overlay::Overlay;
 use crate::edge_runs::run_of;
-use crate::edge_sets::{fresh_edges, lost_edges};
+use crate::edge_sets::{copied_edges, fresh_edges, lost_edges};
 use crate::edges_then::planned_edges;
 use crate::graph_plan::GraphPlan;
 use crate::graph_then::GraphThen;
-use crate::object_lists::value_in;
+use crate::object_lists::{copied_objects, value_in};
 use crate::objects_then::planned_objects;
 use crate::planned_items::{count_then, make_room, put_in_place};
 use index_traits::{Adjacent, ValueOf};
 use lore_base::{
-    Changes, Edge, EdgeBuf, Names, NoMemory, OemText, Oid, OidBuf, RoomyList, Steps, Value,
+    Changes, Edge, EdgeBuf, Names, NoMemory, OemText, Oid, OidBuf, RoomyList, Steps, TryCopy, Value,
 };
 use std::alloc::Global;
 use std::marker::Model;
@@ -72,6 +72,23 @@ impl Graph {
         }
     }
 
+    /// The graph whose names, objects and edges are copies of those that the changes bring, with
+    /// this next number. Object numbers may have gaps.
+    pub fn restored(alloc: Global, changes: &Changes, next: u64) -> Result<Graph, NoMemory>
+        requires { IsIndexable (graph_from changes.now next) }
+        ensures { IfOk result (λ graph. graph.graph ≡ graph_from changes.now next) }
+    {
+        let names = changes.named.try_copy(alloc)?;
+        let objects = copied_objects(alloc, &changes.made)?;
+        let edges = copied_edges(alloc, changes.added.as_slice())?;
+        Ok(Graph {
+            names,
+            objects: RoomyList::from_items(objects),
+            edges: RoomyList::from_items(edges.into_items()),
+            next,
+        })
+    }
+
     /// The table of names.
     pub fn names(&self) -> &Names
         ensures { result.now ≡ self.now.graph.names }
@@ -92,6 +109,15 @@ impl Graph {
         ensures indexable { IsIndexable self.now.graph }
     {
         self.objects.len() as u32
+    }
+
+    /// The live object at place `i` in ascending order, counted from 0; None exactly where there
+    /// are not so many. Takes no memory and counts no step.
+    pub fn object(&self, i: u32) -> Option<Oid>
+        ensures { result ≡ slice_get (map (λ object. object.0) self.now.graph.objects) i }
+    {
+        let object = self.objects.as_slice().get(i as usize)?;
+        Some(object.0)
     }
 
     /// The number of edges.

@@ -1,7 +1,7 @@
 use lore_base::{EdgeBuf, ObjectList, Oid, TextList};
 
-/// What a literal brings to a database: its objects in the order in which they begin in the text,
-/// its edges in text order, the label texts that the table lacks in the order of their first use,
+/// What a literal, or generated objects, bring to a database: objects in order, those of a literal
+/// as they begin in the text, edges in that order, the label texts that the table lacks in the order of their first use,
 /// and its first object.
 #[derive(Drop)]
 pub struct Part {

@@ -1,4 +1,4 @@
-use crate::sketches::{one, two, whole};
+use crate::sketches::{one, put_text, two, whole};
 use lore_base::{NoMemory, OemText};
 use lorel_trees::Literal;
 use oem_labels::LabelTable;
@@ -68,11 +68,7 @@ fn numbers_end(rt: HostRuntime) -> Result<(), Fail> {
 
 // Numbers the text if no label has it.
 fn put(alloc: Global, table: &mut LabelTable, text: &[u8]) -> Result<(), NoMemory> {
-    let text = OemText::from_bytes(alloc, text)?;
-    if table.len() < 10_000 && table.find(&text).is_none() {
-        table.push(&text)?;
-    }
-    Ok(())
+    put_text(table, &OemText::from_bytes(alloc, text)?)
 }
 
 // A table of so many labels, and before them `label` where asked for.

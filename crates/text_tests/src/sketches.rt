@@ -1,5 +1,6 @@
 use lore_base::{NoMemory, OemText, Value};
 use lorel_trees::{Literal, Member, MemberList};
+use oem_labels::LabelTable;
 use std::alloc::Global;
 
 // An atomic object with a whole number.
@@ -45,4 +46,12 @@ fn put(
 ) -> Result<(), NoMemory> {
     let label = OemText::from_bytes(alloc, label)?;
     members.push(Member { label, literal })
+}
+
+// Numbers the text if no label has it.
+pub(crate) fn put_text(table: &mut LabelTable, text: &OemText) -> Result<(), NoMemory> {
+    if table.len() < 10_000 && table.find(text).is_none() {
+        table.push(text)?;
+    }
+    Ok(())
 }

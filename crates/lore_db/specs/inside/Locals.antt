@@ -9,7 +9,7 @@ use Rattle.lorel_bind.specs.Bound.{BoundTree}
 use Rattle.lorel_bind.specs.SlotRows.{IsSlotRow}
 use Rattle.answers.specs.Asked.{AreTooMany}
 use Rattle.oem_text.specs.Parts.{LocalCause, local_order}
-use Rattle.lore_db.specs.Built.{makes}
+use Rattle.lore_db.specs.Forms.{makes}
 
 -- no local of the literal is wrong
 abbrev pub HasSoundLocals : StatementTree → Type 0

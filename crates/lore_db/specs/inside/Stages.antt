@@ -18,7 +18,7 @@ ReadCause db query refusal = binding.Cause db.graph.names query refusal
 
 -- what a select is refused for before its rows are found, and with them
 abbrev pub bind_order : List Refusal
-bind_order = refusals.Syntax ∷ binding.order
+bind_order = binding.order
 
 abbrev pub read_order : List Refusal
 read_order = bind_order ++ refusals.TooManyRows ∷ []
@@ -38,7 +38,7 @@ abbrev pub change_order : List Refusal
 change_order =
     refusals.NotOne ∷ refusals.AtomicParent ∷ refusals.HasChildren ∷ refusals.OidsSpent ∷ refusals.TooManyLabels
     ∷ refusals.TooManyNames ∷ refusals.TooManyObjects ∷ refusals.TooManyEdges ∷ refusals.GuideNodes
-    ∷ refusals.LimitRange ∷ []
+    ∷ refusals.LimitRange ∷ refusals.NotFresh ∷ refusals.BadRestore ∷ []
 
 -- the changes that make the part and bind the name to its first object
 abbrev pub loading_part : List ℕ → Part → Changes

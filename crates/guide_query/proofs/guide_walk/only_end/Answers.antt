@@ -1,4 +1,4 @@
-use Rattle.std.proofs.Common.{◌≡◌, ◌++◌, ◌∷◌, [], get_or, take, List, Option, true≢false, refl, sym, subst}
+use Rattle.std.proofs.Common.{◌++◌, ◌∷◌, [], get_or, take, List, Option, true≢false, refl, sym, subst}
 use Rattle.std.specs.Prelude.{MatchOption}
 use Rattle.std.proofs.lemmas.List.{take_more}
 use Rattle.guide_query.specs.Types.{Node, StateMarks}

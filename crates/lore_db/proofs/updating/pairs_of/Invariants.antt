@@ -1,6 +1,6 @@
 use Rattle.std.proofs.Common.{◌≡◌, List, map, take}
 use Rattle.lore_db.specs.Types.{Oid}
-use Rattle.lore_db.specs.Statements.{object_cells, pair_of}
+use Rattle.lore_db.specs.Effects.{object_cells, pair_of}
 use Rattle.lore_db.proofs.updating.pairs_of.Given as goal
 
 abbrev pub invariant-rows : goal.invariant-rows

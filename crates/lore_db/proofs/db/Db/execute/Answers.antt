@@ -3,13 +3,14 @@ use Rattle.std.specs.Prelude.{ℤ}
 use Rattle.std.specs.Int.{w64, cast_signed, cast_unsigned}
 use Rattle.std.proofs.lemmas.Int.{to_z-of_z}
 use Rattle.lorel_trees.specs.declared.statements.Statement.{Statement}
-use Rattle.lorel_trees.specs.Trees.{load, bind, unname, select, explain, guide, set_nodes, literal_tree, rooted_tree, select_tree, statement_tree}
+use Rattle.lorel_trees.specs.Trees.{load, bind, unname, select, explain, guide, browse, sample, set_nodes, dump, restore, generate, literal_tree, rooted_tree, select_tree, statement_tree}
 use Rattle.lorel_trees.specs.Sound.{IsSound}
 use Rattle.lorel_trees.proofs.FormLaws.{sound_statement}
 use Rattle.lore_db.specs.Statements.{Executes}
 use Rattle.lore_db.proofs.ShallowLaws.{sound_shallow, explain_shallow}
 use Rattle.lore_db.proofs.ExecutionLaws.{unchanged, replied}
 use Rattle.lore_db.proofs.GuideStatementLaws.{shown, shown_told, limited, limited_told}
+use Rattle.lore_db.proofs.DumpStatementLaws.{dumped, dumped_told}
 use Rattle.lore_db.proofs.db.Db.execute.Goals as goal
 
 pub load-requires-clause-name : goal.load-requires-clause-name
@@ -91,3 +92,58 @@ returns-in-SetNodes-clause-ok g c =
     (replied db after (set_nodes passed) done c.reply_of-in-SetNodes.result c.reply_of-in-SetNodes.ensures
     (limited db after passed done c.set_nodes.ensures.ok c.set_nodes.ensures.limit) c.set_nodes.ensures.same
     (limited_told db after passed done c.set_nodes.ensures.refused)))
+
+pub returns-in-Browse-clause-ok : goal.returns-in-Browse-clause-ok
+returns-in-Browse-clause-ok g c =
+    let db = c.args.self.now in
+    let path = c.in-Browse.path in
+    subst (λ (s : Statement). IfOk c.reply_of-in-Browse.result (λ reply. Executes db (statement_tree s) reply db)) (sym c.in-Browse.is)
+    (replied db db (browse path.start path.labels) c.browse.result c.reply_of-in-Browse.result c.reply_of-in-Browse.ensures c.browse.ensures.ok
+    (unchanged c.browse.result db) c.browse.ensures.refused)
+
+pub returns-in-Sample-clause-ok : goal.returns-in-Sample-clause-ok
+returns-in-Sample-clause-ok g c =
+    let db = c.args.self.now in
+    let path = c.in-Sample.path in
+    let count = c.in-Sample.count in
+    let passed = cast_signed w64 (cast_unsigned w64 count) in
+    let sound = subst (λ (s : Statement). IsSound (statement_tree s)) c.in-Sample.is c.requires in
+    let same = to_z-of_z w64 count (sound_statement (sample path.start path.labels count) sound).2 in
+    subst (λ (s : Statement). IfOk c.reply_of-in-Sample.result (λ reply. Executes db (statement_tree s) reply db)) (sym c.in-Sample.is)
+    (subst (λ (n : ℤ). IfOk c.reply_of-in-Sample.result (λ reply. Executes db (sample path.start path.labels n) reply db)) same
+    (replied db db (sample path.start path.labels passed) c.sample.result c.reply_of-in-Sample.result c.reply_of-in-Sample.ensures c.sample.ensures.ok
+    (unchanged c.sample.result db) c.sample.ensures.refused))
+
+pub returns-in-Dump-clause-ok : goal.returns-in-Dump-clause-ok
+returns-in-Dump-clause-ok g c =
+    let db = c.args.self.now in
+    let done = c.dump.result in
+    subst (λ (s : Statement). IfOk c.reply_of-in-Dump.result (λ reply. Executes db (statement_tree s) reply db)) (sym c.in-Dump.is)
+    (replied db db dump done c.reply_of-in-Dump.result c.reply_of-in-Dump.ensures (dumped db done c.dump.ensures.ok)
+    (unchanged done db) (dumped_told db done c.dump.ensures.unrefused))
+
+pub returns-in-Restore-clause-ok : goal.returns-in-Restore-clause-ok
+returns-in-Restore-clause-ok g c =
+    let db = c.args.self.now in
+    let after = c.restore.new.self in
+    subst (λ (s : Statement). IfOk c.reply_of-in-Restore.result (λ reply. Executes db (statement_tree s) reply after)) (sym c.in-Restore.is)
+    (replied db after (restore c.in-Restore.text) c.restore.result c.reply_of-in-Restore.result c.reply_of-in-Restore.ensures c.restore.ensures.ok
+    c.restore.ensures.same c.restore.ensures.refused)
+
+pub returns-in-Generate-clause-ok : goal.returns-in-Generate-clause-ok
+returns-in-Generate-clause-ok g c =
+    let db = c.args.self.now in
+    let after = c.generate.new.self in
+    let seed = c.in-Generate.seed in
+    let count = c.in-Generate.count in
+    let passed = cast_signed w64 (cast_unsigned w64 seed) in
+    let counted = cast_signed w64 (cast_unsigned w64 count) in
+    let sound = subst (λ (s : Statement). IsSound (statement_tree s)) c.in-Generate.is c.requires in
+    let fits = sound_statement (generate seed count) sound in
+    let same_seed = to_z-of_z w64 seed fits.0 in
+    let same_count = to_z-of_z w64 count fits.1 in
+    subst (λ (s : Statement). IfOk c.reply_of-in-Generate.result (λ reply. Executes db (statement_tree s) reply after)) (sym c.in-Generate.is)
+    (subst (λ (n : ℤ). IfOk c.reply_of-in-Generate.result (λ reply. Executes db (generate n count) reply after)) same_seed
+    (subst (λ (n : ℤ). IfOk c.reply_of-in-Generate.result (λ reply. Executes db (generate passed n) reply after)) same_count
+    (replied db after (generate passed counted) c.generate.result c.reply_of-in-Generate.result c.reply_of-in-Generate.ensures c.generate.ensures.ok
+    c.generate.ensures.same c.generate.ensures.refused)))

@@ -2,7 +2,8 @@ use Rattle.std.proofs.Common.{inl, [], refl, ap, subst, ◌∙◌}
 use Rattle.lore_base.specs.Databases.{OemGraph, Database, IsValid}
 use Rattle.lorel_trees.specs.Trees.{literal_tree, load}
 use Rattle.oem_text.specs.Faults.{text_refusal}
-use Rattle.lore_db.specs.Statements.{loading, Cause, order}
+use Rattle.lore_db.specs.Effects.{loading}
+use Rattle.lore_db.specs.Statements.{Cause, order}
 use Rattle.lore_db.specs.inside.Stops.{told}
 use Rattle.lore_db.proofs.StopLaws.{told_on, told_again}
 use Rattle.lore_db.proofs.LoadLaws.{part_told, part_clear, part_loads}
@@ -31,7 +32,7 @@ apply-requires g c =
     let is = c.in_ok-changes.ensures ∙ part_loads db valid name literal c.labels.result.now c.next-next.result table number c.in_ok-part.part c.in_ok-part.ensures.part in
     let clear = part_clear db valid name literal c.labels.result.now c.next-next.result table number c.in_ok-part.ensures.ok in
     record {
-      fits = changes_fit db (load name literal) [] refl c.in_ok-changes.changes (same_as (loading db name literal) c.in_ok-changes.changes is) clear
+      fits = changes_fit db (load name literal) [] refl c.in_ok-changes.changes (same_as (loading db name literal) c.in_ok-changes.changes is) clear tt
           valid (c.requires.name, c.requires.literal);
     }
 
@@ -47,7 +48,7 @@ returns-in_err-apply-clause-refused g c =
     let clear = part_clear db valid name literal c.labels.result.now c.next-next.result table number c.in_ok-part.ensures.ok in
     told_again (Cause db (load name literal)) order c.from_residual-in_err-apply.result c.in_err-apply.field-0.0 c.from_residual-in_err-apply.ensures.1
     (changes_told db (load name literal) [] refl c.in_ok-changes.changes (same_as (loading db name literal) c.in_ok-changes.changes is) clear
-    refl (told c.in_err-apply.field-0.0) c.in_err-apply.ensures.refused)
+    tt (told c.in_err-apply.field-0.0) c.in_err-apply.ensures.refused)
 
 pub returns-clause-ok : goal.returns-clause-ok
 returns-clause-ok g c =
@@ -60,5 +61,5 @@ returns-clause-ok g c =
     let is = c.in_ok-changes.ensures ∙ part_loads db valid name literal c.labels.result.now c.next-next.result table number c.in_ok-part.part c.in_ok-part.ensures.part in
     let clear = part_clear db valid name literal c.labels.result.now c.next-next.result table number c.in_ok-part.ensures.ok in
     inl (changes_lead db (load name literal) [] refl c.in_ok-changes.changes (same_as (loading db name literal) c.in_ok-changes.changes is) clear
-    refl (λ outside. outside) c.apply.new.self c.counts.result c.in_ok-apply.ensures.clear c.in_ok-apply.ensures.ok
+    tt (λ h. h, (λ h. h, (λ h. h, tt))) c.apply.new.self c.counts.result c.in_ok-apply.ensures.clear c.in_ok-apply.ensures.ok
     c.counts.ensures)

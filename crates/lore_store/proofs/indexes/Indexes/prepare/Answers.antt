@@ -3,7 +3,7 @@ use Rattle.oem_changes.proofs.RootedLaws.{rooted_after}
 use Rattle.oem_graph.specs.Plans.{graph_then}
 use Rattle.value_changes.specs.EntryChanges.{AreEntryChanges}
 use Rattle.lore_store.specs.Indexes.{state_of}
-use Rattle.lore_store.proofs.IndexLaws.{gone_kept, come_new, found_changes, fits_entries, links_same}
+use Rattle.lore_store.proofs.IndexLaws.{gone_kept, come_new, keeps_value, found_changes, fits_entries, links_same}
 use Rattle.lore_store.proofs.indexes.Indexes.prepare.Goals as goal
 
 pub prepare-requires-clause-kept : goal.prepare-requires-clause-kept
@@ -27,7 +27,7 @@ prepare-requires-2 g c =
     let rooted_then = rooted_after graph changes c.requires.rooted.well_formed c.requires.fits then c.requires.after in
     record {
       fits = fits_entries graph then rooted_then c.requires.few c.args.self.now.values.entries c.in_ok-entries.entries.gone c.in_ok-entries.entries.come kept.values
-          (found_changes graph changes then c.requires.after c.args.self.now.links.links c.in_ok-lost.field-0.lost c.in_ok-lost.field-0.fresh kept.links c.in_ok-lost.ensures
+          (found_changes graph then changes.values (keeps_value graph changes then c.requires.after) c.args.self.now.links.links c.in_ok-lost.field-0.lost c.in_ok-lost.field-0.fresh kept.links c.in_ok-lost.ensures
           c.in_ok-entries.entries.gone c.in_ok-entries.entries.come c.requires.rooted rooted_then
           (λ old new objects edges is settled settled_then differ. c.in_ok-entries.ensures old new objects edges (is ∙ sym c.then-then.ensures.objects) settled settled_then
           (rw (c.as_slice.ensures, c.as_slice-2.ensures, c.as_slice-3.ensures) differ)));
@@ -40,7 +40,7 @@ returns g c =
     let then = graph_then graph c.args.plan.now in
     let kept = c.requires.kept in
     let rooted_then = rooted_after graph changes c.requires.rooted.well_formed c.requires.fits then c.requires.after in
-    let found = found_changes graph changes then c.requires.after c.args.self.now.links.links c.in_ok-lost.field-0.lost c.in_ok-lost.field-0.fresh kept.links c.in_ok-lost.ensures
+    let found = found_changes graph then changes.values (keeps_value graph changes then c.requires.after) c.args.self.now.links.links c.in_ok-lost.field-0.lost c.in_ok-lost.field-0.fresh kept.links c.in_ok-lost.ensures
     c.in_ok-entries.entries.gone c.in_ok-entries.entries.come c.requires.rooted rooted_then
     (λ old new objects edges is settled settled_then differ. c.in_ok-entries.ensures old new objects edges (is ∙ sym c.then-then.ensures.objects) settled settled_then
     (rw (c.as_slice.ensures, c.as_slice-2.ensures, c.as_slice-3.ensures) differ)) in

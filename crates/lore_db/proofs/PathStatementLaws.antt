@@ -1,0 +1,71 @@
+-- Label paths as statements: what refuses them, and what the guide of a store tells of a path.
+use Rattle.std.proofs.Common.{◌≡◌, ◌≢◌, inl, inr, ℕ, List, ◌++◌, Some, AllPairs, refl, sym, subst}
+use Rattle.std.specs.Prelude.{ℤ}
+use Rattle.lore_base.specs.Databases.{OemGraph, Database, IsValid}
+use Rattle.lore_base.specs.ChangeSets.{IsBound}
+use Rattle.lore_base.specs.Verdicts.{IsClear, IsToldBy}
+use Rattle.lore_base.proofs.VerdictLaws.{clear_both}
+use Rattle.lorel_trees.specs.Trees as t
+use Rattle.dataguide.specs.Guides.{GuideGraph}
+use Rattle.guide_query.specs.GuideLines.{IsLabelledGuide}
+use Rattle.guide_query.specs.PathLines.{AreBrowseLines, AreSampleLines}
+use Rattle.lore_store.specs.Stores.{IsGuided}
+use Rattle.lore_db.specs.Types.{Oid, Edge}
+use Rattle.lore_db.specs.Types.refusals
+use Rattle.lore_db.specs.Forms.{IsBetween}
+use Rattle.lore_db.specs.Statements.{Cause, order}
+use Rattle.lore_db.specs.inside.Stages.{fit_order}
+use Rattle.lore_db.proofs.OrderLaws.{told_right}
+use Rattle.lore_db.proofs.CauseLaws.{sizes, late}
+use Rattle.lore_db.proofs.QuietLaws.{nothing_before}
+use Rattle.lore_db.proofs.GuideStatementLaws.{shown_guide}
+
+module _ (db : Database) (start : List ℕ) (labels : List (List ℕ)) where
+  -- ---- where it leads
+  pub browse_clear : IsBound db.graph.names start → IsClear (Cause db (t.browse start labels)) order
+  browse_clear bound =
+      clear_both (Cause db (t.browse start labels)) (fit_order ++ sizes) late
+      (nothing_before db (t.browse start labels) (λ h. h) (λ unbound. unbound bound) refl refl) (λ h. h, (λ h. h, (λ h. h, tt)))
+
+  pub browse_told : (IsBound db.graph.names start → ⊥) → IsToldBy (Cause db (t.browse start labels)) order (Some refusals.UnknownName)
+  browse_told unbound = inl (inl unbound, refl)
+
+  -- ---- its first objects
+  module _ (count : ℤ) where
+    sample_before : IsBound db.graph.names start → IsClear (Cause db (t.sample start labels count)) (fit_order ++ sizes)
+    sample_before bound = nothing_before db (t.sample start labels count) (λ h. h) (λ unbound. unbound bound) refl refl
+
+    pub sample_clear : IsBound db.graph.names start → IsBetween 1 100000 count → IsClear (Cause db (t.sample start labels count)) order
+    sample_clear bound within =
+        clear_both (Cause db (t.sample start labels count)) (fit_order ++ sizes) late (sample_before bound)
+        (λ outside. outside within, (λ h. h, (λ h. h, tt)))
+
+    pub sample_unbound : (IsBound db.graph.names start → ⊥) → IsToldBy (Cause db (t.sample start labels count)) order (Some refusals.UnknownName)
+    sample_unbound unbound = inl (inl unbound, refl)
+
+    pub sample_outside : IsBound db.graph.names start → (IsBetween 1 100000 count → ⊥)
+        → IsToldBy (Cause db (t.sample start labels count)) order (Some refusals.LimitRange)
+    sample_outside bound outside =
+        told_right (Cause db (t.sample start labels count)) (fit_order ++ sizes) late (Some refusals.LimitRange) (sample_before bound)
+        (inl (outside, refl))
+
+-- ---- what a store's guide tells, with label texts and a graph that are the database's
+module _ (db : Database) (valid : IsValid db) (guide : GuideGraph) (guided : IsGuided db.graph guide) (start : List ℕ) (path : List (List ℕ))
+    (lines : List (List ℕ)) (labels : List (List ℕ)) (texts : labels ≡ db.labels) where
+  pub browsed : ((names : List (List ℕ × Oid)) (edges : List Edge) → IsLabelledGuide guide labels names edges
+      → AllPairs (λ a b. a ≢ b) labels → AreBrowseLines names edges labels start path lines)
+      → AreBrowseLines db.graph.names db.graph.edges db.labels start path lines
+  browsed gives =
+      let Gives = λ (l : List (List ℕ)). (names : List (List ℕ × Oid)) (edges : List Edge) → IsLabelledGuide guide l names edges
+      → AllPairs (λ a b. a ≢ b) l → AreBrowseLines names edges l start path lines in
+      subst Gives texts gives db.graph.names db.graph.edges (shown_guide db valid guide guided) valid.labels_distinct
+
+  pub sampled : (count : ℕ) (graph : OemGraph) → graph ≡ db.graph
+      → (IsLabelledGuide guide labels graph.names graph.edges → AllPairs (λ a b. a ≢ b) labels
+      → AreSampleLines graph.names graph.objects graph.edges labels start path count lines)
+      → AreSampleLines db.graph.names db.graph.objects db.graph.edges db.labels start path count lines
+  sampled count graph drawn gives =
+      let Gives = λ (l : List (List ℕ)) (g : OemGraph). IsLabelledGuide guide l g.names g.edges → AllPairs (λ a b. a ≢ b) l
+      → AreSampleLines g.names g.objects g.edges l start path count lines in
+      subst (λ (g : OemGraph). Gives db.labels g) drawn (subst (λ (l : List (List ℕ)). Gives l graph) texts gives)
+      (shown_guide db valid guide guided) valid.labels_distinct

@@ -1,0 +1,83 @@
+ghost use Rattle.std.specs.Prelude.{◌≡◌, ◌↔◌, IsTrue, IfOk, IfErr, OnErr};
+ghost use Rattle.lore_base.specs.Databases.{IsWellFormed, new_database};
+ghost use Rattle.lore_base.specs.Verdicts.{IsToldBy};
+ghost use Rattle.lorel_trees.specs.Trees.{restore};
+ghost use Rattle.lore_db.specs.Statements.{Cause, order, Dumps, Executes};
+ghost use Rattle.lore_db.specs.inside.Stops.{told};
+
+use crate::db::Db;
+use crate::replies::Reply;
+use crate::stops::Stop;
+use index_traits::Adjacent;
+use lore_base::limits::NODES;
+use lore_base::{EdgeBuf, Mode, NoMemory, Refusal, Steps};
+use lorel_trees::DumpTree;
+use oem_graph::Graph;
+use oem_text::{dump, read_dump};
+use std::alloc::Global;
+use std::sync::ledger::Ledger;
+
+impl Db {
+    /// The lines of the dump. A step is counted for each object and one for each edge.
+    pub(crate) fn dump<L: Ledger>(&self, alloc: Global, steps: &mut Steps<L>) -> Result<Reply, Stop>
+        ensures ok { IfOk result (λ reply. Dumps self.now reply self.now) }
+        ensures unrefused { IfErr result (λ stop. told stop ≡ None) }
+    {
+        let store = &self.store;
+        let graph = store.graph();
+        let edges = all_edges(alloc, graph, steps)?;
+        let (labels, nodes, mode) = (store.labels(), store.limit(), store.mode());
+        Ok(Reply::Lines(dump(alloc, graph, &edges, labels, nodes, mode)?))
+    }
+
+    /// Fills the new database with what a dump text stands for. Refused are another database than
+    /// the new one, and a text that is the dump of no valid database.
+    pub(crate) fn restore<L: Ledger>(
+        &mut self,
+        alloc: Global,
+        text: &DumpTree,
+        steps: &mut Steps<L>,
+    ) -> Result<Reply, Stop>
+        ensures ok { IfOk result (λ reply. Executes self.old (restore text.now) reply self.new) }
+        ensures same { OnErr result (self.new ≡ self.old) }
+        ensures refused { IfErr result (λ stop.
+            IsToldBy (Cause self.old (restore text.now)) order (told stop)) }
+    {
+        if !self.is_new() {
+            return Err(Stop::Refused(Refusal::NotFresh));
+        }
+        let restored = read_dump(alloc, text)?;
+        self.store.restore(alloc, &restored, steps)?;
+        Ok(self.counts())
+    }
+
+    // Whether this is the new database.
+    fn is_new(&self) -> bool
+        ensures { IsTrue result ↔ self.now ≡ new_database }
+    {
+        let store = &self.store;
+        let graph = store.graph();
+        let nothing = graph.names().len() == 0 && graph.objects() == 0 && graph.edges() == 0;
+        let unset = store.limit() == NODES && store.mode() == Mode::Auto;
+        nothing && unset && graph.next() == 1 && store.labels().len() == 0
+    }
+}
+
+// All edges, in order: those that leave each object.
+fn all_edges<L: Ledger>(
+    alloc: Global,
+    graph: &Graph,
+    steps: &mut Steps<L>,
+) -> Result<EdgeBuf, NoMemory>
+    requires { IsWellFormed graph.now.graph }
+    ensures { IfOk result (λ edges. edges ≡ graph.now.graph.edges) }
+{
+    let mut edges = EdgeBuf::with_capacity(alloc, graph.edges() as usize)?;
+    'objects: for place in 0..graph.objects() {
+        let Some(oid) = graph.object(place) else {
+            unreachable!();
+        };
+        graph.out_edges(oid, &mut edges, steps)?;
+    }
+    Ok(edges)
+}

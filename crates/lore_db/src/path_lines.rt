@@ -1,0 +1,65 @@
+ghost use Rattle.std.specs.Prelude.{◌≡◌, pos, ◌≤◌, IfOk, IfErr, IfSome, IfNone};
+ghost use Rattle.lore_base.specs.Verdicts.{IsToldBy};
+ghost use Rattle.lorel_trees.specs.Trees.{browse, sample};
+ghost use Rattle.lore_db.specs.Forms.{IsBetween};
+ghost use Rattle.lore_db.specs.Statements.{Cause, order, Executes};
+ghost use Rattle.lore_db.specs.inside.Stops.{told};
+
+use crate::db::Db;
+use crate::replies::Reply;
+use crate::stops::Stop;
+use guide_query::{browse_lines, sample_lines};
+use lore_base::Refusal;
+use lorel_trees::LabelPath;
+
+// The most objects that a sample shows.
+const SAMPLED: u32 = 100_000;
+
+impl Db {
+    /// Shows where a label path leads. Refused is one whose start is no name.
+    pub(crate) fn browse(&self, path: &LabelPath) -> Result<Reply, Stop>
+        ensures ok { IfOk result (λ reply.
+            Executes self.now (browse path.now.start path.now.labels) reply self.now) }
+        ensures refused { let tree = browse path.now.start path.now.labels in
+            IfErr result (λ stop. IsToldBy (Cause self.now tree) order (told stop)) }
+    {
+        let store = &self.store;
+        if store.graph().name(&path.start).is_none() {
+            return Err(Stop::Refused(Refusal::UnknownName));
+        }
+        let lines = browse_lines(store.guide(), path, store.labels())?;
+        Ok(Reply::Lines(lines))
+    }
+
+    /// Shows the first objects that a label path leads to, at most so many. Refused are a start that
+    /// is no name, and a number that isn't from 1 to 100,000.
+    pub(crate) fn sample(&self, path: &LabelPath, count: i64) -> Result<Reply, Stop>
+        ensures ok { IfOk result (λ reply.
+            Executes self.now (sample path.now.start path.now.labels count) reply self.now) }
+        ensures refused { let tree = sample path.now.start path.now.labels count in
+            IfErr result (λ stop. IsToldBy (Cause self.now tree) order (told stop)) }
+    {
+        let store = &self.store;
+        let graph = store.graph();
+        if graph.name(&path.start).is_none() {
+            return Err(Stop::Refused(Refusal::UnknownName));
+        }
+        let Some(count) = sample_size(count) else {
+            return Err(Stop::Refused(Refusal::LimitRange));
+        };
+        let lines = sample_lines(store.guide(), graph, path, count, store.labels())?;
+        Ok(Reply::Lines(lines))
+    }
+}
+
+// The number of objects to show at most; None exactly where the number isn't from 1 to 100,000.
+fn sample_size(count: i64) -> Option<u32>
+    ensures some { IfSome result (λ size. (count ≡ pos size) × (1 ≤ size) × (size ≤ 100000)) }
+    ensures none { IfNone result (¬ IsBetween 1 100000 count) }
+{
+    let size = u32::try_from(count).ok()?;
+    if size < 1 || size > SAMPLED {
+        return None;
+    }
+    Some(size)
+}

@@ -1,0 +1,125 @@
+-- Restored databases: what a graph has in place of the new one, and that the store of one is whole.
+use Rattle.std.proofs.Common.{◌≡◌, ℕ, ◌+◌, ◌<◌, ◌^◌, List, [], length, refl, sym, ap, subst, ◌∙◌, arith}
+use Rattle.lore_base.specs.declared.edges.Oid.{Oid}
+use Rattle.lore_base.specs.declared.edges.Edge.{Edge}
+use Rattle.lore_base.specs.TargetSets.{AreMoreThan}
+use Rattle.lore_base.specs.Databases.{OemGraph, Database, IsValid, IsRooted, AreAscendingEdges, new_graph, new_database}
+use Rattle.lore_base.proofs.MemberLaws.{Contains-none}
+use Rattle.oem_changes.proofs.ValidLaws.{rooted_graph}
+use Rattle.oem_labels.specs.Labels.{AreLabels, first_uses}
+use Rattle.oem_labels.proofs.TextSetLaws.{first_uses-apart}
+use Rattle.oem_graph.specs.Graphs.{IsIndexable}
+use Rattle.oem_graph.specs.Plans.{AreEdgeChanges}
+use Rattle.oem_text.specs.Restores.{IsRestorable}
+use Rattle.index_traits.specs.declared.entries.ValueEntry.{ValueEntry}
+use Rattle.index_traits.specs.Entries.{AreLinks}
+use Rattle.value_changes.specs.EntryChanges.{State, IsSettled, AreGraphChanges, AreEntryChanges}
+use Rattle.dataguide.specs.declared.faults.GuideFault.{GuideFault}
+use Rattle.dataguide.specs.declared.faults.GuideFault.TheVariants as guides
+use Rattle.dataguide.specs.Guides.{GuideGraph, StandsFor, sets_of}
+use Rattle.dataguide.specs.PathOrder.{AreInPathOrder}
+use Rattle.lore_store.specs.declared.faults.RestoreFault.TheVariants as restore
+use Rattle.lore_store.specs.Faults.{guide_restore_fault}
+use Rattle.lore_store.specs.declared.indexes.Indexes.{Indexes}
+use Rattle.lore_store.specs.Indexes.{AreIndexes, state_of}
+use Rattle.lore_store.specs.Stores.{IsStored, IsGuided, HasTooManySets, database_of}
+use Rattle.lore_store.proofs.NewLaws.{new_valid}
+use Rattle.lore_store.proofs.IndexLaws.{KeepValues, found_changes}
+
+-- the new graph is rooted, and no object of it loses a value
+pub new_rooted : IsRooted new_graph
+new_rooted = rooted_graph new_database new_valid
+
+pub new_keeps : (after : OemGraph) → KeepValues new_graph after []
+new_keeps after oid value there live = absurd (Contains-none (oid, value) there)
+
+none_ascend : AreAscendingEdges []
+none_ascend = λ i j d low within. absurd (omega (arith, within))
+
+-- of the new graph no edge is lost, and all edges are fresh
+module _ (graph : OemGraph) (rooted : IsRooted graph) (lost fresh : List Edge) (none : lost ≡ []) (all : fresh ≡ graph.edges) where
+  pub first_edges : AreEdgeChanges [] graph.edges lost fresh
+  first_edges = rw (none, all) (record {
+    lost_ascend = none_ascend;
+    lost_exact = λ edge. (λ at. absurd (Contains-none edge at), λ only. absurd (Contains-none edge only.0));
+    fresh_ascend = rooted.well_formed.ordered.edges_ascend;
+    fresh_exact = λ edge. (λ at. (at, Contains-none edge), λ only. only.0);
+  })
+
+-- and its value entries come, as they are found over links of no edge
+module _ (graph : OemGraph) (rooted : IsRooted graph) (links fresh : List Edge) (stands : AreLinks [] links) (all : fresh ≡ graph.edges) where
+  pub first_entries : (gone come : List ValueEntry)
+      → ((old new : State) → old.objects ≡ [] → old.edges ≡ links → new.objects ≡ graph.objects → IsSettled old → IsSettled new
+      → AreGraphChanges old new [] fresh [] → AreEntryChanges old new gone come)
+      → AreEntryChanges (state_of new_graph) (state_of graph) gone come
+  first_entries gone come found =
+      found_changes new_graph graph [] (new_keeps graph) links [] fresh stands (first_edges graph rooted [] fresh refl all) gone come new_rooted rooted found
+
+-- distinct texts all come to a table of none
+module _ (table texts : List (List ℕ)) (none : table ≡ []) (labels : AreLabels texts) where
+  pub all_come : first_uses table texts ≡ texts
+  all_come = subst (λ (t : List (List ℕ)). first_uses t texts ≡ texts) (sym none) (first_uses-apart [] texts labels.distinct)
+
+  pub all_fit : length table + length (first_uses table texts) < 2 ^ 32
+  all_fit =
+      let come = ap length all_come in
+      let nothing = ap length none in
+      omega (arith, come, nothing, labels.few)
+
+-- what the guide is said to be of the parts of a graph that is kept is so of the graph
+module _ (names : List (List ℕ × Oid)) (kept graph : OemGraph) (named : names ≡ kept.names) (is : kept ≡ graph) where
+  names_are : names ≡ graph.names
+  names_are = named ∙ ap (λ (g : OemGraph). g.names) is
+
+  edges_are : kept.edges ≡ graph.edges
+  edges_are = ap (λ (g : OemGraph). g.edges) is
+
+  pub built_guide : (guide : GuideGraph) → StandsFor guide names kept.edges → AreInPathOrder names kept.edges (sets_of guide.nodes)
+      → IsGuided graph guide
+  built_guide guide stands order = record {
+    stands = rw (names_are, edges_are) at stands;
+    order = rw (names_are, edges_are) at order;
+  }
+
+  pub built_few : (limit : ℕ) → (AreMoreThan limit names kept.edges → ⊥) → AreMoreThan limit graph.names graph.edges → ⊥
+  built_few limit few = rw (names_are, edges_are) at few
+
+  pub built_many : (limit : ℕ) → AreMoreThan limit names kept.edges → AreMoreThan limit graph.names graph.edges
+  built_many limit many = rw (names_are, edges_are) at many
+
+-- a fault of the guide that is one of too many nodes was one of them
+pub too_many_nodes : (error : GuideFault) → guide_restore_fault error ≡ restore.GuideNodes → error ≡ guides.Nodes
+too_many_nodes guides.Nodes same = refl
+too_many_nodes guides.NoMemory same = cc
+
+module _ (db : Database) (sound : IsRestorable db) where
+  pub restored_indexable : IsIndexable db.graph
+  restored_indexable = record { ordered = sound.rooted.well_formed.ordered; few_edges = omega (arith, sound.few_edges) }
+
+  pub restored_labels : AreLabels db.labels
+  restored_labels = record { distinct = sound.labels_distinct; few = omega (arith, sound.few_labels) }
+
+  -- where label paths lead to few sets the database is valid
+  pub restored_valid : (HasTooManySets db → ⊥) → IsValid db
+  restored_valid few = record {
+    labels_distinct = sound.labels_distinct;
+    labels_formed = sound.labels_formed;
+    well_formed = sound.rooted.well_formed;
+    labelled = sound.labelled;
+    reached = sound.rooted.reached;
+    few_labels = sound.few_labels;
+    few_names = sound.few_names;
+    few_objects = sound.few_objects;
+    few_edges = sound.few_edges;
+    nodes_limited = sound.nodes_limited;
+    few_sets = few;
+  }
+
+  -- and a store of it is whole
+  pub restored_stored : (labels : List (List ℕ)) (graph : OemGraph) (kept : Indexes) (guide : GuideGraph) → labels ≡ db.labels
+      → graph ≡ db.graph → AreIndexes graph kept → IsGuided db.graph guide → (HasTooManySets db → ⊥)
+      → IsStored (database_of labels graph db.nodes db.mode) kept guide
+  restored_stored labels graph kept guide labels_are is indexes guided few =
+      subst (λ (l : List (List ℕ)). IsStored (database_of l graph db.nodes db.mode) kept guide) (sym labels_are)
+      (subst (λ (g : OemGraph). AreIndexes g kept → IsStored (database_of db.labels g db.nodes db.mode) kept guide) (sym is)
+      (λ stand. record { valid = restored_valid few; indexes = stand; guided = guided }) indexes)

@@ -1,0 +1,42 @@
+use Rattle.std.proofs.Common.{sym, ap, ◌∙◌}
+use Rattle.std.proofs.lemmas.Result.{err_from_is_err_and}
+use Rattle.lore_base.specs.Databases.{OemGraph}
+use Rattle.oem_text.specs.Restores.{database_from}
+use Rattle.lore_store.proofs.RestoredLaws.{restored_indexable, restored_labels, restored_stored, built_guide, built_few, built_many, too_many_nodes}
+use Rattle.lore_store.proofs.store.Store.restored.Goals as goal
+
+pub restored-requires : goal.restored-requires
+restored-requires g c = restored_indexable (database_from c.args.restored.now) c.requires.sound
+
+pub table_of-requires : goal.table_of-requires
+table_of-requires g c = restored_labels (database_from c.args.restored.now) c.requires.sound
+
+pub build-requires-2 : goal.build-requires-2
+build-requires-2 g c = record {
+  rooted = rw c.in_ok-graph.ensures c.requires.sound.rooted;
+  edges = sym (ap (λ (g : OemGraph). g.edges) c.in_ok-graph.ensures);
+  few = c.requires.sound.few_edges;
+}
+
+pub invariant_of-result : goal.invariant_of-result
+invariant_of-result g c =
+    let db = database_from c.args.restored.now in
+    let graph = c.in_ok-graph.graph.graph in
+    let names = c.names.result.now in
+    restored_stored db c.requires.sound c.in_ok-labels.labels graph c.in_ok-indexes.indexes c.in_ok-guide.guide
+    c.in_ok-labels.ensures c.in_ok-graph.ensures c.in_ok-indexes.ensures
+    (built_guide names graph db.graph c.names.ensures c.in_ok-graph.ensures c.in_ok-guide.guide c.in_ok-guide.ensures.guide c.in_ok-guide.ensures.order)
+    (built_few names graph db.graph c.names.ensures c.in_ok-graph.ensures db.nodes c.in_ok-guide.ensures.few)
+
+pub returns-clause-few : goal.returns-clause-few
+returns-clause-few g c =
+    let db = database_from c.args.restored.now in
+    built_few c.names.result.now c.in_ok-graph.graph.graph db.graph c.names.ensures c.in_ok-graph.ensures db.nodes c.in_ok-guide.ensures.few
+
+pub returns-in_err-guide-clause-nodes : goal.returns-in_err-guide-clause-nodes
+returns-in_err-guide-clause-nodes g c =
+    let db = database_from c.args.restored.now in
+    let answered = err_from_is_err_and c.from_residual-in_err-guide.result c.from_residual-in_err-guide.ensures.1 in
+    rw answered.1
+    (λ same. built_many c.names.result.now c.in_ok-graph.graph.graph db.graph c.names.ensures c.in_ok-graph.ensures db.nodes
+    (c.in_err-guide.ensures.full (too_many_nodes c.in_err-guide.field-0.0 (sym answered.2 ∙ same))))
