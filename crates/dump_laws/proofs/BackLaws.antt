@@ -15,8 +15,8 @@ use Rattle.lorel_trees.specs.Tokens.{HasTokens}
 use Rattle.lorel_trees.proofs.FormLaws.{formed_all}
 use Rattle.lorel_ast.specs.Printing.{print_dump, print_statement}
 use Rattle.lorel_ast.proofs.PrintFormLaws.{statement_printed}
-use Rattle.oem_text.specs.Dumps.{dump_tree}
-use Rattle.oem_text.specs.Restores.{IsRestorable}
+use Rattle.dump_text.specs.Dumps.{dump_tree}
+use Rattle.dump_text.specs.Restores.{IsRestorable}
 use Rattle.dump_laws.proofs.FormedLaws.{formed_dump}
 use Rattle.dump_laws.proofs.DerivedLaws.{dump_derived}
 use Rattle.dump_laws.proofs.LineLaws.{blank_before, token, dump_written}

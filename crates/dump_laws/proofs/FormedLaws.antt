@@ -9,8 +9,8 @@ use Rattle.dump_laws.specs.Types.{Oid, Edge, Value, Complex}
 use Rattle.lore_base.specs.Names.{IsLabel}
 use Rattle.lore_base.specs.Databases.{Database, OemGraph, IsLive, IsLinked, IsWellFormed}
 use Rattle.lorel_trees.specs.Formed.{IsLocalNumber, IsFormedEdge, IsFormedDump}
-use Rattle.oem_text.specs.Dumps.{text_of, spelled_edge, dump_tree}
-use Rattle.oem_text.specs.Restores.{IsRestorable}
+use Rattle.dump_text.specs.Dumps.{text_of, spelled_edge, dump_tree}
+use Rattle.dump_text.specs.Restores.{IsRestorable}
 
 fits : (number : ℕ) → number ≤ 4294967296 → FitsSigned w64 (pos number)
 fits number small = record { sfits = omega arith }

@@ -16,7 +16,7 @@ use Rattle.lorel_trees.specs.Repetitions.{spell_each}
 use Rattle.lorel_trees.specs.Literals.{spell_value}
 use Rattle.lorel_trees.specs.Statements.{spell_mode, spell_oid, spell_dump_object, spell_dump_objects}
 use Rattle.lorel_ast.specs.Printing.{label_token, print_label, print_dump_labels, print_dump_name, print_dump_names, print_dump_edge, print_dump_edges, print_dump}
-use Rattle.oem_text.specs.Dumps.{line_of, oid_text, mode_text, label_line, name_line, object_line, edge_line, dump_lines}
+use Rattle.dump_text.specs.Dumps.{line_of, oid_text, mode_text, label_line, name_line, object_line, edge_line, dump_lines}
 
 -- a blank byte before written tokens
 pub blank_before : (blank : ℕ) (kinds : List Kind) (bytes : List ℕ) → is_blank blank ≡ true → AreWritten kinds bytes → AreWritten kinds (blank ∷ bytes)

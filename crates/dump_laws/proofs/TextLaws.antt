@@ -21,8 +21,8 @@ use Rattle.lorel_trees.specs.Repetitions.{spell_each}
 use Rattle.lorel_trees.specs.Literals.{spell_value}
 use Rattle.lorel_trees.specs.Statements.{spell_mode, spell_dump_object, spell_dump_objects}
 use Rattle.lorel_ast.specs.Printing.{label_token, print_label, print_dump_labels, print_dump_name, print_dump_names, print_dump_edge, print_dump_edges, print_dump}
-use Rattle.oem_text.specs.Dumps.{spelled_edge, dump_tree}
-use Rattle.oem_text.specs.Restores.{IsRestorable}
+use Rattle.dump_text.specs.Dumps.{spelled_edge, dump_tree}
+use Rattle.dump_text.specs.Restores.{IsRestorable}
 use Rattle.dump_laws.proofs.FormedLaws.{text_among}
 
 -- identifiers

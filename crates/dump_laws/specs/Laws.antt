@@ -11,8 +11,8 @@ use Rattle.lorel_trees.specs.Grammar.{DumpText}
 use Rattle.lorel_trees.specs.Statements.{spell_dump_text, tree_dump_text}
 use Rattle.lorel_trees.specs.Tokens.{HasTokens}
 use Rattle.lorel_trees.specs.Sound.{IsSoundDump}
-use Rattle.oem_text.specs.Dumps.{dump_tree, dump_lines}
-use Rattle.oem_text.specs.Restores.{IsRestorable}
+use Rattle.dump_text.specs.Dumps.{dump_tree, dump_lines}
+use Rattle.dump_text.specs.Restores.{IsRestorable}
 
 -- a value is UTF-8 where it is a text
 abbrev pub IsText : Value → Type 0

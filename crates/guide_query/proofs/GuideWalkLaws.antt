@@ -145,9 +145,6 @@ members-added nodes node set old Is is has oid = (
 )
 
 -- ---- a node that alone is met at the end
-pub none-first : NoneEnds []
-none-first node met = IsMet-none HasState (node, END) met
-
 pub none-so-far : (places : List (Node × StateMarks)) (only : Option Node) → false ≡ is_some only
     → MatchOption only (NoneEnds places) (IsOnlyEnd places) → NoneEnds places
 none-so-far places None is none = none

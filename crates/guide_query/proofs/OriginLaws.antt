@@ -1,21 +1,15 @@
 -- Where nodes are mentioned first, as the reading goes on.
-use Rattle.std.proofs.Common.{◌≡◌, ℕ, ◌+◌, ◌≤◌, ◌==◌, Bool, true, false, inl, inr, zero, suc, List, length}
-use Rattle.std.proofs.Common.{Option, Some, refl, sym, ap, ◌∙◌, subst, arith, replicate}
+use Rattle.std.proofs.Common.{◌≡◌, ℕ, ◌+◌, ◌≤◌, ◌==◌, Bool, true, false, inl, inr, List, length}
+use Rattle.std.proofs.Common.{Option, Some, refl, sym, ap, ◌∙◌, subst, arith}
 use Rattle.std.specs.List.{slice_get}
 use Rattle.std.specs.Prelude.{option_and_then}
 use Rattle.std.proofs.lemmas.Bool.{cases_lt}
 use Rattle.std.proofs.lemmas.Bool.Decides.{nat_tests}
-use Rattle.std.proofs.lemmas.List.{length-replicate}
 use Rattle.std.proofs.lemmas.Option.{slice_get_within}
 use Rattle.dataguide.specs.Guides.{GuideGraph, edge_at, node_number}
 use Rattle.guide_query.specs.Types.{Label, Node, GuideNode, Origin, Unmet, Named, Step}
 use Rattle.guide_query.specs.inside.Origins.{Reading, IsRead, HasRow, IsUnnamed, IsUnled, IsOrigin, AreOrigins}
 use Rattle.guide_query.specs.inside.Origins.{first_of}
-
-replicate-at : {X : Type 0} (n k : ℕ) (x y : X) → slice_get (replicate n x) k ≡ Some y → x ≡ y
-replicate-at zero k x y at = cc
-replicate-at (suc n) zero x y at = cc
-replicate-at (suc n) (suc k) x y at = replicate-at n k x y at
 
 other_number : (a b : ℕ) → (a == b) ≡ false → b ≡ a → ⊥
 other_number a b apart same = grind (arith, nat_tests)
@@ -42,22 +36,6 @@ row-at nodes node row has place =
     ∙ ap (λ (r : List (Label × Node)). slice_get r place) has.2
 
 module _ (guide : GuideGraph) where
-  -- before the reading begins no node is mentioned
-  pub origins-start : (n : ℕ) → n ≡ length guide.nodes
-      → AreOrigins guide (record { entries = 0; nodes = 0; edges = 0 }) (replicate n Unmet)
-  origins-start n same = record {
-    long = length-replicate n Unmet ∙ same;
-    each = λ k origin at.
-        subst (λ (o : Origin). IsOrigin guide (record { entries = 0; nodes = 0; edges = 0 }) (node_number k) o)
-        (replicate-at n k Unmet origin at) (
-          λ place name less named. absurd (omega (arith, less)),
-          λ from place label read edge. elim read [
-            | inl less ↦ absurd (omega (arith, less))
-            | inr here ↦ absurd (omega (arith, here.1))
-          ],
-        );
-  }
-
   -- what a mention notes of each origin
   abbrev pub IsNoted : Node → Origin → List Origin → List Origin → Type 0
   IsNoted node origin old new =

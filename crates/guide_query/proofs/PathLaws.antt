@@ -1,5 +1,5 @@
 -- The node that a label path leads to has the path's target set.
-use Rattle.std.proofs.Common.{◌≡◌, ◌≢◌, ◌↔◌, ℕ, inl, inr, List, [], ◌∷◌, length, Option, Some, None, true, Equal, Less, Greater}
+use Rattle.std.proofs.Common.{◌≡◌, ◌↔◌, ℕ, inl, inr, List, [], ◌∷◌, length, Option, Some, None, true, Equal, Less, Greater}
 use Rattle.std.proofs.Common.{◌+◌, ◌<◌, drop, get_or, Contains, refl, sym, ap, ◌∙◌, subst, true≢false}
 use Rattle.std.specs.Prelude.{IfSome, IfNone, IsSome}
 use Rattle.std.specs.List.{slice_get}
@@ -92,11 +92,6 @@ module _ (guide : GuideGraph) (labels : List (List ℕ)) (names : List (List ℕ
       step-node names edges guide stands led.0.name led.1.start led.1.named led.0.word label set oid led.1.target
       there in
       none next.0 (step-edge names edges guide stands node next.0 set (step_of edges set label) label has next.1 step)
-
-  -- no label has the text
-  pub no_child : (set : List Oid) (text : List ℕ) → ((label : Label) → slice_get labels label.0 ≢ Some text)
-      → IsNodeOf guide.nodes (LeavesBy edges labels set text) None
-  no_child set text none = λ oid by. none by.0 by.1
 
   -- ---- along the texts of a path
   first_step : (set : List Oid) (text : List ℕ) (texts : List (List ℕ)) (oid : Oid)

@@ -17,7 +17,8 @@ use Rattle.guide_laws.proofs.StepLaws.{step_of, step_is}
 use Rattle.guide_query.specs.Types.{Oid, Label, Edge, Node, GuideNode, Value}
 use Rattle.guide_query.specs.GuideLines.{path_text, size_text}
 use Rattle.guide_query.specs.PathLines.{IsWalkedTo, IsSetOfPath, AreLabelsOf, IsLabelLine, AreBrowseLines}
-use Rattle.guide_query.specs.PathLines.{object_text, AreSampleLines}
+use Rattle.guide_query.specs.PathLines.{AreSampleLines}
+use Rattle.guide_query.specs.PrintedObjects.{object_text}
 use Rattle.guide_query.specs.inside.Written.{size_at, step_text}
 use Rattle.guide_query.specs.inside.PathNodes.{IsReadable, IsNodeOf, set_at, edges_of, row_at, edge_line}
 use Rattle.guide_query.proofs.TellsLaws.{step-node}

@@ -8,7 +8,7 @@ use Rattle.std.proofs.lemmas.Cmp.{nat_eq_equiv}
 use Rattle.std.proofs.lemmas.List.{length-map, get_or-map}
 use Rattle.std.proofs.lemmas.Map.Views.{Contains-from_lookup, IsSome-lookup_from_Contains, exact_unsigned_eq}
 use Rattle.guide_query.specs.Types.{Oid, Value, Complex}
-use Rattle.guide_query.specs.PathLines.{value_of}
+use Rattle.guide_query.specs.PrintedObjects.{value_of}
 
 abbrev same_oid : Oid → Oid → Bool
 same_oid oid other = other.0 == oid.0

@@ -1,14 +1,13 @@
 -- The lines that show a label path (Goldman and Widom 1997, browsing and sample values): how many objects it leads to and
 -- where it goes on from there, or the first of these objects.
-use Rattle.std.specs.Prelude.{◌≡◌, ◌↔◌, ℕ, ◌<◌, ◌==◌, List, [], ◌∷◌, ◌++◌, length, map, take, codes, decimal}
-use Rattle.std.specs.Prelude.{Some, unwrap_or, slice_get, AllPairs, Contains}
+use Rattle.std.specs.Prelude.{◌≡◌, ◌↔◌, ℕ, ◌<◌, List, [], ◌∷◌, ◌++◌, length, map, take, codes, decimal}
+use Rattle.std.specs.Prelude.{Some, slice_get, AllPairs, Contains}
 use Rattle.std.specs.List.{AllZip}
-use Rattle.std.specs.Map.{lookup}
-use Rattle.lore_base.specs.Printed.{printed}
 use Rattle.lore_base.specs.TargetSets.{ListsInOrder, HasTexts, LeavesTo, IsStep}
 use Rattle.lore_base.specs.Walks.{Walk}
-use Rattle.guide_query.specs.Types.{Oid, Label, Edge, Value, Complex}
+use Rattle.guide_query.specs.Types.{Oid, Label, Edge, Value}
 use Rattle.guide_query.specs.GuideLines.{label_text, path_text, size_text}
+use Rattle.guide_query.specs.PrintedObjects.{object_text}
 
 -- the object is walked to from the named one along labels with these texts
 abbrev pub IsWalkedTo : List (List ℕ × Oid) → List Edge → List (List ℕ) → List ℕ → List (List ℕ) → Oid → Type 0
@@ -49,14 +48,6 @@ pub record AreBrowseLines (names : List (List ℕ × Oid)) (edges : List Edge) (
       ∷ label_lines ++ (codes "labels " ++ decimal (length leaving)) ∷ []
 
 -- Samples.
-
--- the value of an object, which is live where it is shown
-abbrev pub value_of : List (Oid × Value) → Oid → Value
-value_of objects oid = unwrap_or (lookup (λ other. other.0 == oid.0) objects) Complex
-
--- an object: `&`, its number, a space and its value
-abbrev pub object_text : List (Oid × Value) → Oid → List ℕ
-object_text objects oid = codes "&" ++ decimal oid.0 ++ codes " " ++ printed (value_of objects oid)
 
 -- the first objects of the path's target set, at most so many, and how many they are of how many
 pub record AreSampleLines (names : List (List ℕ × Oid)) (objects : List (Oid × Value)) (edges : List Edge)

@@ -1,4 +1,5 @@
-ghost use Rattle.std.specs.Prelude.{◌≡◌, ◌≢◌, ℕ, List, ◌++◌, codes, decimal, map, AllPairs, IfOk, OnOk, ◌∷◌};
+ghost use Rattle.std.specs.Prelude.{◌≡◌, ◌≢◌, ℕ, List, ◌∷◌, ◌++◌, codes, decimal, map, AllPairs};
+ghost use Rattle.std.specs.Prelude.{IfOk, OnOk};
 ghost use Rattle.std.specs.List.{flat_map};
 ghost use Rattle.guide_query.specs.Types.{Oid as TheOid, Edge as TheEdge};
 ghost use Rattle.guide_query.specs.GuideLines.{IsLabelledGuide, label_text, path_text, size_text};

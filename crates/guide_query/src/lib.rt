@@ -1,7 +1,8 @@
-//! What a guide alone tells: its nodes as lines, each with the least label path that leads there, the
-//! lines that show where a label path leads, and what paths reach from named objects.
+//! What a guide tells: its nodes as lines, each with the least label path that leads there, the lines
+//! that show where a label path leads, those that show a sample of its objects, and what paths reach
+//! from named objects.
 //!
-//! No edge of the graph is read.
+//! No edge of the graph is read; for a sample alone the values of its objects are looked up.
 #![tactic(auto)]
 
 pub use browsing::browse_lines;

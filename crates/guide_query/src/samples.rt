@@ -1,7 +1,10 @@
-ghost use Rattle.std.specs.Prelude.{◌≡◌, ◌≢◌, ◌++◌, map, codes, decimal, AllPairs, IfOk, OnOk};
+ghost use Rattle.std.specs.Prelude.{◌≡◌, ◌≢◌, ℕ, List, ◌++◌, map, codes, decimal, AllPairs};
+ghost use Rattle.std.specs.Prelude.{IfOk, OnOk};
 ghost use Rattle.lore_base.specs.Printed.{printed};
+ghost use Rattle.guide_query.specs.Types.{Oid as TheOid, Edge as TheEdge};
 ghost use Rattle.guide_query.specs.GuideLines.{IsLabelledGuide};
-ghost use Rattle.guide_query.specs.PathLines.{value_of, object_text, AreSampleLines};
+ghost use Rattle.guide_query.specs.PathLines.{AreSampleLines};
+ghost use Rattle.guide_query.specs.PrintedObjects.{value_of, object_text};
 
 use crate::label_writer::put;
 use crate::path_nodes::{node_of, set_at};
@@ -11,7 +14,6 @@ use itoa::Buffer;
 use lore_base::{NoMemory, OemText, Oid, Out, TextList, Value};
 use lorel_trees::LabelPath;
 use oem_atom::print_value;
-use oem_graph::Graph;
 use oem_labels::LabelTable;
 use std::alloc::Global;
 
@@ -19,25 +21,24 @@ use std::alloc::Global;
 /// line ends: for each `&`, its number, a space and its value; then `sample`, how many these are,
 /// `of` and the size of the set.
 ///
-/// A path that leads nowhere has size 0. The guide is that of the graph, and its labels are
-/// distinct. No edge of the graph is read.
-pub fn sample_lines(
+/// A path that leads nowhere has size 0. The guide is that of the database, its labels are distinct,
+/// and the values are those of its objects. No edge of the graph is read.
+pub fn sample_lines<V: ValueOf>(
     guide: &Guide,
-    graph: &Graph,
+    values: &V,
     path: &LabelPath,
     count: u32,
     labels: &LabelTable,
 ) -> Result<TextList, NoMemory>
-    ensures { let whole = graph.now.graph in IfOk result (λ lines.
-        IsLabelledGuide guide.now labels.now whole.names whole.edges
-        → AllPairs (λ a b. a ≢ b) labels.now
-        → AreSampleLines whole.names whole.objects whole.edges labels.now
+    ensures { IfOk result (λ lines. (names : List (List ℕ × TheOid)) (edges : List TheEdge)
+        → IsLabelledGuide guide.now labels.now names edges → AllPairs (λ a b. a ≢ b) labels.now
+        → AreSampleLines names (V.objects values.now) edges labels.now
         path.now.start path.now.labels count lines) }
 {
     let alloc = guide.allocator();
     let set = set_at(guide, node_of(guide, labels, path));
     let shown = set.len().min(count as usize);
-    let mut lines = object_lines(alloc, graph, &set[..shown])?;
+    let mut lines = object_lines(alloc, values, &set[..shown])?;
     lines.push(sample_line(alloc, shown, set.len())?)?;
     Ok(lines)
 }
@@ -50,32 +51,31 @@ fn put_value(text: &mut OemText, value: &Value) -> Result<(), NoMemory>
 }
 
 // Puts the value of an object behind the text. One that isn't live is printed as a complex one.
-fn put_value_of(text: &mut OemText, graph: &Graph, oid: Oid) -> Result<(), NoMemory>
+fn put_value_of<V: ValueOf>(text: &mut OemText, values: &V, oid: Oid) -> Result<(), NoMemory>
     ensures { OnOk result
-        (text.new ≡ text.old ++ printed (value_of graph.now.graph.objects oid)) }
+        (text.new ≡ text.old ++ printed (value_of (V.objects values.now) oid)) }
 {
-    put_value(text, graph.value_of(oid).unwrap_or(&Value::Complex))
+    put_value(text, values.value_of(oid).unwrap_or(&Value::Complex))
 }
 
 // The line of an object.
-fn object_line(alloc: Global, graph: &Graph, oid: Oid) -> Result<OemText, NoMemory>
-    ensures { IfOk result (λ line. line ≡ object_text graph.now.graph.objects oid) }
+fn object_line<V: ValueOf>(alloc: Global, values: &V, oid: Oid) -> Result<OemText, NoMemory>
+    ensures { IfOk result (λ line. line ≡ object_text (V.objects values.now) oid) }
 {
     let mut line = OemText::from_bytes(alloc, b"&")?;
     line.put(Buffer::new().format(oid.0).as_bytes())?;
     line.put(b" ")?;
-    put_value_of(&mut line, graph, oid)?;
+    put_value_of(&mut line, values, oid)?;
     Ok(line)
 }
 
 // A line for each object.
-fn object_lines(alloc: Global, graph: &Graph, oids: &[Oid]) -> Result<TextList, NoMemory>
-    ensures { IfOk result (λ lines.
-        lines ≡ map (object_text graph.now.graph.objects) oids.now) }
+fn object_lines<V: ValueOf>(alloc: Global, values: &V, oids: &[Oid]) -> Result<TextList, NoMemory>
+    ensures { IfOk result (λ lines. lines ≡ map (object_text (V.objects values.now)) oids.now) }
 {
     let mut lines = TextList::with_capacity(alloc, oids.len().saturating_add(1))?;
     'oids: for oid in oids {
-        lines.push(object_line(alloc, graph, *oid)?)?;
+        lines.push(object_line(alloc, values, *oid)?)?;
     }
     Ok(lines)
 }

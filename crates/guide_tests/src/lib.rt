@@ -5,8 +5,6 @@
 #[cfg(test)]
 mod bits;
 #[cfg(test)]
-mod graphs;
-#[cfg(test)]
 mod guides;
 #[cfg(test)]
 mod lines;
@@ -20,3 +18,5 @@ mod paths;
 mod sets;
 #[cfg(test)]
 mod shapes;
+#[cfg(test)]
+mod values;

@@ -1,11 +1,10 @@
-use crate::graphs::{guide_to, varied};
 use crate::lines::{joined, table_of};
 use crate::shapes::{NAMELESS, RESTAURANTS, RING, Shape, TWO_NAMES, guide_of};
+use crate::values::{Three, varied};
 use dataguide::{Guide, GuideFault};
 use guide_query::{browse_lines, sample_lines};
 use lore_base::{NoMemory, OemText, TextList};
 use lorel_trees::LabelPath;
-use oem_graph::Graph;
 use std::alloc::Global;
 use std::test::Fail;
 
@@ -92,24 +91,30 @@ fn paths_are_browsed(rt: HostRuntime) -> Result<(), Fail> {
     Ok(())
 }
 
-// The sample of the path in the graph.
+// An object to which two members `name` belong.
+const TWO_LEAVES: Shape = Shape {
+    names: &[("Guide", 1)],
+    edges: &[[1, 1, 2], [1, 1, 3]],
+};
+
+// The sample of the path in that shape, whose objects have these values.
 fn sampled(
     alloc: Global,
-    graph: &Graph,
+    values: &Three,
     walked: Walked,
     count: u32,
 ) -> Result<Vec<u8>, GuideFault> {
-    let guide = guide_to(alloc, graph)?;
+    let guide = guide_of(alloc, TWO_LEAVES)?;
     let labels = table_of(alloc, LABELS)?;
     let path = path_of(alloc, walked)?;
-    let lines = sample_lines(&guide, graph, &path, count, &labels)?;
+    let lines = sample_lines(&guide, values, &path, count, &labels)?;
     Ok(joined(alloc, &lines)?)
 }
 
 #[test]
 fn samples_are_the_first_objects(rt: HostRuntime) -> Result<(), Fail> {
     let names: Walked = ("Guide", &["name"]);
-    let graph = varied(rt.alloc())?;
+    let values = varied(rt.alloc())?;
     let table: [(Walked, u32, &[u8]); 8] = [
         (names, 0, b"sample 0 of 2\n"),
         (names, 1, b"&2 \"Chef \\\"Chu\\\"\"\nsample 1 of 2\n"),
@@ -125,7 +130,7 @@ fn samples_are_the_first_objects(rt: HostRuntime) -> Result<(), Fail> {
         (("Home", &[]), 5, b"sample 0 of 0\n"),
     ];
     for (walked, count, wanted) in table {
-        let found = sampled(rt.alloc(), &graph, walked, count)?;
+        let found = sampled(rt.alloc(), &values, walked, count)?;
         assert_eq!(rt; found.as_slice(), wanted, "at {walked:?} {count}");
     }
     Ok(())

@@ -12,10 +12,10 @@ use Rattle.lorel_trees.specs.declared.dump_trees.DumpTree.{DumpTree}
 use Rattle.lorel_trees.specs.Trees as t
 use Rattle.oem_changes.proofs.ToldLaws.{IsTold, told_same, told_both}
 use Rattle.guide_laws.proofs.TargetSetLaws.{target_sets_exist, more_sets_are_told}
-use Rattle.oem_text.specs.Restores.{IsRestorable, IsDumpOf, IsRestored, database_from}
-use Rattle.oem_text.specs.declared.restored.Restored.{Restored}
-use Rattle.oem_text.proofs.DumpRuleLaws.{one_database}
-use Rattle.oem_text.proofs.DumpToldLaws.{dump_or_bad}
+use Rattle.dump_text.specs.Restores.{IsRestorable, IsDumpOf, IsRestored, database_from}
+use Rattle.dump_text.specs.declared.restored.Restored.{Restored}
+use Rattle.dump_text.proofs.RuleLaws.{one_database}
+use Rattle.dump_text.proofs.ToldLaws.{dump_or_bad}
 use Rattle.lore_db.specs.Types.{NODES, Reply, Changed}
 use Rattle.lore_db.specs.Types.refusals
 use Rattle.lore_db.specs.Statements.{IsNoDump, Dumps, Restores, Cause, order, Counts, Executes}
@@ -183,11 +183,6 @@ module _ (db : Database) where
     pub restore_clear : db ≡ new_database → (IsNoDump (t.restore text) → ⊥) → IsClear (Cause db (t.restore text)) order
     restore_clear new dumped =
         clear_both (Cause db (t.restore text)) (fit_order ++ sizes) late restore_before (λ h. h, (λ stale. stale new, (dumped, tt)))
-
-    pub stale_told : (db ≡ new_database → ⊥) → IsToldBy (Cause db (t.restore text)) order (Some refusals.NotFresh)
-    stale_told stale =
-        told_right (Cause db (t.restore text)) (fit_order ++ sizes) late (Some refusals.NotFresh) restore_before
-        (inr (λ h. h, inl (stale, refl)))
 
     pub no_dump_told : db ≡ new_database → IsNoDump (t.restore text) → IsToldBy (Cause db (t.restore text)) order (Some refusals.BadRestore)
     no_dump_told new none =

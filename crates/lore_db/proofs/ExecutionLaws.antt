@@ -1,6 +1,6 @@
 -- Executions of statements: a select that answers, and changes that are made.
 use Rattle.std.proofs.Common.{◌≡◌, inl, inr, List, ◌∷◌, ◌++◌, Option, Result, Ok, Err, IfOk, refl, sym, subst}
-use Rattle.std.specs.Prelude.{IfErr, OnErr}
+use Rattle.std.specs.Prelude.{IfErr, OnOk, OnErr}
 use Rattle.lore_base.specs.Databases.{Database, IsValid}
 use Rattle.lore_base.specs.ChangeSets.{Fits, IsAfter, AreSame}
 use Rattle.lore_base.specs.ChangeCauses.{DatabaseCause}
@@ -106,8 +106,7 @@ replied before after statement (Err (stop.Refused refusal)) result is executed s
 replied before after statement (Err stop.NoMemory) result is executed same refused =
     subst (λ (r : Result Reply NoMemory). IfOk r (λ answer. Executes before statement answer after)) (sym is.1) tt
 
-pub replied_same : (before after : Database) (done : Result Reply Stop) (result : Result Reply NoMemory) → IsRepliedTo done result
-    → OnErr done (after ≡ before) → OnErr result (after ≡ before)
-replied_same before after (Ok reply) result is same = subst (λ (r : Result Reply NoMemory). OnErr r (after ≡ before)) (sym is) tt
-replied_same before after (Err (stop.Refused refusal)) result is same = subst (λ (r : Result Reply NoMemory). OnErr r (after ≡ before)) (sym is) tt
-replied_same before after (Err stop.NoMemory) result is same = subst (λ (r : Result Reply NoMemory). OnErr r (after ≡ before)) (sym is.1) same
+-- what holds in each case holds where there is a reply
+pub on_any : {T E : Type 0} (result : Result T E) (Holds : Type 0) → Holds → OnOk result Holds
+on_any (Ok value) Holds h = h
+on_any (Err error) Holds h = tt

@@ -1,7 +1,7 @@
 -- Plans that are shown: what refuses an explain, what it shows, and that there is one plan.
 use Rattle.std.proofs.Common.{◌≡◌, ℕ, inl, List, ◌∷◌, ◌++◌, length, Option, refl, sym, subst, ◌∙◌}
 use Rattle.lore_base.specs.Databases.{Database}
-use Rattle.lore_base.specs.Verdicts.{IsClear, IsToldBy}
+use Rattle.lore_base.specs.Verdicts.{IsClear}
 use Rattle.lore_base.proofs.VerdictLaws.{clear_both}
 use Rattle.lorel_trees.specs.Trees as t
 use Rattle.lorel_trees.specs.Trees.{SelectTree, StatementTree}
@@ -17,10 +17,9 @@ use Rattle.lore_db.specs.Types.refusals
 use Rattle.lore_db.specs.Plans.{AreCountsOver, IsKindOver, ShowsPlan}
 use Rattle.lore_db.specs.Statements.{Cause, order, Explains, Executes}
 use Rattle.lore_db.specs.inside.Stages.{ReadCause, bind_order}
-use Rattle.lore_db.proofs.OrderLaws.{told_left}
 use Rattle.lore_db.proofs.CauseLaws.{locals, early, sizes, late}
 use Rattle.lore_db.proofs.QuietLaws.{behind_binding}
-use Rattle.lore_db.proofs.ReadLaws.{read_binds, read_bound}
+use Rattle.lore_db.proofs.ReadLaws.{read_bound}
 
 -- ---- how it is executed
 abbrev behind : List Refusal
@@ -34,9 +33,6 @@ module _ (db : Database) (query : SelectTree) where
   explain_clear clear =
       clear_both (Cause db tree) bind_order (behind ++ late) (read_bound db tree query refl (λ h. h) clear)
       (clear_both (Cause db tree) behind late (behind_binding db tree (λ h. h) refl) (λ h. h, (λ h. h, (λ h. h, tt))))
-
-  pub explain_told : (told : Option Refusal) → IsToldBy (ReadCause db query) bind_order told → IsToldBy (Cause db tree) order told
-  explain_told told h = told_left (Cause db tree) bind_order (behind ++ late) told (read_binds db tree query refl (λ h. h) told h)
 
   pub explained : (reply : Reply) → IsClear (ReadCause db query) bind_order → ShowsPlan db query reply → Executes db tree reply db
   explained reply clear shows = inl (explain_clear clear, (refl, shows))

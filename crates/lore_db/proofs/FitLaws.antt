@@ -308,10 +308,6 @@ module _ (db : Database) (valid : IsValid db) where
       (All-of_members (λ (arc : Arc). place_in table arc.label < length table) (arcs_of literal) (λ arc at.
       place_below table arc.label (All-contains (Contains table) (labels_of literal) arc.label there (map_holds (λ (a : Arc). a.label) (arcs_of literal) arc at))))
 
-  -- a complex object that is made is complex then
-  made_complex : (changes : Changes) (oid : Oid) → IsComplex changes.made oid → IsComplexThen db.graph.objects changes oid
-  made_complex changes oid made = inl made
-
   pub load_fits : (name : List ℕ) (literal : LiteralTree) → IsName name → IsFormedLiteral literal → (HasUndefined literal → ⊥)
       → (NEXT_NUMBER < db.graph.next + length (bodies literal) → ⊥)
       → (LABELS < length db.labels + length (first_uses db.labels (labels_of literal)) → ⊥) → Fits db (loading db name literal)

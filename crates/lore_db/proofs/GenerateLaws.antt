@@ -1,6 +1,6 @@
 -- Generated objects as a load: what refuses them, and what they change.
-use Rattle.std.proofs.Common.{◌≡◌, inl, inr, ℕ, ◌+◌, ◌*◌, ◌<◌, ◌≤◌, List, [], ◌∷◌, ◌++◌, length, Option, Some, refl, ap, subst, ◌∙◌, arith}
-use Rattle.std.specs.Prelude.{ℤ, pos, codes}
+use Rattle.std.proofs.Common.{◌≡◌, inl, inr, ℕ, ◌+◌, ◌<◌, ◌≤◌, List, [], ◌∷◌, ◌++◌, Option, refl, ap, subst, ◌∙◌, arith}
+use Rattle.std.specs.Prelude.{pos, codes}
 use Rattle.std.proofs.lemmas.List.Elements.{All-contains}
 use Rattle.lore_base.specs.Walks.{oid_of}
 use Rattle.lore_base.specs.Databases.{Database, IsValid}
@@ -21,19 +21,11 @@ use Rattle.lore_db.specs.Types.{Oid, Edge, Value, Refusal}
 use Rattle.lore_db.specs.Types.refusals
 use Rattle.lore_db.specs.Forms.{AreGenerable}
 use Rattle.lore_db.specs.Effects.{generating}
-use Rattle.lore_db.specs.Statements.{IsOutOfRange, Cause, order}
+use Rattle.lore_db.specs.Statements.{Cause, order}
 use Rattle.lore_db.specs.inside.Stages.{loading_part, bind_order, fit_order}
 use Rattle.lore_db.proofs.LiteralLaws.{length-numbered}
 use Rattle.lore_db.proofs.OrderLaws.{AreAlike, told_left, told_right, clear_alike, told_alike}
-use Rattle.lore_db.proofs.CauseLaws.{locals, sizes, late}
-use Rattle.lore_db.proofs.QuietLaws.{nothing_before}
-
--- ---- out of range
-module _ (db : Database) (seed count : ℤ) (outside : AreGenerable seed count → ⊥) where
-  pub range_told : IsToldBy (Cause db (t.generate seed count)) order (Some refusals.LimitRange)
-  range_told =
-      told_right (Cause db (t.generate seed count)) (fit_order ++ sizes) late (Some refusals.LimitRange)
-      (nothing_before db (t.generate seed count) outside (λ h. h) refl refl) (inl (outside, refl))
+use Rattle.lore_db.proofs.CauseLaws.{sizes, late}
 
 -- ---- in range
 module _ (db : Database) (valid : IsValid db) (seed count : ℕ) (within : AreGenerable (pos seed) (pos count)) where

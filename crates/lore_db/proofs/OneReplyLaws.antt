@@ -9,7 +9,7 @@ use Rattle.oem_changes.proofs.DeterminedLaws.{one_database_after}
 use Rattle.guide_query.proofs.OneListOfLines.{one_list_of_lines}
 use Rattle.guide_query.proofs.OnePathLines.{one_browsing, one_sample}
 use Rattle.guide_query.specs.PathLines.{AreSampleLines}
-use Rattle.oem_text.proofs.DumpRuleLaws.{one_database}
+use Rattle.dump_text.proofs.RuleLaws.{one_database}
 use Rattle.lorel_trees.specs.declared.dump_trees.DumpTree.{DumpTree}
 use Rattle.lorel_trees.specs.Trees.{StatementTree, select, explain, guide, browse, sample, set_nodes, set_plan, dump, restore}
 use Rattle.lorel_bind.proofs.AnswerLaws.{has_one_answer}

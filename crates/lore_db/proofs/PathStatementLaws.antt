@@ -1,7 +1,7 @@
 -- Label paths as statements: what refuses them, and what the guide of a store tells of a path.
-use Rattle.std.proofs.Common.{◌≡◌, ◌≢◌, inl, inr, ℕ, List, ◌++◌, Some, AllPairs, refl, sym, subst}
+use Rattle.std.proofs.Common.{◌≡◌, ◌≢◌, inl, inr, ℕ, List, ◌++◌, Some, AllPairs, refl, subst}
 use Rattle.std.specs.Prelude.{ℤ}
-use Rattle.lore_base.specs.Databases.{OemGraph, Database, IsValid}
+use Rattle.lore_base.specs.Databases.{Database, IsValid}
 use Rattle.lore_base.specs.ChangeSets.{IsBound}
 use Rattle.lore_base.specs.Verdicts.{IsClear, IsToldBy}
 use Rattle.lore_base.proofs.VerdictLaws.{clear_both}
@@ -10,7 +10,7 @@ use Rattle.dataguide.specs.Guides.{GuideGraph}
 use Rattle.guide_query.specs.GuideLines.{IsLabelledGuide}
 use Rattle.guide_query.specs.PathLines.{AreBrowseLines, AreSampleLines}
 use Rattle.lore_store.specs.Stores.{IsGuided}
-use Rattle.lore_db.specs.Types.{Oid, Edge}
+use Rattle.lore_db.specs.Types.{Oid, Edge, Value}
 use Rattle.lore_db.specs.Types.refusals
 use Rattle.lore_db.specs.Forms.{IsBetween}
 use Rattle.lore_db.specs.Statements.{Cause, order}
@@ -49,7 +49,7 @@ module _ (db : Database) (start : List ℕ) (labels : List (List ℕ)) where
         told_right (Cause db (t.sample start labels count)) (fit_order ++ sizes) late (Some refusals.LimitRange) (sample_before bound)
         (inl (outside, refl))
 
--- ---- what a store's guide tells, with label texts and a graph that are the database's
+-- ---- what a store's guide tells, with label texts and objects that are the database's
 module _ (db : Database) (valid : IsValid db) (guide : GuideGraph) (guided : IsGuided db.graph guide) (start : List ℕ) (path : List (List ℕ))
     (lines : List (List ℕ)) (labels : List (List ℕ)) (texts : labels ≡ db.labels) where
   pub browsed : ((names : List (List ℕ × Oid)) (edges : List Edge) → IsLabelledGuide guide labels names edges
@@ -60,12 +60,12 @@ module _ (db : Database) (valid : IsValid db) (guide : GuideGraph) (guided : IsG
       → AllPairs (λ a b. a ≢ b) l → AreBrowseLines names edges l start path lines in
       subst Gives texts gives db.graph.names db.graph.edges (shown_guide db valid guide guided) valid.labels_distinct
 
-  pub sampled : (count : ℕ) (graph : OemGraph) → graph ≡ db.graph
-      → (IsLabelledGuide guide labels graph.names graph.edges → AllPairs (λ a b. a ≢ b) labels
-      → AreSampleLines graph.names graph.objects graph.edges labels start path count lines)
+  pub sampled : (count : ℕ) (objects : List (Oid × Value)) → objects ≡ db.graph.objects
+      → ((names : List (List ℕ × Oid)) (edges : List Edge) → IsLabelledGuide guide labels names edges
+      → AllPairs (λ a b. a ≢ b) labels → AreSampleLines names objects edges labels start path count lines)
       → AreSampleLines db.graph.names db.graph.objects db.graph.edges db.labels start path count lines
-  sampled count graph drawn gives =
-      let Gives = λ (l : List (List ℕ)) (g : OemGraph). IsLabelledGuide guide l g.names g.edges → AllPairs (λ a b. a ≢ b) l
-      → AreSampleLines g.names g.objects g.edges l start path count lines in
-      subst (λ (g : OemGraph). Gives db.labels g) drawn (subst (λ (l : List (List ℕ)). Gives l graph) texts gives)
-      (shown_guide db valid guide guided) valid.labels_distinct
+  sampled count objects valued gives =
+      let Gives = λ (l : List (List ℕ)) (o : List (Oid × Value)). (names : List (List ℕ × Oid)) (edges : List Edge)
+      → IsLabelledGuide guide l names edges → AllPairs (λ a b. a ≢ b) l → AreSampleLines names o edges l start path count lines in
+      subst (λ (o : List (Oid × Value)). Gives db.labels o) valued (subst (λ (l : List (List ℕ)). Gives l objects) texts gives)
+      db.graph.names db.graph.edges (shown_guide db valid guide guided) valid.labels_distinct

@@ -44,9 +44,6 @@ pub bind_told : (db : Database) (query : SelectTree) (told : Option Refusal) →
 bind_told db query None h = tt
 bind_told db query (Some refusal) h = h
 
-pub bind_clear : (db : Database) (query : SelectTree) → IsAccepted db.graph.names query → IsClear (ReadCause db query) bind_order
-bind_clear db query accepted = accepted
-
 pub accepted_from : (db : Database) (query : SelectTree) → IsClear (ReadCause db query) bind_order → IsAccepted db.graph.names query
 accepted_from db query clear = clear
 

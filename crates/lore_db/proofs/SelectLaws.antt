@@ -17,7 +17,7 @@ use Rattle.lore_db.specs.Types.{Cell, Refusal}
 use Rattle.lore_db.specs.Types.refusals
 use Rattle.lore_db.specs.Statements.{HasTooManyRows}
 use Rattle.lore_db.specs.inside.Stages.{ReadCause, bind_order, read_order}
-use Rattle.lore_db.proofs.OrderLaws.{told_left, told_right}
+use Rattle.lore_db.proofs.OrderLaws.{told_right}
 use Rattle.lore_db.proofs.ReadLaws.{few_rows, many_rows, accepted_from}
 
 -- ---- the answer
@@ -50,7 +50,3 @@ module _ (db : Database) (query : t.SelectTree) (bound : BoundTree) (binds : IsB
     rows_told None h = tt
     rows_told (Some refusal) h =
         told_right (ReadCause db query) bind_order (refusals.TooManyRows ∷ []) (Some refusal) clear (inl (rows_flood h.1, h.0))
-
-pub bind_refused : (db : Database) (query : t.SelectTree) (told : Option Refusal) → IsToldBy (ReadCause db query) bind_order told
-    → IsToldBy (ReadCause db query) read_order told
-bind_refused db query told h = told_left (ReadCause db query) bind_order (refusals.TooManyRows ∷ []) told h

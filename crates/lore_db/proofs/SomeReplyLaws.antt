@@ -17,7 +17,7 @@ use Rattle.oem_changes.proofs.ValidLaws.{valid_after}
 use Rattle.guide_laws.proofs.TargetSetLaws.{target_sets_exist, more_sets_are_told}
 use Rattle.guide_query.proofs.SomeLines.{lines_exist}
 use Rattle.guide_query.proofs.SomePathLines.{browsing_exists, sample_exists}
-use Rattle.oem_text.specs.Dumps.{dump_tree, dump_lines}
+use Rattle.dump_text.specs.Dumps.{dump_tree, dump_lines}
 use Rattle.lore_store.proofs.NewLaws.{new_valid}
 use Rattle.lore_store.proofs.ModeLaws.{valid_in_mode}
 use Rattle.lore_store.proofs.LimitLaws.{valid_limited}

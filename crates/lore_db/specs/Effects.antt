@@ -1,13 +1,13 @@
 -- What a statement changes.
 use Rattle.std.specs.Prelude.{◌≡◌, ℕ, pos, List, [], ◌∷◌, ◌++◌, map, codes, Some, None, MatchOption}
-use Rattle.lore_db.specs.Types.{Oid, Changes, Cell}
+use Rattle.lore_db.specs.Types.{Oid, Edge, Value, Changes, Cell}
 use Rattle.lore_db.specs.Types.cells
 use Rattle.lore_base.specs.Walks.{oid_of}
 use Rattle.lore_base.specs.Databases.{Database}
 use Rattle.lorel_trees.specs.Trees.{LiteralTree, StatementTree, load, bind, unname, generate}
 use Rattle.lorel_bind.specs.Answers.{IsAnswer}
 use Rattle.oem_labels.specs.Labels.{first_uses}
-use Rattle.oem_text.specs.Literals.{labels_of, objects_of, edges_of, numbered}
+use Rattle.oem_text.specs.Literals.{bodies, labels_of, edges_of, numbered}
 use Rattle.oem_text.specs.Layouts.{edges_from}
 use Rattle.oem_text.specs.Generated.{generated_values, generated_labels, generated_layout}
 use Rattle.updates.specs.Effects.{Pair, no_changes, changes_by}
@@ -28,33 +28,31 @@ abbrev pub AreRowsOf : Database → StatementTree → List (List Oid) → Type 0
 AreRowsOf db statement rows =
     MatchOption (reads statement) (rows ≡ []) (λ query. IsAnswer db query (map object_cells rows))
 
--- a literal is made and its first object named
-abbrev pub loading : Database → List ℕ → LiteralTree → Changes
-loading db name literal =
-    let new = first_uses db.labels (labels_of literal) in
+-- objects with these values and edges between them by labels with these texts are made, and the first object named
+abbrev pub making : Database → List ℕ → List Value → List (List ℕ) → (List (List ℕ) → List Edge) → Changes
+making db name values texts edges_by =
+    let new = first_uses db.labels texts in
     record {
-      made = objects_of db.graph.next literal;
+      made = numbered db.graph.next values;
       values = [];
-      added = edges_of db.graph.next (db.labels ++ new) literal;
+      added = edges_by (db.labels ++ new);
       removed = [];
       named = (name, oid_of db.graph.next) ∷ [];
       unnamed = [];
       labels = new;
     }
 
--- the generated objects are made, and the first of them named
+-- a literal is made
+abbrev pub loading : Database → List ℕ → LiteralTree → Changes
+loading db name literal =
+    making db name (map (λ body. body.value) (bodies literal)) (labels_of literal)
+    (λ table. edges_of db.graph.next table literal)
+
+-- and so are the generated objects
 abbrev pub generating : Database → (seed count : ℕ) → Changes
 generating db seed count =
-    let new = first_uses db.labels generated_labels in
-    record {
-      made = numbered db.graph.next (generated_values seed count);
-      values = [];
-      added = edges_from db.graph.next (db.labels ++ new) (generated_layout seed count);
-      removed = [];
-      named = (codes "People", oid_of db.graph.next) ∷ [];
-      unnamed = [];
-      labels = new;
-    }
+    making db (codes "People") (generated_values seed count) generated_labels
+    (λ table. edges_from db.graph.next table (generated_layout seed count))
 
 -- the name is bound to the object of the first row
 abbrev pub naming : List ℕ → List Pair → Changes

@@ -15,8 +15,8 @@ use Rattle.lorel_bind.specs.Answers.{IsAnswer}
 use Rattle.lorel_bind.specs.Refusals as binding
 use Rattle.answers.specs.Answers.{IsTooMuch}
 use Rattle.oem_text.specs.Literals.{HasDouble, HasUndefined}
-use Rattle.oem_text.specs.Dumps.{dump_tree, dump_lines}
-use Rattle.oem_text.specs.Restores.{IsDumpOf}
+use Rattle.dump_text.specs.Dumps.{dump_tree, dump_lines}
+use Rattle.dump_text.specs.Restores.{IsDumpOf}
 use Rattle.guide_query.specs.GuideLines.{AreGuideLines}
 use Rattle.guide_query.specs.PathLines.{AreBrowseLines, AreSampleLines}
 use Rattle.lore_store.specs.Stores.{IsLimit}

@@ -2,12 +2,13 @@
 use Rattle.std.specs.Prelude.{◌≡◌, ℕ, ◌≤◌, length, Option, Some, None}
 use Rattle.lore_base.specs.Databases.{Database}
 use Rattle.lorel_trees.specs.Trees.{SelectTree, StatementTree, select, explain, guide, browse, sample}
-use Rattle.lorel_trees.specs.Trees.{set_nodes, set_plan}
+use Rattle.lorel_trees.specs.Trees.{set_nodes, set_plan, generate}
 use Rattle.lorel_bind.specs.Bound.{BoundTree}
 use Rattle.lorel_bind.specs.Bindings.{IsBinding}
 use Rattle.lorel_bind.specs.SlotRows.{ShowsObjects}
 use Rattle.lore_db.specs.Types.{PlanKind}
 use Rattle.lore_db.specs.Types.plan_kinds
+use Rattle.lore_db.specs.Forms.{AreGenerable}
 use Rattle.lore_db.specs.Plans.{AreCountsOver, IsKindOver}
 
 -- a plan by which no edge is read: the guide tells the one range that there is at most, there is no condition, and no cell
@@ -30,7 +31,8 @@ pub record IsQuietBound (db : Database) (bound : BoundTree) : Type 0 where
 abbrev pub IsQuietSelect : Database → SelectTree → Type 0
 IsQuietSelect db query = (bound : BoundTree) × IsBinding db.graph.names query bound × IsQuietBound db bound
 
--- a select by such a plan, a plan that is shown, the guide, what is shown of it along a label path, and what is set
+-- a select by such a plan, a plan that is shown, the guide, what is shown of it along a label path, what is set, and
+-- objects that are refused since a number is out of range
 abbrev pub ReadsNoEdge : Database → StatementTree → Type 0
 ReadsNoEdge db (select query) = IsQuietSelect db query
 ReadsNoEdge db (explain query) = Unit {0}
@@ -39,4 +41,5 @@ ReadsNoEdge db (browse start labels) = Unit {0}
 ReadsNoEdge db (sample start labels count) = Unit {0}
 ReadsNoEdge db (set_nodes nodes) = Unit {0}
 ReadsNoEdge db (set_plan mode) = Unit {0}
+ReadsNoEdge db (generate seed count) = ¬ AreGenerable seed count
 ReadsNoEdge db statement = ⊥

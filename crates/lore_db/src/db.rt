@@ -70,8 +70,9 @@ impl Db {
 
     /// Executes a statement. A refusal, and want of memory, leave the database as it was. No step is
     /// counted for a statement that shows a plan, the guide, or where a label path leads, or sets
-    /// something, and for a select for which no edge is read: where the guide tells all and no cell
-    /// shows a word, or no value is found to begin with.
+    /// something, for numbers out of range by which objects were to be generated, and for a select
+    /// for which no edge is read: where the guide tells all and no cell shows a word, or no value is
+    /// found to begin with.
     pub fn execute<L: Ledger>(
         &mut self,
         alloc: Global,

@@ -8,12 +8,12 @@ ghost use Rattle.lore_db.specs.inside.Stops.{told};
 use crate::db::Db;
 use crate::replies::Reply;
 use crate::stops::Stop;
+use dump_text::{dump, read_dump};
 use index_traits::Adjacent;
 use lore_base::limits::NODES;
 use lore_base::{EdgeBuf, Mode, NoMemory, Refusal, Steps};
 use lorel_trees::DumpTree;
 use oem_graph::Graph;
-use oem_text::{dump, read_dump};
 use std::alloc::Global;
 use std::sync::ledger::Ledger;
 

@@ -23,7 +23,8 @@ const MOST: u32 = 10_000;
 
 impl Db {
     /// Loads generated objects under the name `People`: so many persons, by this seed, and what they
-    /// belong to. Refused before all else are a seed and a number of persons out of range.
+    /// belong to. Refused before all else, and before a step is counted, are a seed and a number of
+    /// persons out of range.
     pub(crate) fn generate<L: Ledger>(
         &mut self,
         alloc: Global,
@@ -34,6 +35,7 @@ impl Db {
         ensures ok { IfOk result (λ reply.
             Executes self.old (generate seed count) reply self.new) }
         ensures same { OnErr result (self.new ≡ self.old) }
+        ensures uncounted { (¬ AreGenerable seed count) → steps.new ≡ steps.old }
         ensures refused { IfErr result (λ stop.
             IsToldBy (Cause self.old (generate seed count)) order (told stop)) }
     {

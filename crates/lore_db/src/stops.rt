@@ -1,15 +1,17 @@
 ghost use Rattle.std.specs.Prelude.{◌≡◌, None, IfOk, IfErr, OnErr};
 ghost use Rattle.lore_db.specs.inside.Stops.{told, IsRepliedTo};
 ghost use Rattle.lorel_bind.specs.Faults as binding;
-ghost use Rattle.oem_text.specs.Faults.{local_refusal, text_refusal, dump_refusal};
+ghost use Rattle.dump_text.specs.Faults.{dump_refusal};
+ghost use Rattle.oem_text.specs.Faults.{local_refusal, text_refusal};
 ghost use Rattle.updates.specs.Faults as updating;
 ghost use Rattle.lore_store.specs.Faults as storing;
 
 use crate::replies::Reply;
+use dump_text::DumpFault;
 use lore_base::{Fault, NoMemory, Refusal};
 use lore_store::{RestoreFault, StoreFault};
 use lorel_bind::BindFault;
-use oem_text::{DumpFault, LocalFault, TextFault};
+use oem_text::{LocalFault, TextFault};
 use updates::UpdateFault;
 
 /// Why the work on a statement ends early.

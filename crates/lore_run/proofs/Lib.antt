@@ -1,4 +1,3 @@
-pub mod ValueLaws
 pub mod DeliveryLaws
 pub mod ReplyLaws
 pub mod LimitLaws

@@ -1,20 +1,12 @@
 -- What each reply prints.
-use Rattle.std.specs.Prelude.{ℕ, ◌==◌, List, [], ◌∷◌, ◌++◌, length, codes, decimal, Option, Some, None, unwrap_or, slice_get}
+use Rattle.std.specs.Prelude.{ℕ, List, [], ◌∷◌, ◌++◌, length, codes, decimal, Option, Some, None, unwrap_or, slice_get}
 use Rattle.std.specs.List.{flat_map, join_by}
-use Rattle.std.specs.Map.{lookup}
-use Rattle.lore_run.specs.Types.{Oid, Label, Cell, Value, Complex, PlanKind, Reply, Changed, Rows, PlanShown, Lines, Refused}
+use Rattle.lore_run.specs.Types.{Oid, Label, Cell, Value, PlanKind, Reply, Changed, Rows, PlanShown, Lines, Refused}
 use Rattle.lore_run.specs.Types.plan_kinds
 use Rattle.lore_run.specs.Types.cells
-use Rattle.lore_base.specs.Printed.{printed, label_text}
+use Rattle.lore_base.specs.Printed.{label_text}
 use Rattle.lore_base.specs.Refusals.{number_of, text_of}
-
--- the value of an object, which is live in each reply
-abbrev pub value_of : List (Oid × Value) → Oid → Value
-value_of objects oid = unwrap_or (lookup (λ other. other.0 == oid.0) objects) Complex
-
--- an object: `&`, its number, a space and its value
-abbrev pub object_text : List (Oid × Value) → Oid → List ℕ
-object_text objects oid = codes "&" ++ decimal oid.0 ++ codes " " ++ printed (value_of objects oid)
+use Rattle.guide_query.specs.PrintedObjects.{object_text}
 
 -- a label behind a dot, by its text in the table, where each label of a reply is
 abbrev pub step_text : List (List ℕ) → Label → List ℕ
@@ -25,7 +17,7 @@ abbrev pub word_text : List (List ℕ) → List Label → List ℕ
 word_text labels [] = codes "."
 word_text labels (first ∷ others) = flat_map (step_text labels) (first ∷ others)
 
--- one cell
+-- one cell: an object, which is live in each reply, or a word
 abbrev pub cell_text : List (List ℕ) → List (Oid × Value) → Cell → List ℕ
 cell_text labels objects (cells.Object oid) = object_text objects oid
 cell_text labels objects (cells.Path word) = word_text labels word

@@ -4,7 +4,6 @@ pub use Rattle.lore_base.specs.declared.edges.Label.{Label}
 pub use Rattle.lorel_bind.specs.declared.cells.Cell.{Cell}
 pub use Rattle.lorel_bind.specs.declared.cells.Cell.TheVariants as cells
 pub use Rattle.lore_base.specs.declared.values.Value.{Value}
-pub use Rattle.lore_base.specs.declared.values.Value.TheVariants.{Complex}
 pub use Rattle.lore_base.specs.declared.refusals.Refusal.{Refusal}
 pub use Rattle.lore_base.specs.declared.refusals.Refusal.TheVariants.{BadToken, RealRefused, NumberRange, TextTooLong, Syntax, Unfinished}
 pub use Rattle.lore_base.specs.declared.limits.TheConstants.{CHUNK_BYTES, SCRIPT_BYTES}

@@ -10,7 +10,7 @@ use Rattle.oem_labels.specs.Labels.{AreLabels, first_uses}
 use Rattle.oem_labels.proofs.TextSetLaws.{first_uses-apart}
 use Rattle.oem_graph.specs.Graphs.{IsIndexable}
 use Rattle.oem_graph.specs.Plans.{AreEdgeChanges}
-use Rattle.oem_text.specs.Restores.{IsRestorable}
+use Rattle.dump_text.specs.Restores.{IsRestorable}
 use Rattle.index_traits.specs.declared.entries.ValueEntry.{ValueEntry}
 use Rattle.index_traits.specs.Entries.{AreLinks}
 use Rattle.value_changes.specs.EntryChanges.{State, IsSettled, AreGraphChanges, AreEntryChanges}

@@ -6,17 +6,8 @@ pub mod LayoutLaws
 pub mod CauseLaws
 pub mod LaidLaws
 pub mod PartLaws
-pub mod DumpLaws
 pub mod GeneratedPlaces
 pub mod GeneratedSound
 pub mod GeneratedObjectLaws
 pub mod GeneratedEdgeLaws
 pub mod GeneratedPartLaws
-pub mod DumpLists
-pub mod DumpReachLaws
-pub mod DumpRuleLaws
-pub mod DumpEdgeLaws
-pub mod DumpObjectLaws
-pub mod DumpOrderLaws
-pub mod DumpLineLaws
-pub mod DumpToldLaws

@@ -1,4 +1,4 @@
--- What the faults of a literal and of a dump text are answered with.
+-- What the faults of a literal, and of generated objects, are answered with.
 use Rattle.std.specs.Prelude.{Option, Some, None}
 use Rattle.oem_text.specs.Types.refusals
 use Rattle.oem_text.specs.Types.{Refusal}
@@ -6,8 +6,6 @@ use Rattle.oem_text.specs.declared.faults.LocalFault.{LocalFault}
 use Rattle.oem_text.specs.declared.faults.LocalFault.TheVariants as local
 use Rattle.oem_text.specs.declared.faults.TextFault.{TextFault}
 use Rattle.oem_text.specs.declared.faults.TextFault.TheVariants as text
-use Rattle.oem_text.specs.declared.faults.DumpFault.{DumpFault}
-use Rattle.oem_text.specs.declared.faults.DumpFault.TheVariants as dump
 
 -- the refusal of the same name; none for want of memory
 abbrev pub local_refusal : LocalFault → Option Refusal
@@ -21,7 +19,3 @@ text_refusal text.UndefinedLocal = Some refusals.UndefinedLocal
 text_refusal text.OidsSpent = Some refusals.OidsSpent
 text_refusal text.TooManyLabels = Some refusals.TooManyLabels
 text_refusal text.NoMemory = None
-
-abbrev pub dump_refusal : DumpFault → Option Refusal
-dump_refusal dump.Bad = Some refusals.BadRestore
-dump_refusal dump.NoMemory = None

@@ -3,9 +3,5 @@ pub mod Faults
 pub mod Literals
 pub mod Layouts
 pub mod Parts
-pub mod Dumps
-pub mod Restores
-pub mod DumpRules
-pub mod DumpLaws
 pub mod Generated
 pub mod inside

@@ -1,6 +1,4 @@
--- Definitions that no public contract cites: what the program's lists stand for while a literal is laid out, where the
--- objects are that locals mark, and what the objects of a dump text are reached over.
+-- Definitions that no public contract cites: what the program's lists stand for while a literal is laid out, and where the
+-- objects are that locals mark.
 pub mod Views
 pub mod Places
-pub mod Searches
-pub mod RuleParts

@@ -1,8 +1,7 @@
 ghost use Rattle.std.specs.Prelude.{◌≡◌};
 ghost use Rattle.oem_text.specs.declared.faults.LocalFault.TheVariants as local;
 ghost use Rattle.oem_text.specs.declared.faults.TextFault.TheVariants as text;
-ghost use Rattle.oem_text.specs.declared.faults.DumpFault.TheVariants as dump;
-ghost use Rattle.oem_text.specs.Faults.{local_refusal, text_refusal, dump_refusal};
+ghost use Rattle.oem_text.specs.Faults.{local_refusal, text_refusal};
 
 use lore_base::{Fault, NoMemory, Refusal};
 use std::alloc::{AllocError, AllocFailed};
@@ -22,7 +21,8 @@ pub enum LocalFault {
     NoMemory,
 }
 
-/// Why a literal is refused, or generated objects, which have no locals. The first cause that applies is answered, in this order.
+/// Why a literal is refused, or generated objects, which have no locals. The first cause that
+/// applies is answered, in this order.
 #[derive(Clone, Copy, Debug, PartialEq, Eq, Error)]
 pub enum TextFault {
     /// A local marks two objects of the literal.
@@ -37,17 +37,6 @@ pub enum TextFault {
     /// There would be more than 4,096 labels.
     #[error("too many labels")]
     TooManyLabels,
-    /// Memory was refused.
-    #[error("out of memory")]
-    NoMemory,
-}
-
-/// Why a dump text is refused.
-#[derive(Clone, Copy, Debug, PartialEq, Eq, Error)]
-pub enum DumpFault {
-    /// The text stands for no valid database.
-    #[error("the dump text stands for no valid database")]
-    Bad,
     /// Memory was refused.
     #[error("out of memory")]
     NoMemory,
@@ -124,24 +113,5 @@ impl<T: Drop> From<AllocFailed<T>> for TextFault {
 
     fn from(_error: AllocFailed<T>) -> TextFault {
         TextFault::NoMemory
-    }
-}
-
-impl Fault for DumpFault {
-    ghost refusal_of = { dump_refusal };
-
-    fn refusal(&self) -> Option<Refusal> {
-        match self {
-            DumpFault::Bad => Some(Refusal::BadRestore),
-            DumpFault::NoMemory => None,
-        }
-    }
-}
-
-impl From<NoMemory> for DumpFault {
-    ghost from_gives = { λ _ given. given ≡ dump.NoMemory };
-
-    fn from(_error: NoMemory) -> DumpFault {
-        DumpFault::NoMemory
     }
 }

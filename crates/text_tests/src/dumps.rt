@@ -1,7 +1,7 @@
 use crate::dump_sketches::{edges, names, objects, ring_text, texts};
+use dump_text::{DumpFault, read_dump};
 use lore_base::NoMemory;
 use lorel_trees::DumpTree;
-use oem_text::{DumpFault, read_dump};
 use std::alloc::Global;
 use std::test::Fail;
 

@@ -5,15 +5,13 @@ use Rattle.guide_query.proofs.PathLineLaws.{sample_is}
 use Rattle.guide_query.proofs.samples.sample_lines.Goals as goal
 
 pub returns : goal.returns
-returns c = λ is distinct.
-    let whole = c.args.graph.now.graph in
+returns g c = λ names edges is distinct.
     let guide = c.args.guide.now in
     let labels = c.args.labels.now in
     let path = c.args.path.now in
-    let readable : IsReadable guide labels whole.names whole.edges = record { labelled = is; distinct = distinct } in
-    let node_is = c.node_of.ensures whole.names whole.edges readable in
-    sample_is guide labels whole.names whole.edges readable path.start path.labels c.node_of.result node_is
-    whole.objects c.set_at-set.result.now c.args.count c.min-shown.result c.in_ok-lines.lines
-    c.in_ok-sample_line.field-0 c.push.new.self
+    let readable : IsReadable guide labels names edges = record { labelled = is; distinct = distinct } in
+    sample_is guide labels names edges readable path.start path.labels c.node_of.result
+    (c.node_of.ensures names edges readable) (g.V.ValueOf.objects c.args.values.now) c.set_at-set.result.now
+    c.args.count c.min-shown.result c.in_ok-lines.lines c.in_ok-sample_line.field-0 c.push.new.self
     c.set_at-set.ensures (c.min-shown.ensures ∙ min_comm (length c.set_at-set.result.now) c.args.count)
     c.in_ok-lines.ensures c.in_ok-sample_line.ensures c.in_ok-push.ensures.ok

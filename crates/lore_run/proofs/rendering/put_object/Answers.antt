@@ -1,6 +1,6 @@
 use Rattle.std.specs.Prelude.{codes}
 use Rattle.lore_base.specs.Printed.{printed}
-use Rattle.lore_run.specs.Replies.{value_of}
+use Rattle.guide_query.specs.PrintedObjects.{value_of}
 use Rattle.lore_base.proofs.PutLaws.{Breaks-early, Breaks-late, Puts-broken, Puts-then, Takes-then}
 use Rattle.lore_run.proofs.rendering.put_object.Goals as goal
 

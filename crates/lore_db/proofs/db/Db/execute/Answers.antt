@@ -1,14 +1,16 @@
-use Rattle.std.proofs.Common.{sym, subst, IfOk}
-use Rattle.std.specs.Prelude.{ℤ}
+use Rattle.std.proofs.Common.{◌≡◌, sym, subst, IfOk}
+use Rattle.std.specs.Prelude.{ℤ, OnOk}
 use Rattle.std.specs.Int.{w64, cast_signed, cast_unsigned}
 use Rattle.std.proofs.lemmas.Int.{to_z-of_z}
 use Rattle.lorel_trees.specs.declared.statements.Statement.{Statement}
 use Rattle.lorel_trees.specs.Trees.{load, bind, unname, select, explain, guide, browse, sample, set_nodes, dump, restore, generate, literal_tree, rooted_tree, select_tree, statement_tree}
 use Rattle.lorel_trees.specs.Sound.{IsSound}
 use Rattle.lorel_trees.proofs.FormLaws.{sound_statement}
+use Rattle.lore_db.specs.Forms.{AreGenerable}
 use Rattle.lore_db.specs.Statements.{Executes}
+use Rattle.lore_db.specs.Uncounted.{ReadsNoEdge}
 use Rattle.lore_db.proofs.ShallowLaws.{sound_shallow, explain_shallow}
-use Rattle.lore_db.proofs.ExecutionLaws.{unchanged, replied}
+use Rattle.lore_db.proofs.ExecutionLaws.{unchanged, replied, on_any}
 use Rattle.lore_db.proofs.GuideStatementLaws.{shown, shown_told, limited, limited_told}
 use Rattle.lore_db.proofs.DumpStatementLaws.{dumped, dumped_told}
 use Rattle.lore_db.proofs.db.Db.execute.Goals as goal
@@ -147,3 +149,19 @@ returns-in-Generate-clause-ok g c =
     (subst (λ (n : ℤ). IfOk c.reply_of-in-Generate.result (λ reply. Executes db (generate passed n) reply after)) same_count
     (replied db after (generate passed counted) c.generate.result c.reply_of-in-Generate.result c.reply_of-in-Generate.ensures c.generate.ensures.ok
     c.generate.ensures.same c.generate.ensures.refused)))
+
+pub returns-in-Generate-clause-uncounted : goal.returns-in-Generate-clause-uncounted
+returns-in-Generate-clause-uncounted g c =
+    let db = c.args.self.now in
+    let seed = c.in-Generate.seed in
+    let count = c.in-Generate.count in
+    let passed = cast_signed w64 (cast_unsigned w64 seed) in
+    let counted = cast_signed w64 (cast_unsigned w64 count) in
+    let sound = subst (λ (s : Statement). IsSound (statement_tree s)) c.in-Generate.is c.requires in
+    let fits = sound_statement (generate seed count) sound in
+    let in_range : AreGenerable passed counted → AreGenerable seed count =
+    λ are. subst (λ (n : ℤ). AreGenerable n count) (to_z-of_z w64 seed fits.0)
+    (subst (λ (n : ℤ). AreGenerable passed n) (to_z-of_z w64 count fits.1) are) in
+    subst (λ (s : Statement). OnOk c.reply_of-in-Generate.result (ReadsNoEdge db (statement_tree s) → c.generate.new.steps ≡ c.args.steps.now))
+    (sym c.in-Generate.is)
+    (on_any c.reply_of-in-Generate.result _ (λ outside. c.generate.ensures.uncounted (λ are. outside (in_range are))))

@@ -90,3 +90,21 @@ returns-clause-ok g c =
     (λ outside. outside within, (λ h. h, (λ h. h, tt))) c.apply.new.self c.counts.result c.in_ok-apply.ensures.clear c.in_ok-apply.ensures.ok
     c.counts.ensures in
     rw (is_seed, is_count) (inl led)
+
+pub returns-in_err-apply-clause-uncounted : goal.returns-in_err-apply-clause-uncounted
+returns-in_err-apply-clause-uncounted g c =
+    let seed = c.in-Some.seed in
+    let count = c.in-Some.count in
+    let is_seed = sym (to_z-of_z w64 c.args.seed c.ranges.seed) ∙ c.in-Some.ensures.seed.0 in
+    let is_count = sym (to_z-of_z w64 c.args.count c.ranges.count) ∙ c.in-Some.ensures.count.0 in
+    let within = generable seed count c.in-Some.ensures.seed.1 c.in-Some.ensures.count.1 c.in-Some.ensures.count.2 in
+    λ outside. absurd (outside (rw (is_seed, is_count) within))
+
+pub returns-clause-uncounted : goal.returns-clause-uncounted
+returns-clause-uncounted g c =
+    let seed = c.in-Some.seed in
+    let count = c.in-Some.count in
+    let is_seed = sym (to_z-of_z w64 c.args.seed c.ranges.seed) ∙ c.in-Some.ensures.seed.0 in
+    let is_count = sym (to_z-of_z w64 c.args.count c.ranges.count) ∙ c.in-Some.ensures.count.0 in
+    let within = generable seed count c.in-Some.ensures.seed.1 c.in-Some.ensures.count.1 c.in-Some.ensures.count.2 in
+    λ outside. absurd (outside (rw (is_seed, is_count) within))

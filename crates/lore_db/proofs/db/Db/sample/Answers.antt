@@ -48,7 +48,7 @@ returns-clause-ok c =
     let guided = subst (IsGuided inside.graph) (sym c.guide.ensures.guide) c.guide.ensures.guided in
     let lines = c.in_ok-lines.lines in
     let shown = sampled inside c.self.invariant guide guided path.start path.labels lines c.labels.result.now c.labels.ensures count
-    c.graph-graph.result.now.graph c.graph-graph.ensures.graph c.in_ok-lines.ensures in
+    c.graph-graph.result.now.graph.objects (ap (λ (g : OemGraph). g.objects) c.graph-graph.ensures.graph) c.in_ok-lines.ensures in
     inl (
       sample_clear db path.start path.labels c.args.count bound (count, number, size.1, size.2),
       (

@@ -1,7 +1,7 @@
 use Rattle.std.proofs.Common.{sym, ap, ◌∙◌}
 use Rattle.std.proofs.lemmas.Result.{err_from_is_err_and}
 use Rattle.lore_base.specs.Databases.{OemGraph}
-use Rattle.oem_text.specs.Restores.{database_from}
+use Rattle.dump_text.specs.Restores.{database_from}
 use Rattle.lore_store.proofs.RestoredLaws.{restored_indexable, restored_labels, restored_stored, built_guide, built_few, built_many, too_many_nodes}
 use Rattle.lore_store.proofs.store.Store.restored.Goals as goal
 

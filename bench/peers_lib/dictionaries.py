@@ -1,0 +1,111 @@
+"""The questions of plain Python, as a process of its own: dictionaries.py FILE QUESTION ID TIMES
+
+Reads the JSON and keeps the persons in a dictionary by their id and the links in one by their place, answers the question so many
+times, and prints one line for each row.
+"""
+import json
+import sys
+from collections import defaultdict, deque
+
+
+class People:
+    def __init__(self, path):
+        with open(path, encoding="utf-8") as source:
+            self.document = json.load(source)
+        self.persons = {person["id"]: person for person in self.document["persons"]}
+        self.links = {link["place"]: link for link in self.document["links"]}
+
+
+def closure(start, following):
+    """All that is met from the start, itself included, in order."""
+    met, waiting = {start}, deque([start])
+    while waiting:
+        for further in following(waiting.popleft()):
+            if further not in met:
+                met.add(further)
+                waiting.append(further)
+    return met
+
+
+def load(people, one, turn):
+    return []
+
+
+def names(people, one, turn):
+    return [person["name"] for person in people.persons.values()]
+
+
+def ring(people, one, turn):
+    return closure(people.document["ring"], lambda place: [people.links[place]["next"]])
+
+
+def ages(people, one, turn):
+    found, waiting = [], [people.document]
+    while waiting:
+        part = waiting.pop()
+        if isinstance(part, dict):
+            if "age" in part:
+                found.append(part["age"])
+            waiting.extend(part.values())
+        elif isinstance(part, list):
+            waiting.extend(part)
+    return found
+
+
+def aged(people, one, turn):
+    return [person["name"] for person in people.persons.values() if int(person["age"]) == 30]
+
+
+def one(people, one, turn):
+    return [people.persons[one]["name"]]
+
+
+def bosses(people, one, turn):
+    persons = people.persons
+    return [f"{person['name']}\t{persons[person['boss']]['name']}" for person in persons.values() if "boss" in person]
+
+
+def chain(people, one, turn):
+    found, person = [], people.persons[one]
+    while "boss" in person:
+        person = people.persons[person["boss"]]
+        found.append(person["name"])
+    return found
+
+
+def below(people, one, turn):
+    under = defaultdict(list)
+    for person in people.persons.values():
+        under[person.get("boss")].append(person["id"])
+    return [people.persons[i]["name"] for i in closure(4, lambda i: under.get(i, ())) if i != 4]
+
+
+def value(people, one, turn):
+    people.persons[one]["age"] = 31 + turn % 2
+    return [people.persons[one]["age"]]
+
+
+def edge(people, one, turn):
+    person = people.persons[one]
+    person["mentor"] = people.persons[person["boss"]]["boss"]
+    found = [people.persons[person["mentor"]]["name"]]
+    del person["mentor"]
+    return found + [person["mentor"] for person in people.persons.values() if "mentor" in person]
+
+
+def dump(people, one, turn):
+    return [json.dumps(people.document)]
+
+
+restore = names
+QUESTIONS = (load, names, ring, ages, aged, one, bosses, chain, below, value, edge, dump)
+
+
+def main():
+    path, question, person, times = sys.argv[1:]
+    people, answer = People(path), globals()[question]
+    for turn in range(int(times)):
+        sys.stdout.writelines(f"{row}\n" for row in answer(people, int(person), turn))
+
+
+main()

@@ -1,0 +1,8 @@
+pub mod ListLaws
+pub mod PlaceLaws
+pub mod LineLaws
+pub mod ReachLaws
+pub mod RuleLaws
+pub mod EntryLaws
+pub mod OrderLaws
+pub mod ToldLaws

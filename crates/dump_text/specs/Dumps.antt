@@ -1,0 +1,70 @@
+-- The dump of a database: the tree that stands for it, and the lines of a tree, without line ends.
+use Rattle.std.specs.Prelude.{ℕ, ℤ, pos, List, [], ◌∷◌, ◌++◌, map, slice_get, codes}
+use Rattle.std.specs.Option.{unwrap_or}
+use Rattle.std.specs.Fmt.{decimal, signed_decimal}
+use Rattle.dump_text.specs.Types.{Oid, Label, Edge, Value, Mode, Auto, Top, Bottom, Guided, DumpTree}
+use Rattle.lore_base.specs.Databases.{Database}
+use Rattle.lore_base.specs.Printed.{printed, label_text}
+
+-- Trees.
+
+-- the text of a label
+abbrev pub text_of : List (List ℕ) → Label → List ℕ
+text_of labels label = unwrap_or (slice_get labels label.0) []
+
+-- an edge with the text of its label
+abbrev pub spelled_edge : List (List ℕ) → Edge → Oid × List ℕ × Oid
+spelled_edge labels edge = (edge.parent, text_of labels edge.label, edge.child)
+
+-- the tree of a database: all of it, labels that no edge has too
+abbrev pub dump_tree : Database → DumpTree
+dump_tree db = record {
+  version = pos 1;
+  next = pos db.graph.next;
+  nodes = pos db.nodes;
+  mode = db.mode;
+  labels = db.labels;
+  names = db.graph.names;
+  objects = db.graph.objects;
+  edges = map (spelled_edge db.labels) db.graph.edges;
+}
+
+-- Lines.
+
+-- a word and what stands behind it
+abbrev pub line_of : (word behind : List ℕ) → List ℕ
+line_of word behind = word ++ 32 ∷ behind
+
+abbrev pub oid_text : Oid → List ℕ
+oid_text oid = 38 ∷ decimal oid.0
+
+abbrev pub mode_text : Mode → List ℕ
+mode_text Auto = codes "auto"
+mode_text Top = codes "top"
+mode_text Bottom = codes "bottom"
+mode_text Guided = codes "guide"
+
+abbrev pub label_line : List ℕ → List ℕ
+label_line label = line_of (codes "label") (label_text label)
+
+abbrev pub name_line : List ℕ × Oid → List ℕ
+name_line entry = line_of (codes "name") (line_of entry.0 (oid_text entry.1))
+
+abbrev pub object_line : Oid × Value → List ℕ
+object_line entry = line_of (codes "object") (line_of (oid_text entry.0) (printed entry.1))
+
+abbrev pub edge_line : Oid × List ℕ × Oid → List ℕ
+edge_line entry =
+    line_of (codes "edge") (line_of (oid_text entry.0) (line_of (label_text entry.1) (oid_text entry.2)))
+
+-- the version, the next number, the node limit and the plan mode
+abbrev pub head_lines : (version next nodes : ℤ) → Mode → List (List ℕ)
+head_lines version next nodes mode =
+    line_of (codes "oem") (signed_decimal version) ∷ line_of (codes "next") (signed_decimal next)
+    ∷ line_of (codes "nodes") (signed_decimal nodes) ∷ line_of (codes "plan") (mode_text mode) ∷ []
+
+abbrev pub dump_lines : DumpTree → List (List ℕ)
+dump_lines tree =
+    head_lines tree.version tree.next tree.nodes tree.mode
+    ++ (map label_line tree.labels ++ (map name_line tree.names ++ (map object_line tree.objects
+    ++ (map edge_line tree.edges ++ codes "end" ∷ []))))

@@ -1,0 +1,20 @@
+//! Whole databases as dump texts, written and read back.
+//!
+//! A dump stands for a database as a tree (`specs/Dumps`), which is written line by line. A tree
+//! that is read back keeps the rules of dump texts (`specs/Rules`), or it stands for no database.
+#![tactic(auto)]
+
+pub use faults::DumpFault;
+pub use reading::read_dump;
+pub use restored::Restored;
+pub use writing::dump;
+
+mod edges;
+mod faults;
+pub mod laws;
+mod lines;
+mod reach;
+mod reading;
+mod restored;
+mod rules;
+mod writing;

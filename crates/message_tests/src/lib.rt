@@ -1,0 +1,5 @@
+//! Tests of the message texts of all faults, which no contract speaks of.
+#![tactic(auto)]
+
+#[cfg(test)]
+mod messages;

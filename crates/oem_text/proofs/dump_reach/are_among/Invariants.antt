@@ -1,6 +1,0 @@
-use Rattle.std.proofs.Common.{ℕ, ◌<◌, get_or, Contains}
-use Rattle.oem_text.specs.Types.{Oid, Value}
-use Rattle.oem_text.proofs.dump_reach.are_among.Given as goal
-
-abbrev pub invariant-objects : goal.invariant-objects
-invariant-objects l = (k : ℕ) (d : Oid × Value) → k < l.object-index → Contains l.oids (get_or l.objects k d).0

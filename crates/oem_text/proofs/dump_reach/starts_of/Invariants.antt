@@ -1,6 +1,0 @@
-use Rattle.std.proofs.Common.{◌≡◌, map, take}
-use Rattle.oem_text.specs.inside.Searches.{met_at}
-use Rattle.oem_text.proofs.dump_reach.starts_of.Given as goal
-
-abbrev pub invariant-names : goal.invariant-names
-invariant-names l = l.starts.items ≡ map met_at (map (λ entry. entry.1) (take l.entry-index l.fn.names))

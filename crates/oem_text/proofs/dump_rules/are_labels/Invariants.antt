@@ -1,6 +1,0 @@
-use Rattle.std.proofs.Common.{ℕ, ◌<◌, List, get_or}
-use Rattle.lore_base.specs.Names.{IsLabel}
-use Rattle.oem_text.proofs.dump_rules.are_labels.Given as goal
-
-abbrev pub invariant-texts : goal.invariant-texts
-invariant-texts l = (k : ℕ) (d : List ℕ) → k < l.text-index → IsLabel (get_or l.texts k d)

@@ -1,6 +1,0 @@
-use Rattle.oem_text.proofs.DumpObjectLaws.{complex_told}
-use Rattle.oem_text.proofs.dump_rules.is_complex.Goals as goal
-
-pub returns-in-Some : goal.returns-in-Some
-returns-in-Some c =
-    complex_told c.args.objects.now c.requires c.args.oid c.in-Some.value.now c.is_no_atom.result c.in-Some.ensures.some c.is_no_atom.ensures

@@ -1,6 +1,0 @@
-use Rattle.std.proofs.Common.{◌≡◌, ◌++◌, map, take}
-use Rattle.oem_text.specs.Dumps.{label_line}
-use Rattle.oem_text.proofs.dumps.put_labels.Given as goal
-
-abbrev pub invariant-labels : goal.invariant-labels
-invariant-labels l = l.lines ≡ l.fn.lines ++ map label_line (take l.place l.labels)

@@ -1,6 +1,0 @@
-use Rattle.std.proofs.Common.{◌≡◌, ◌++◌, map, take}
-use Rattle.oem_text.specs.Dumps.{name_line}
-use Rattle.oem_text.proofs.dumps.put_names.Given as goal
-
-abbrev pub invariant-names : goal.invariant-names
-invariant-names l = l.lines ≡ l.fn.lines ++ map name_line (take l.place l.names)

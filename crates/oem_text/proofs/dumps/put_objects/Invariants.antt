@@ -1,6 +1,0 @@
-use Rattle.std.proofs.Common.{◌≡◌, ◌++◌, map, take}
-use Rattle.oem_text.specs.Dumps.{object_line}
-use Rattle.oem_text.proofs.dumps.put_objects.Given as goal
-
-abbrev pub invariant-places : goal.invariant-places
-invariant-places l = l.lines ≡ l.fn.lines ++ map object_line (take l.place l.graph.graph.objects)

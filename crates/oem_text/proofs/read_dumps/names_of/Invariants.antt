@@ -1,6 +1,0 @@
-use Rattle.std.proofs.Common.{◌≡◌, [], drop}
-use Rattle.lore_base.specs.inside.NameTables.{names_after}
-use Rattle.oem_text.proofs.read_dumps.names_of.Given as goal
-
-abbrev pub invariant-entries : goal.invariant-entries
-invariant-entries l = names_after l.names (drop l.name-index l.fn.entries) ≡ names_after [] l.fn.entries
