@@ -1,6 +1,6 @@
 """The questions of plain Python, as a process of its own: dictionaries.py FILE QUESTION ID TIMES
 
-Reads the JSON and keeps the persons in a dictionary by their id and the links in one by their place, answers the question so many
+Reads the JSON and keeps the persons in dictionaries by their id and by that of their boss and the links in one by their place, answers the question so many
 times, and prints one line for each row.
 """
 import json
@@ -14,6 +14,9 @@ class People:
             self.document = json.load(source)
         self.persons = {person["id"]: person for person in self.document["persons"]}
         self.links = {link["place"]: link for link in self.document["links"]}
+        self.under = defaultdict(list)
+        for person in self.document["persons"]:
+            self.under[person.get("boss")].append(person["id"])
 
 
 def closure(start, following):
@@ -74,10 +77,7 @@ def chain(people, one, turn):
 
 
 def below(people, one, turn):
-    under = defaultdict(list)
-    for person in people.persons.values():
-        under[person.get("boss")].append(person["id"])
-    return [people.persons[i]["name"] for i in closure(4, lambda i: under.get(i, ())) if i != 4]
+    return [people.persons[i]["name"] for i in closure(4, lambda i: people.under.get(i, ())) if i != 4]
 
 
 def value(people, one, turn):
@@ -85,12 +85,17 @@ def value(people, one, turn):
     return [people.persons[one]["age"]]
 
 
+def mentor(people, one):
+    person = people.persons[one]
+    return [people.persons[person["mentor"]]["name"]] if "mentor" in person else []
+
+
 def edge(people, one, turn):
     person = people.persons[one]
     person["mentor"] = people.persons[person["boss"]]["boss"]
-    found = [people.persons[person["mentor"]]["name"]]
+    found = mentor(people, one)
     del person["mentor"]
-    return found + [person["mentor"] for person in people.persons.values() if "mentor" in person]
+    return found + mentor(people, one)
 
 
 def dump(people, one, turn):

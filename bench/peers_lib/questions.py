@@ -149,20 +149,22 @@ EDGE = Work(
     update X.mentor += Y from People.person X, X.boss.boss Y where X.id = ONE;
     select X.mentor.name from People.person X where X.id = ONE;
     update X.mentor -= Y from People.person X, X.mentor Y where X.id = ONE;
-    select People.person.mentor;
+    select X.mentor.name from People.person X where X.id = ONE;
     """,
     """
     (.persons | map({(.id | tostring): .}) | add) as $persons
     | (.persons[] | select(.id == ONE)) |= (.mentor = $persons[.boss | tostring].boss)
     | (.persons[] | select(.id == ONE) | $persons[.mentor | tostring].name),
-      (del(.persons[] | select(.id == ONE) | .mentor) | .persons[].mentor // empty)
+      (del(.persons[] | select(.id == ONE) | .mentor) | .persons[] | select(.id == ONE) | .mentor // empty)
     """,
     """
+    begin;
     insert into mentor select person.id, above.boss from person join person above on above.id = person.boss
       where person.id = ONE;
     select name from mentor join person on person.id = mentor.mentor where mentor.person = ONE;
     delete from mentor where person = ONE;
-    select mentor from mentor;
+    select mentor from mentor where person = ONE;
+    commit;
     """,
 )
 
