@@ -1,11 +1,10 @@
 -- Rows that were noted down: those that ascend, one more row, and the answer that they give.
-use Rattle.std.proofs.Common.{◌≡◌, ◌≢◌, ℕ, ◌-◌, inl, inr, ◌↔◌, Bool, true, List, [], ◌∷◌, ◌++◌, length, get_or, Some, All, AllPairs, Less, Equal, Greater, subst, refl, sym, ap, ◌∙◌, arith, length-append}
+use Rattle.std.proofs.Common.{◌≡◌, ◌≢◌, ℕ, ◌-◌, inl, inr, ◌↔◌, Bool, true, List, [], ◌∷◌, ◌++◌, length, get_or, Some, All, AllPairs, Less, Equal, Greater, subst, sym, ap, ◌∙◌, arith}
 use Rattle.std.specs.List.{Contains, slice_get}
 use Rattle.std.specs.Ordering.{ordering_reverse}
 use Rattle.std.specs.Cmp.{Equal-is}
 use Rattle.std.specs.Cmp.Lexicographic.{pointwise}
 use Rattle.std.proofs.lemmas.Bool.{cases_lt}
-use Rattle.std.proofs.lemmas.List.{get_or_at, get_or_append_left}
 use Rattle.std.proofs.lemmas.List.Elements.{All-contains_itself, All-weaker, Contains-append_left, Contains-push, Contains-push_cases}
 use Rattle.std.proofs.lemmas.List.Quantifiers.{all_pairs_push}
 use Rattle.std.proofs.lemmas.Option.{get_or_from_slice_get, slice_get_within}
@@ -47,17 +46,6 @@ ascend_push rows last row ascend is behind =
           let here : k ≡ length rows - 1 = omega (arith, within, late) in
           subst (λ (r : List Cell). row_cmp r row ≡ Less) (sym (ap (λ (n : ℕ). get_or rows n d) here ∙ end)) behind
     ])
-
--- a row of a list comes behind those before it
-pub behind_front : (rows before later : List (List Cell)) (row : List Cell) → AreAscendingRows rows → before ++ row ∷ later ≡ rows
-    → All (λ earlier. row_cmp earlier row ≡ Less) before
-behind_front rows before later row ascend is k d within =
-    let total : AreAscendingRows (before ++ row ∷ later) = subst AreAscendingRows (sym is) ascend in
-    let first : get_or (before ++ row ∷ later) k d ≡ get_or before k d = get_or_append_left before (row ∷ later) d k within in
-    let second : get_or (before ++ row ∷ later) (length before) d ≡ row = get_or_at before row later d (length before) refl in
-    subst (λ (r : List Cell). row_cmp (get_or before k d) r ≡ Less) second
-    (subst (λ (r : List Cell). row_cmp r (get_or (before ++ row ∷ later) (length before) d) ≡ Less) first
-    (total k (length before) d within (omega (arith, length-append before (row ∷ later)))))
 
 -- none is there twice
 pub apart_rows : (rows : List (List Cell)) → AreAscendingRows rows → AllPairs (λ a b. a ≢ b) rows

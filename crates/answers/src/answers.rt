@@ -9,7 +9,7 @@ ghost use Rattle.answers.specs.Types.{Cell as TheCell};
 ghost use Rattle.answers.specs.Answers.{row_cmp, AreAscendingRows};
 ghost use Rattle.answers.specs.inside.RowOrder.{rows_total, rows_equiv, rows_ties, rows_po};
 
-use lore_base::{Listing, NoMemory, TryCopy};
+use lore_base::{NoMemory, TryCopy};
 use lorel_bind::Cell;
 use smallvec::SmallVec;
 use std::alloc::Global;
@@ -137,7 +137,7 @@ impl Ord for AnswerRow {
 /// The rows of a select, seen by contracts as their strictly ascending list.
 #[derive(Debug, Drop)]
 pub struct Answer {
-    rows: Listing<AnswerRow>,
+    rows: Vec<AnswerRow>,
 }
 
 impl Model for Answer {
@@ -147,9 +147,9 @@ impl Model for Answer {
 
     ghost Value = { List (List Cell) };
 
-    ghost view = { λ a. a.rows };
+    ghost view = { λ a. a.rows.items };
 
-    ghost invariant = { λ a. AreAscendingRows a.rows };
+    ghost invariant = { λ a. AreAscendingRows a.rows.items };
 }
 
 impl Answer {
@@ -158,8 +158,16 @@ impl Answer {
         ensures { result ≡ [] }
     {
         Answer {
-            rows: Listing::new(alloc),
+            rows: Vec::new(alloc),
         }
+    }
+
+    // The answer of these rows. Takes no memory.
+    pub(crate) fn from_rows(rows: Vec<AnswerRow>) -> Answer
+        requires { AreAscendingRows rows.items }
+        ensures { result ≡ rows.items }
+    {
+        Answer { rows }
     }
 
     /// The number of rows.
@@ -197,7 +205,8 @@ impl Answer {
         ensures ok { OnOk result (self.new ≡ self.old ++ row ∷ []) }
         ensures err { OnErr result (self.new ≡ self.old) }
     {
-        self.rows.push(row)
+        self.rows.push(row)?;
+        Ok(())
     }
 }
 
@@ -208,7 +217,18 @@ impl TryCopy for Answer {
 
     fn try_copy(&self, alloc: Global) -> Result<Self, NoMemory> {
         Ok(Answer {
-            rows: self.rows.try_copy(alloc)?,
+            rows: copies_of(alloc, self.rows.as_slice())?,
         })
     }
+}
+
+// Copies of the rows.
+fn copies_of(alloc: Global, rows: &[AnswerRow]) -> Result<Vec<AnswerRow>, NoMemory>
+    ensures { IfOk result (λ copies. copies.items ≡ rows.now) }
+{
+    let mut copies = Vec::with_capacity(alloc, rows.len())?;
+    'rows: for row in rows {
+        copies.push(row.try_copy(alloc)?)?;
+    }
+    Ok(copies)
 }

@@ -81,18 +81,17 @@ impl FoundRows {
     }
 
     /// The rows in their order, each once; None exactly where there are more than 100,000, or more
-    /// than 16,777,216 labels in their words.
-    pub(crate) fn into_answer(self, alloc: Global) -> Result<Option<Answer>, NoMemory>
-        ensures { IfOk result (λ answer. MatchOption answer
-            (AreTooMany (Contains self)) (AreRows (Contains self))) }
+    /// than 16,777,216 labels in their words. Takes no memory.
+    pub(crate) fn into_answer(self) -> Option<Answer>
+        ensures { MatchOption result (AreTooMany (Contains self)) (AreRows (Contains self)) }
     {
         let mut found = self;
         found.settle();
         if found.is_too_much() {
-            return Ok(None);
+            return None;
         }
         let FoundRows { rows, .. } = found;
-        Ok(Some(answer_of(alloc, rows)?))
+        Some(Answer::from_rows(rows))
     }
 
     // Whether it is certain that there is too much. Where enough has come, the rows are sorted.
@@ -181,16 +180,4 @@ fn cell_labels(cell: &Cell) -> u64
         Cell::Object(_) => 0,
         Cell::Path(word) => word.len() as u64,
     }
-}
-
-// The answer of these rows, which ascend.
-fn answer_of(alloc: Global, rows: Vec<AnswerRow>) -> Result<Answer, NoMemory>
-    requires { AreAscendingRows rows.items }
-    ensures { IfOk result (λ answer. answer ≡ rows.items) }
-{
-    let mut answer = Answer::new(alloc);
-    'rows: for row in rows {
-        answer.push(row)?;
-    }
-    Ok(answer)
 }

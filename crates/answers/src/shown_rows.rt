@@ -143,7 +143,7 @@ impl<'a, A: Adjacent> ShownRows<'a, A> {
             return Ok(None);
         }
         let found = mem::replace(&mut self.found, FoundRows::new(alloc));
-        found.into_answer(alloc)
+        Ok(found.into_answer())
     }
 
     // Reads the rows of slots that wait, so that none waits. Answers whether it is certain that

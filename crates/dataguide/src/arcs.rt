@@ -11,6 +11,7 @@ use lore_base::{Edge, EdgeBuf, Label, Listing, NoMemory, Oid, Steps};
 use oem_set::OidSet;
 use std::alloc::Global;
 use std::sync::ledger::Ledger;
+use strand_sort::sorted_set;
 
 // A label and the child that an edge with it leads to.
 pub(crate) type ArcBuf = Listing<(Label, Oid)>;
@@ -91,19 +92,22 @@ impl Reader {
     {
         read_edges(graph, set, &mut self.edges, steps)?;
         list_arcs(self.edges.as_slice(), &mut self.arcs)?;
-        put_in_order(&mut self.arcs);
+        put_in_order(&mut self.arcs)?;
         Ok(())
     }
 }
 
-// Puts the arcs into order, each once. They mostly are: where the set has one object, or the edges
-// of its objects are alike.
-fn put_in_order(arcs: &mut ArcBuf)
-    ensures ascend { AscendAsArcs arcs.new }
-    ensures members { (arc : TheLabel × TheOid) → Contains arcs.new arc ↔ Contains arcs.old arc }
+// Puts the arcs into order, each once. They mostly are: where the set has one object, or its objects
+// have edges with one label. Else they are strands, mostly one for each label.
+fn put_in_order(arcs: &mut ArcBuf) -> Result<(), NoMemory>
+    ensures ascend { OnOk result (AscendAsArcs arcs.new) }
+    ensures members { OnOk result
+        ((arc : TheLabel × TheOid) → Contains arcs.new arc ↔ Contains arcs.old arc) }
 {
     if ascend(arcs.as_slice()) {
-        return;
+        return Ok(());
     }
-    arcs.sort_set();
+    let sorted = sorted_set(arcs.allocator(), arcs.as_slice())?;
+    *arcs = sorted;
+    Ok(())
 }

@@ -12,6 +12,7 @@ pub use writing::dump;
 mod edges;
 mod faults;
 pub mod laws;
+mod line_buffer;
 mod lines;
 mod reach;
 mod reading;

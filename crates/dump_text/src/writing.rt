@@ -5,6 +5,7 @@ ghost use Rattle.dump_text.specs.Types.{Value as TheValue};
 ghost use Rattle.dump_text.specs.Dumps as spec;
 ghost use Rattle.dump_text.specs.Dumps.{spelled_edge, head_lines, dump_tree, dump_lines};
 
+use crate::line_buffer::LineBuffer;
 use crate::lines::{edge_line, label_line, mode_line, name_line, number_line, object_line};
 use index_traits::ValueOf;
 use lore_base::{Edge, EdgeBuf, Label, Mode, Names, NoMemory, OemText, Oid, TextList, Value};
@@ -77,8 +78,9 @@ fn text_in(labels: &LabelTable, label: Label) -> &OemText
 fn put_labels(alloc: Global, labels: &LabelTable, lines: &mut TextList) -> Result<(), NoMemory>
     ensures { OnOk result (lines.new ≡ lines.old ++ map spec.label_line labels.now) }
 {
+    let mut line = LineBuffer::new(alloc);
     'labels: for place in 0..labels.len() {
-        lines.push(label_line(alloc, text_in(labels, Label(place)))?)?;
+        lines.push(label_line(&mut line, text_in(labels, Label(place)))?)?;
     }
     Ok(())
 }
@@ -88,9 +90,10 @@ fn put_names(alloc: Global, names: &Names, lines: &mut TextList) -> Result<(), N
 {
     let oids = names.objects()?;
     let texts = names.texts()?;
+    let mut line = LineBuffer::new(alloc);
     'names: for (place, name) in texts.as_slice().iter().enumerate() {
         let oid = oids.as_slice()[place];
-        lines.push(name_line(alloc, name, oid)?)?;
+        lines.push(name_line(&mut line, name, oid)?)?;
     }
     Ok(())
 }
@@ -122,9 +125,10 @@ fn put_objects(alloc: Global, graph: &Graph, lines: &mut TextList) -> Result<(),
     ensures { OnOk result
         (lines.new ≡ lines.old ++ map spec.object_line graph.now.graph.objects) }
 {
+    let mut line = LineBuffer::new(alloc);
     'places: for place in 0..graph.objects() {
         let oid = oid_at(graph, place);
-        lines.push(object_line(alloc, oid, value_in(graph, oid))?)?;
+        lines.push(object_line(&mut line, oid, value_in(graph, oid))?)?;
     }
     Ok(())
 }
@@ -139,9 +143,10 @@ fn put_edges(
     ensures { OnOk result (lines.new ≡ lines.old
         ++ map (λ edge. spec.edge_line (spelled_edge labels.now edge)) edges.now) }
 {
+    let mut line = LineBuffer::new(alloc);
     'edges: for edge in edges {
         let label = text_in(labels, edge.label);
-        lines.push(edge_line(alloc, edge.parent, label, edge.child)?)?;
+        lines.push(edge_line(&mut line, edge.parent, label, edge.child)?)?;
     }
     Ok(())
 }

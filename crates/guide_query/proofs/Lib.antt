@@ -8,7 +8,6 @@ pub mod SomeLines
 pub mod GuideWalkLaws
 pub mod TellsLaws
 pub mod PathLaws
-pub mod ValueLaws
 pub mod PathLineLaws
 pub mod OnePathLines
 pub mod SomePathLines

@@ -8,7 +8,7 @@ use Rattle.lore_base.proofs.TargetLaws.{ListsInOrder-unique}
 use Rattle.guide_query.specs.Types.{Oid, Label, Edge}
 use Rattle.guide_query.specs.GuideLines.{label_text, path_text, size_text}
 use Rattle.guide_query.specs.PathLines.{IsWalkedTo, AreLabelsOf, IsLabelLine}
-use Rattle.guide_query.specs.PrintedObjects.{object_text}
+use Rattle.lore_base.specs.Printed.{object_text}
 use Rattle.guide_query.specs.PathLineLaws.{HasOneBrowsing, HasOneSample}
 use Rattle.guide_query.proofs.FirstLaws.{one_at}
 use Rattle.guide_query.proofs.OneListOfLines.{zip_one}

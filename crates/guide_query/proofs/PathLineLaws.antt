@@ -18,7 +18,7 @@ use Rattle.guide_query.specs.Types.{Oid, Label, Edge, Node, GuideNode, Value}
 use Rattle.guide_query.specs.GuideLines.{path_text, size_text}
 use Rattle.guide_query.specs.PathLines.{IsWalkedTo, IsSetOfPath, AreLabelsOf, IsLabelLine, AreBrowseLines}
 use Rattle.guide_query.specs.PathLines.{AreSampleLines}
-use Rattle.guide_query.specs.PrintedObjects.{object_text}
+use Rattle.lore_base.specs.Printed.{object_text}
 use Rattle.guide_query.specs.inside.Written.{size_at, step_text}
 use Rattle.guide_query.specs.inside.PathNodes.{IsReadable, IsNodeOf, set_at, edges_of, row_at, edge_line}
 use Rattle.guide_query.proofs.TellsLaws.{step-node}

@@ -23,7 +23,7 @@ use Rattle.guide_laws.proofs.StepLaws.{step_of, step_is}
 use Rattle.guide_query.specs.Types.{Oid, Label, Edge}
 use Rattle.guide_query.specs.GuideLines.{label_text, path_text, size_text}
 use Rattle.guide_query.specs.PathLines.{IsWalkedTo, IsSetOfPath, AreLabelsOf, IsLabelLine}
-use Rattle.guide_query.specs.PrintedObjects.{object_text}
+use Rattle.lore_base.specs.Printed.{object_text}
 use Rattle.guide_query.specs.PathLineLaws.{BrowsingExists, SampleExists}
 use Rattle.guide_query.proofs.FirstLaws.{one_at}
 

@@ -1,6 +1,5 @@
 pub mod Types
 pub mod GuideLines
-pub mod PrintedObjects
 pub mod PathLines
 pub mod GuideReaches
 pub mod LineLaws

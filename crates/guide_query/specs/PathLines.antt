@@ -7,7 +7,7 @@ use Rattle.lore_base.specs.TargetSets.{ListsInOrder, HasTexts, LeavesTo, IsStep}
 use Rattle.lore_base.specs.Walks.{Walk}
 use Rattle.guide_query.specs.Types.{Oid, Label, Edge, Value}
 use Rattle.guide_query.specs.GuideLines.{label_text, path_text, size_text}
-use Rattle.guide_query.specs.PrintedObjects.{object_text}
+use Rattle.lore_base.specs.Printed.{object_text}
 
 -- the object is walked to from the named one along labels with these texts
 abbrev pub IsWalkedTo : List (List ℕ × Oid) → List Edge → List (List ℕ) → List ℕ → List (List ℕ) → Oid → Type 0

@@ -4,7 +4,7 @@ ghost use Rattle.lore_base.specs.Printed.{printed};
 ghost use Rattle.guide_query.specs.Types.{Oid as TheOid, Edge as TheEdge};
 ghost use Rattle.guide_query.specs.GuideLines.{IsLabelledGuide};
 ghost use Rattle.guide_query.specs.PathLines.{AreSampleLines};
-ghost use Rattle.guide_query.specs.PrintedObjects.{value_of, object_text};
+ghost use Rattle.lore_base.specs.Printed.{value_of, object_text};
 
 use crate::label_writer::put;
 use crate::path_nodes::{node_of, set_at};

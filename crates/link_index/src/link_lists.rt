@@ -5,14 +5,17 @@ ghost use Rattle.link_index.specs.inside.LinkEdges.{AreSortedLinks, edges_of, li
 use crate::link::Link;
 use lore_base::{Edge, EdgeBuf, Listing, NoMemory};
 use std::alloc::Global;
+use strand_sort::sorted_set;
 
-// The links of these edges in ascending order, each once.
+// The links of these edges in ascending order, each once. Those of a load are a few strands, about
+// one for each level of nesting.
 pub(crate) fn sorted_links(edges: &EdgeBuf) -> Result<Vec<Link>, NoMemory>
     ensures { IfOk result (λ links. AreSortedLinks edges.now links.items) }
 {
-    let mut links = links_of(edges.allocator(), edges.as_slice())?;
-    links.sort_set();
-    Ok(links.into_items())
+    let alloc = edges.allocator();
+    let links = links_of(alloc, edges.as_slice())?;
+    let sorted = sorted_set(alloc, links.as_slice())?;
+    Ok(sorted.into_items())
 }
 
 // The links of these edges.

@@ -7,7 +7,7 @@ use Rattle.lore_base.specs.Types.{Oid, Changes}
 use Rattle.lore_base.specs.Names.{IsNameTable, object_of}
 use Rattle.lore_base.specs.ChangeSets.{IsBound, IsRenamed, NamesThen}
 use Rattle.lore_base.specs.inside.NameTables.{names_after, names_without, found_objects}
-use Rattle.lore_base.proofs.MemberLaws.{Contains-none, Contains-head, Contains-tail, Contains-cases, Contains-same}
+use Rattle.lore_lists.proofs.MemberLaws.{Contains-none, Contains-head, Contains-tail, Contains-cases, Contains-same}
 use Rattle.lore_base.proofs.NameLaws.{bound_found, found_bound, object_of-names_after, left_found, found_left, IsNameTable-names_after, IsNameTable-names_without}
 
 some_once : {X : Type 0} {x y : X} → Some x ≡ Some y → x ≡ y

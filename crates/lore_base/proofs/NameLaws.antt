@@ -16,10 +16,10 @@ use Rattle.std.proofs.lemmas.Map.Keys.{IsDistinct-from_sorted, sorted_tail}
 use Rattle.std.proofs.lemmas.Map.Lookups.{exact_bytes}
 use Rattle.std.proofs.lemmas.Map.Views.{Contains-from_lookup, lookup-from_Contains}
 use Rattle.lore_base.specs.Types.{Oid}
-use Rattle.lore_base.specs.Bytes.{bytes_cmp}
+use Rattle.lore_lists.specs.Bytes.{bytes_cmp}
 use Rattle.lore_base.specs.Names.{IsNameTable, object_of}
 use Rattle.lore_base.specs.inside.NameTables.{names_after, names_without}
-use Rattle.lore_base.proofs.MemberLaws.{Contains-none, Contains-head, Contains-tail, Contains-cases, Contains-same}
+use Rattle.lore_lists.proofs.MemberLaws.{Contains-none, Contains-head, Contains-tail, Contains-cases, Contains-same}
 
 -- what is below all keys is below one among them
 below_one : (key : List ℕ) (done others : List (List ℕ × Oid)) (entry : List ℕ × Oid)

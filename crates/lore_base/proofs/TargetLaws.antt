@@ -4,8 +4,8 @@ use Rattle.std.specs.List.{Contains, slice_get}
 use Rattle.lore_base.specs.Types.{Oid, Label, Edge}
 use Rattle.lore_base.specs.Walks.{Walk, edge_of}
 use Rattle.lore_base.specs.TargetSets.{ListsInOrder}
-use Rattle.lore_base.proofs.ListLaws.{AllPairs-unique}
-use Rattle.lore_base.proofs.MemberLaws.{Contains-none, Contains-head, Contains-cases, Contains-same}
+use Rattle.lore_lists.proofs.ListLaws.{AllPairs-unique}
+use Rattle.lore_lists.proofs.MemberLaws.{Contains-none, Contains-head, Contains-cases, Contains-same}
 
 -- two tests that pass the same objects list them alike
 pub ListsInOrder-same : (P Q : Oid → Type 0) (oids : List Oid) → ((oid : Oid) → P oid ↔ Q oid) → ListsInOrder P oids → ListsInOrder Q oids

@@ -2,7 +2,7 @@
 use Rattle.std.proofs.Common.{◌≡◌, ◌↔◌, inl, inr, List, [], ◌∷◌, ◌++◌, Contains, sym, ◌∙◌, subst}
 use Rattle.lore_base.specs.Types.{Refusal}
 use Rattle.lore_base.specs.Verdicts.{IsFirst, IsClear}
-use Rattle.lore_base.proofs.MemberLaws.{Contains-head, Contains-tail, Contains-same}
+use Rattle.lore_lists.proofs.MemberLaws.{Contains-head, Contains-tail, Contains-same}
 
 module _ (Applies : Refusal → Type 0) where
   pub one_first : (order : List Refusal) (first other : Refusal) → IsFirst Applies order first → IsFirst Applies order other → first ≡ other

@@ -8,7 +8,7 @@ use Rattle.std.specs.Ordering.{int_cmp}
 use Rattle.std.specs.declared.cmp.Ordering.{Ordering}
 use Rattle.std.specs.declared.cmp.Ordering.TheVariants as o
 use Rattle.lore_base.specs.Types.{Value, Whole, Chars, Complex, Op, Eq, Ne, Lt, Le, Gt, Ge, Like}
-use Rattle.lore_base.specs.Bytes.{bytes_cmp}
+use Rattle.lore_lists.specs.Bytes.{bytes_cmp}
 use Rattle.lore_base.specs.Wildcards.{IsLike}
 
 -- one decimal digit or more, perhaps behind a minus, and the whole number that they write

@@ -1,12 +1,14 @@
+pub use Rattle.lore_lists.specs.Lists
+pub use Rattle.lore_lists.specs.Bytes
+pub use Rattle.lore_lists.specs.Pieces
+pub use Rattle.lore_lists.specs.Causes
+pub use Rattle.lore_ends.specs.MemoryEnds
+pub use Rattle.lore_ends.specs.Outcomes
 pub mod Types
-pub mod Bytes
 pub mod inside
 pub mod Quotes
 pub mod Printed
 pub mod Chunks
-pub mod Lists
-pub mod Causes
-pub mod Pieces
 pub mod Refusals
 pub mod Names
 pub mod Walks
@@ -20,4 +22,3 @@ pub mod Databases
 pub mod TargetSets
 pub mod LeastWords
 pub mod ChangeSets
-pub mod MemoryEnds

@@ -6,7 +6,7 @@ use Rattle.std.specs.List.Sorted.{IsStrictlySortedBy}
 use Rattle.std.specs.Map.{lookup, keys_of}
 use Rattle.std.specs.BTreeMap.{is_at}
 use Rattle.std.specs.Str.{bytes_eq}
-use Rattle.lore_base.specs.Bytes.{bytes_cmp}
+use Rattle.lore_lists.specs.Bytes.{bytes_cmp}
 use Rattle.lore_base.specs.Types.{Oid, WORD_BYTES}
 
 -- the object that a name is bound to

@@ -1,4 +1,5 @@
 -- The declared types of this crate with their variants, and the limits, under one module.
+pub use Rattle.lore_lists.specs.declared.no_memory.NoMemory.{NoMemory}
 pub use Rattle.lore_base.specs.declared.edges.Oid.{Oid}
 pub use Rattle.lore_base.specs.declared.edges.Label.{Label}
 pub use Rattle.lore_base.specs.declared.edges.Edge.{Edge}

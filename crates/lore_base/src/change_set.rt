@@ -1,7 +1,8 @@
 ghost use Rattle.std.specs.Prelude.{◌≡◌, []};
 
-use crate::lists::{EdgeBuf, ObjectList, TextList};
+use crate::lists::{EdgeBuf, ObjectList};
 use crate::name_table::Names;
+use lore_lists::TextList;
 use std::alloc::Global;
 
 /// The changes that one statement makes, all taken over the state before it (after the basic

@@ -1,8 +1,8 @@
 ghost use Rattle.std.specs.Prelude.{◌≡◌, Option, None};
 ghost use Rattle.lore_base.specs.Types.{Refusal as TheRefusal};
 
-use crate::no_memory::NoMemory;
 use crate::refusals::Refusal;
+use lore_lists::NoMemory;
 
 /// Why work on a statement ends early: a refusal that the reply tells, or want of memory, which
 /// ends the run.

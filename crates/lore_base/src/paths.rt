@@ -5,9 +5,7 @@ ghost use Rattle.lore_base.specs.Types.{Pattern as ThePattern};
 ghost use Rattle.lore_base.specs.Paths.{PathTree, path_tree, path_trees, parts_of, Fits};
 
 use crate::edges::Label;
-use crate::lists::TryCopy;
-use crate::no_memory::NoMemory;
-use crate::texts::OemText;
+use lore_lists::{NoMemory, OemText, TryCopy};
 use std::alloc::Global;
 
 /// Which labels one step of a path takes.

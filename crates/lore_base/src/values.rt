@@ -1,9 +1,7 @@
 ghost use Rattle.std.specs.Prelude.{◌≡◌, IfOk};
 ghost use Rattle.lore_base.specs.Types.{Value as TheValue};
 
-use crate::lists::TryCopy;
-use crate::no_memory::NoMemory;
-use crate::texts::OemText;
+use lore_lists::{NoMemory, OemText, TryCopy};
 use std::alloc::Global;
 
 /// The value of an object: atomic, a whole number or a text, or complex, and then its edges are its

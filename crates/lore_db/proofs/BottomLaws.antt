@@ -16,13 +16,12 @@ use Rattle.index_traits.specs.Entries.{IsProbed, IsFound, entry_of}
 use Rattle.lorel_bind.specs.declared.bound.BoundStart.{BoundStart}
 use Rattle.lorel_bind.specs.declared.bound.BoundStart.TheVariants as bound_starts
 use Rattle.lorel_bind.specs.Bound.{RangeTree, BoundPathTree, BoundTree}
-use Rattle.lorel_bind.specs.Conditions.{CondOf, CondsOf, and, compare, at, constant, no_cond, cond}
-use Rattle.lorel_bind.specs.Plans.{Probe, IsFitting, DoesNotFit, IsFirstFitting, IsTaken, FollowOn, IsChain, CanBeBottom}
-use Rattle.lorel_bind.specs.Plans.{CannotBeBottom, IsLabelOf, IsCandidate}
+use Rattle.lorel_ranges.specs.Conditions.{CondOf, CondsOf, and, compare, at, constant, no_cond, cond}
+use Rattle.lorel_bind.specs.Plans.{Probe, IsFitting, DoesNotFit, IsFirstFitting, IsTaken, FollowOn, IsChain, CanBeBottom, CannotBeBottom, IsLabelOf, IsCandidate}
 use Rattle.lorel_bind.proofs.AscentLaws.{IsOrder, some_ordered}
 use Rattle.lorel_bind.proofs.ComparedLaws.{told_compares}
-use Rattle.lorel_bind.proofs.ListedLaws.{IsListed, listed_members, listed_same, listed_none, listed_when, listed_over}
-use Rattle.lorel_bind.proofs.ToldLaws.{IsTold, told_both, told_member, told_bytes}
+use Rattle.lorel_ranges.proofs.ListedLaws.{IsListed, listed_members, listed_same, listed_none, listed_when, listed_over}
+use Rattle.lorel_ranges.proofs.ToldLaws.{IsTold, told_both, told_member, told_bytes}
 use Rattle.planner.specs.Choices.{IsCount}
 use Rattle.lore_db.specs.Types.{Oid, Value, ValueEntry, Start}
 use Rattle.lore_db.specs.Types.starts

@@ -5,7 +5,7 @@ use Rattle.lore_base.specs.Databases.{Database, IsValid}
 use Rattle.lore_base.specs.ChangeSets.{Fits, IsAfter, AreSame}
 use Rattle.lore_base.specs.ChangeCauses.{DatabaseCause}
 use Rattle.lore_base.specs.Verdicts.{IsClear, IsToldBy}
-use Rattle.lore_base.specs.declared.no_memory.NoMemory.{NoMemory}
+use Rattle.lore_base.specs.Types.{NoMemory}
 use Rattle.lore_base.proofs.VerdictLaws.{clear_both}
 use Rattle.oem_changes.proofs.SameLaws.{same-back, Fits-same, IsAfter-same}
 use Rattle.lorel_trees.specs.Trees as t

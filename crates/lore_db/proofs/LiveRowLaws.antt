@@ -15,15 +15,16 @@ use Rattle.lore_base.proofs.ListLaws.{AllPairs-head, AllPairs-tail}
 use Rattle.oem_changes.proofs.RootedLaws.{All-of_members}
 use Rattle.lorel_trees.specs.Trees.{RootedTree, TailTree, SelectTree}
 use Rattle.lorel_trees.specs.UpdateRows.{target_select, pair_select}
-use Rattle.lorel_bind.specs.Places.{Place, scope_of, place_of, cell_places}
-use Rattle.lorel_bind.specs.Ranges.{Range, places, ArePlain}
+use Rattle.lorel_ranges.specs.Places.{Place, scope_of, place_of, cell_places}
+use Rattle.lorel_ranges.specs.Ranges.{Range, places, ArePlain}
 use Rattle.lorel_bind.specs.Answers.{Leads, IsValuation, IsRow, row_cmp}
-use Rattle.lorel_bind.specs.Refusals.{text_places, ranged_identifiers, StartsNowhere, HasUnknownName, HasUnknownVariable}
-use Rattle.lorel_bind.specs.inside.Orders.{AreOrdered}
+use Rattle.lorel_ranges.specs.Texts.{text_places, ranged_identifiers}
+use Rattle.lorel_bind.specs.Refusals.{StartsNowhere, HasUnknownName, HasUnknownVariable}
+use Rattle.lorel_ranges.specs.inside.Orders.{AreOrdered}
 use Rattle.lorel_bind.proofs.AnswerLaws.{row_cmp_total}
-use Rattle.lorel_bind.proofs.PlainLaws.{plain_ordered}
+use Rattle.lorel_ranges.proofs.PlainLaws.{plain_ordered}
 use Rattle.lorel_bind.proofs.RootLaws.{IsBoundName, IsKnown, known_found, names_bound, plain_roots, cells_known}
-use Rattle.lorel_bind.proofs.ToldLaws.{told_member, told_bytes}
+use Rattle.lorel_ranges.proofs.ToldLaws.{told_member, told_bytes}
 use Rattle.updates.specs.Effects.{Pair, targets}
 use Rattle.updates.proofs.RowLaws.{map_found, map_holds}
 use Rattle.lore_db.specs.Types.{Oid, Label, Cell}

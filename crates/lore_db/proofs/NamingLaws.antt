@@ -9,7 +9,7 @@ use Rattle.lore_base.specs.Verdicts.{IsClear, IsToldBy}
 use Rattle.lore_base.proofs.NameLaws.{found_bound, bound_found}
 use Rattle.oem_changes.proofs.RootedLaws.{All-of_members}
 use Rattle.lorel_trees.specs.Trees.{RootedTree, SelectTree, StatementTree, bind, unname}
-use Rattle.lorel_bind.specs.Places.{place_of}
+use Rattle.lorel_ranges.specs.Places.{place_of}
 use Rattle.lorel_bind.specs.Answers.{IsAnswer}
 use Rattle.updates.proofs.RowLaws.{map_holds}
 use Rattle.lore_db.specs.Types.{Oid, Cell, Changes, Refusal, Reply}

@@ -8,10 +8,10 @@ use Rattle.lore_base.proofs.MemberLaws.{Contains-head, Contains-tail}
 use Rattle.lorel_trees.specs.Trees as t
 use Rattle.lorel_trees.specs.Trees.{SelectTree, StatementTree}
 use Rattle.lorel_trees.specs.UpdateRows.{target_select, pair_select}
-use Rattle.lorel_bind.specs.Places.{Place, CellPlace, object, scope_of, place_of, cells_of}
-use Rattle.lorel_bind.specs.Ranges.{Range}
+use Rattle.lorel_ranges.specs.Places.{Place, CellPlace, object, scope_of, place_of, cells_of}
+use Rattle.lorel_ranges.specs.Ranges.{Range}
 use Rattle.lorel_bind.specs.Answers.{ShowsCell, IsRow, IsAnswer}
-use Rattle.lorel_bind.proofs.ListLaws.{map-take_read}
+use Rattle.lorel_ranges.proofs.ListLaws.{map-take_read}
 use Rattle.updates.specs.Effects.{Pair}
 use Rattle.lore_db.specs.Types.{Oid, Cell}
 use Rattle.lore_db.specs.Types.cells

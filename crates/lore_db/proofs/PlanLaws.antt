@@ -18,8 +18,8 @@ use Rattle.dataguide.proofs.PlaceLaws.{Contains-at}
 use Rattle.guide_query.specs.GuideReaches.{GuideOver, TellsReached, TellsOf}
 use Rattle.lore_store.specs.Stores.{IsGuided}
 use Rattle.lorel_trees.specs.Trees.{SelectTree}
-use Rattle.lorel_bind.specs.Places.{Place}
-use Rattle.lorel_bind.specs.Ranges.{Range}
+use Rattle.lorel_ranges.specs.Places.{Place}
+use Rattle.lorel_ranges.specs.Ranges.{Range}
 use Rattle.lorel_bind.specs.Bound.{RangeTree, BoundTree}
 use Rattle.lorel_bind.specs.Bindings.{StandsFor as StandsForPlace, IsBoundRange, IsBinding}
 use Rattle.lorel_bind.specs.Plans.{IsChain}

@@ -10,7 +10,7 @@ use Rattle.lore_base.proofs.MemberLaws.{Contains-none}
 use Rattle.lorel_trees.specs.Trees.{SelectTree}
 use Rattle.index_traits.specs.Entries.{AreLinks, AreValueEntries}
 use Rattle.index_laws.proofs.SortedEntries.{entries_are_determined}
-use Rattle.lorel_bind.specs.Conditions.{CondOf}
+use Rattle.lorel_ranges.specs.Conditions.{CondOf}
 use Rattle.lorel_bind.specs.Bound.{RangeTree, BoundPathTree, BoundTree}
 use Rattle.lorel_bind.specs.Bindings.{IsBinding, IsWithin, AreInOrder, IsRunnable}
 use Rattle.lorel_bind.specs.SlotRows.{HoldsOver, ShowsObjects}

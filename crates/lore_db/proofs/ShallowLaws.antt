@@ -12,7 +12,7 @@ use Rattle.lorel_trees.specs.Selects.{tree_tail, nest_tail, tree_select, nest_se
 use Rattle.lorel_trees.specs.Statements.{tree_statement, nest_statement}
 use Rattle.lorel_trees.specs.Sound.{IsSound}
 use Rattle.lorel_trees.specs.UpdateRows.{target_select, pair_select, rows_of}
-use Rattle.lorel_bind.specs.Bindings.{depth_of, depth_of_all, IsShallow}
+use Rattle.lorel_ranges.specs.Texts.{depth_of, depth_of_all, IsShallow}
 
 both : (a b c d : ℕ) → a ≤ c → b ≤ d → max a b ≤ max c d
 both a b c d first second = max-le (le_trans first (le-max_left c d)) (le_trans second (le-max_right c d))

@@ -11,11 +11,11 @@ use Rattle.lore_base.specs.Paths.{Reaches}
 use Rattle.lorel_bind.specs.declared.bound.BoundStart.{BoundStart}
 use Rattle.lorel_bind.specs.declared.bound.BoundStart.TheVariants as bound_starts
 use Rattle.lorel_bind.specs.Bound.{RangeTree, BoundPathTree, BoundTree}
-use Rattle.lorel_bind.specs.Conditions.{CondOf, paths_of, paths_in}
+use Rattle.lorel_ranges.specs.Conditions.{CondOf, paths_of, paths_in}
 use Rattle.lorel_bind.specs.Bindings.{IsWithin, IsCellWithin, AreInOrder, IsBoundWithin, IsRunnable}
 use Rattle.lorel_bind.specs.SlotRows.{StartsAt, BoundStartsAt, MeetsBy, HoldsOver, AreFilled, IsSlotWord, ShowsSlot, IsSlotRow}
 use Rattle.lorel_bind.proofs.ConditionLaws.{ReachAlike, holds_like, like_itself}
-use Rattle.lorel_bind.proofs.ListLaws.{AllZip-length}
+use Rattle.lorel_ranges.proofs.ListLaws.{AllZip-length}
 use Rattle.plan_ops.specs.Steps.{in_eight, IsSought}
 use Rattle.answers.specs.Asked.{ShowsRow, ShowsAsked}
 use Rattle.answers.specs.Types.{CellOf}

@@ -2,7 +2,7 @@ ghost use Rattle.std.specs.Prelude.{◌≡◌, [], ◌∷◌, length, None, All,
 ghost use Rattle.lore_base.specs.Names.{IsName};
 ghost use Rattle.lore_base.specs.Verdicts.{IsToldBy};
 ghost use Rattle.lorel_trees.specs.Trees.{rooted_tree, select_tree, bind, unname};
-ghost use Rattle.lorel_bind.specs.Bindings.{IsShallow};
+ghost use Rattle.lorel_ranges.specs.Texts.{IsShallow};
 ghost use Rattle.lore_db.specs.Forms.{path_select};
 ghost use Rattle.lore_db.specs.Effects.{naming, unnaming};
 ghost use Rattle.lore_db.specs.Statements.{Cause, order, Executes};

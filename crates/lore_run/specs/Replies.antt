@@ -6,7 +6,7 @@ use Rattle.lore_run.specs.Types.plan_kinds
 use Rattle.lore_run.specs.Types.cells
 use Rattle.lore_base.specs.Printed.{label_text}
 use Rattle.lore_base.specs.Refusals.{number_of, text_of}
-use Rattle.guide_query.specs.PrintedObjects.{object_text}
+use Rattle.lore_base.specs.Printed.{object_text}
 
 -- a label behind a dot, by its text in the table, where each label of a reply is
 abbrev pub step_text : List (List ℕ) → Label → List ℕ

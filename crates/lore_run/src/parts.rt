@@ -1,6 +1,6 @@
 ghost use Rattle.std.specs.Prelude.{◌≡◌, ◌+◌, ◌<◌, ◌≤◌, ◌^◌, [], length, IfOk, IfErr, OnOk, OnErr};
 ghost use Rattle.std.specs.Io.KnownBytes.{Appends};
-ghost use Rattle.lore_base.specs.Causes.{HasCause};
+ghost use Rattle.lore_base.specs.Outcomes.{HasCause};
 ghost use Rattle.lore_base.specs.declared.limits.TheConstants.{CHUNK_BYTES};
 ghost use Rattle.lore_run.specs.Runs.{chunk, rest, Yields, refusals};
 ghost use Rattle.lore_run.specs.Endings.{IsCausedBySink};

@@ -1,7 +1,7 @@
 ghost use Rattle.std.specs.Prelude.{◌≡◌, ◌+◌, ◌<◌, ◌≤◌, ◌^◌, false, length, take, IfOk, IfErr};
 ghost use Rattle.std.specs.Prelude.{OnOk, OnErr};
 ghost use Rattle.std.specs.Io.KnownBytes.{Consumes, Keeps, IsAtEnd};
-ghost use Rattle.lore_base.specs.Causes.{HasCause};
+ghost use Rattle.lore_base.specs.Outcomes.{HasCause};
 ghost use Rattle.lore_base.specs.declared.limits.TheConstants.{SCRIPT_BYTES as THE_SCRIPT_BYTES};
 ghost use Rattle.lore_run.specs.Endings.{IsCausedBySink};
 ghost use Rattle.lore_run.specs.inside.Turns.{standing, IsUnended, Advances, StopsIn};

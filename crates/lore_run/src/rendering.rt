@@ -1,11 +1,11 @@
-ghost use Rattle.std.specs.Prelude.{◌≡◌, ◌<◌, [], ◌++◌, length, codes, unwrap_or, slice_get};
-ghost use Rattle.std.specs.Prelude.{OnOk, OnErr};
+ghost use Rattle.std.specs.Prelude.{◌≡◌, ◌<◌, ◌≤◌, ◌-◌, [], ◌++◌, length, drop, codes, decimal};
+ghost use Rattle.std.specs.Prelude.{unwrap_or, slice_get, OnOk, OnErr};
 ghost use Rattle.std.specs.Io.KnownBytes.{Appends};
 ghost use Rattle.std.specs.List.{flat_map, join_by};
-ghost use Rattle.lore_base.specs.Causes.{HasCause};
+ghost use Rattle.lore_base.specs.Outcomes.{HasCause};
 ghost use Rattle.lore_base.specs.Pieces.{Puts};
 ghost use Rattle.lore_base.specs.Printed.{printed};
-ghost use Rattle.guide_query.specs.PrintedObjects.{value_of, object_text};
+ghost use Rattle.lore_base.specs.Printed.{value_of, object_text};
 ghost use Rattle.lore_run.specs.Replies.{step_text, word_text, cell_text};
 ghost use Rattle.lore_run.specs.Replies.{row_line, kind_text, given_text, rendered};
 ghost use Rattle.lore_run.specs.inside.Deliveries.{AppendsProperFront};
@@ -13,13 +13,17 @@ ghost use Rattle.lore_run.specs.Types.{Changed as ChangedReply, Rows as RowsRepl
 ghost use Rattle.lore_run.specs.Types.{PlanShown as PlanReply};
 ghost use Rattle.lore_run.specs.Types.{Lines as LinesReply};
 ghost use Rattle.lore_run.specs.Types.{Refused as RefusedReply};
+ghost use Rattle.lore_run.specs.declared.rendering.TheConstants.{OID_BYTES};
 
 use crate::reply_writer::ReplyWriter;
-use itoa::{Buffer, Integer};
+use itoa::{Buffer, Integer, write_digits};
 use lore_base::{Failed, Label, OemText, Oid, Out, Refusal, Sink, Value};
 use lore_db::{AnswerRow, Cell, Db, Reply};
 use lorel_bind::PlanKind;
 use oem_atom::{print_label, print_value};
+
+// The bytes of the longest number of an object, with `&` and a space.
+const OID_BYTES: usize = 12;
 
 /// Writes the lines of a reply to the sink, by way of a buffer of 4,096 bytes. An object of a row
 /// that isn't live is printed as a complex one. Fails where a write fails, and a proper front of
@@ -217,9 +221,29 @@ fn put_object<O: Out>(oid: Oid, db: &Db, out: &mut O) -> Result<(), O::Fault>
     ensures { Puts O.is_memory (O.state out.old)
         (object_text db.now.graph.objects oid) (O.state out.new) result }
 {
-    put_count(b"&", oid.0, out)?;
-    out.put(b" ")?;
+    put_oid(oid, out)?;
     put_value_of(oid, db, out)
+}
+
+/// Puts `&`, the number of an object and a space: in one piece, since most cells have them.
+fn put_oid<O: Out>(oid: Oid, out: &mut O) -> Result<(), O::Fault>
+    ensures { Puts O.is_memory (O.state out.old)
+        (codes "&" ++ decimal oid.0 ++ codes " ") (O.state out.new) result }
+{
+    let mut bytes = [b' '; OID_BYTES];
+    let start = write_oid(oid.0, &mut bytes);
+    out.put(&bytes[start..])
+}
+
+/// Writes a number that ends before the last byte, and `&` before it. Answers where that is.
+fn write_oid(number: u32, bytes: &mut [u8; OID_BYTES]) -> usize
+    ensures within { result ≤ OID_BYTES }
+    ensures written { drop result bytes.new
+        ≡ codes "&" ++ decimal number ++ drop (OID_BYTES - 1) bytes.old }
+{
+    let digits = write_digits(u64::from(number), bytes, OID_BYTES - 1);
+    bytes[digits - 1] = b'&';
+    digits - 1
 }
 
 /// Puts a word: each label behind a dot, and one dot for the word of no label.
@@ -271,8 +295,7 @@ fn put_value_of<O: Out>(oid: Oid, db: &Db, out: &mut O) -> Result<(), O::Fault>
     print_value(db.value(oid).unwrap_or(&Value::Complex), out)
 }
 
-/// Puts some words and the decimal digits of a number behind them. Inlined, since each cell has one.
-#[inline(always)]
+/// Puts some words and the decimal digits of a number behind them.
 fn put_count<I: Integer, O: Out>(words: &[u8], number: I, out: &mut O) -> Result<(), O::Fault>
     ensures { Puts O.is_memory (O.state out.old)
         (words.now ++ I.text number) (O.state out.new) result }
@@ -281,8 +304,7 @@ fn put_count<I: Integer, O: Out>(words: &[u8], number: I, out: &mut O) -> Result
     put_number(number, out)
 }
 
-/// Puts the decimal digits of a number. Inlined, since each cell has one.
-#[inline(always)]
+/// Puts the decimal digits of a number.
 fn put_number<I: Integer, O: Out>(number: I, out: &mut O) -> Result<(), O::Fault>
     ensures { Puts O.is_memory (O.state out.old) (I.text number) (O.state out.new) result }
 {

@@ -1,7 +1,7 @@
 ghost use Rattle.std.specs.Prelude.{◌≡◌, ◌<◌, ◌≤◌, ◌↔◌, [], ◌++◌, length, take, drop};
 ghost use Rattle.std.specs.Prelude.{IsTrue, OnOk, OnErr, IfErr};
 ghost use Rattle.std.specs.Io.KnownBytes.{Appends};
-ghost use Rattle.lore_base.specs.Causes.{HasCause};
+ghost use Rattle.lore_base.specs.Outcomes.{HasCause};
 ghost use Rattle.lore_run.specs.inside.Deliveries.{passing, HandsOn};
 
 use lore_base::{Failed, Out, Sink};

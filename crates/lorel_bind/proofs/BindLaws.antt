@@ -14,25 +14,26 @@ use Rattle.lorel_trees.specs.declared.conditions.Cond.TheFolds.{fold-roll-Cond}
 use Rattle.lorel_trees.specs.Trees as t
 use Rattle.lorel_trees.specs.Trees.{CondTree, cond_tree, rooted_tree, operand_tree, cond_step, conds_step}
 use Rattle.lorel_bind.specs.Types.{BoundStart, NESTING}
-use Rattle.lorel_bind.specs.Places as p
-use Rattle.lorel_bind.specs.Places.{Scope, place_of}
-use Rattle.lorel_bind.specs.Conditions.{CondOf, exists, for_all, cond_in}
-use Rattle.lorel_bind.specs.Ranges.{Range, IsFixed, places}
+use Rattle.lorel_ranges.specs.Places as p
+use Rattle.lorel_ranges.specs.Places.{Scope, place_of}
+use Rattle.lorel_ranges.specs.Conditions.{CondOf, exists, for_all, cond_in}
+use Rattle.lorel_ranges.specs.Ranges.{Range, IsFixed, places}
 use Rattle.lorel_bind.specs.Bound as b
 use Rattle.lorel_bind.specs.Bound.{BoundPathTree, bound_path, bound_cond}
-use Rattle.lorel_bind.specs.Bindings.{StandsForAny, IsBoundPath, Correspond, depth_of_all}
-use Rattle.lorel_bind.specs.inside.Scopes.{enclosed, IsScope, names_of}
-use Rattle.lorel_bind.specs.inside.Views.{root_tree, place_tree, place_trees, prefix_of, ranges_of, texts}
+use Rattle.lorel_bind.specs.Bindings.{StandsForAny, IsBoundPath, Correspond}
+use Rattle.lorel_ranges.specs.Texts.{depth_of_all}
+use Rattle.lorel_ranges.specs.Scopes.{enclosed, IsScope, names_of}
+use Rattle.lorel_ranges.specs.Views.{root_tree, place_tree, place_trees, prefix_of, ranges_of, texts}
 use Rattle.lorel_bind.specs.inside.Slots.{CanStartAny, StartsAny, CanBind}
 use Rattle.lorel_bind.specs.inside.Binders.{Binds, BindsRooted, BindsCond, BindsEach}
 use Rattle.lorel_bind.specs.declared.conditions.Binder.{Binder}
-use Rattle.lorel_bind.specs.declared.places.Place.{Place}
+use Rattle.lorel_ranges.specs.declared.places.Place.{Place}
 use Rattle.lorel_bind.specs.declared.bound.BoundPath.{BoundPath}
 use Rattle.lorel_bind.specs.declared.bound.BoundCond.{BoundCond}
 use Rattle.lorel_bind.specs.declared.bound.BoundCond.TheViews as v
-use Rattle.lorel_bind.proofs.PlaceLaws.{place_from}
+use Rattle.lorel_ranges.proofs.PlaceLaws.{place_from}
 use Rattle.lorel_bind.proofs.BoundLaws.{exists_cond, for_all_cond}
-use Rattle.lorel_bind.proofs.TextLaws.{cond_in-body, exists_tree, for_all_tree}
+use Rattle.lorel_ranges.proofs.TextLaws.{cond_in-body, exists_tree, for_all_tree}
 
 -- ---- the plain data of conditions by their forms
 pub compare_tree : (left op right : _) → cond_tree (Compare left op right) ≡ t.compare (operand_tree left) op (operand_tree right)
@@ -104,15 +105,15 @@ module _ (binder : Binder) (around : List (Bor (List ℕ))) where
   -- what is left is bound behind the longest prefix that is a range
   pub bound_rooted : (path : Rooted) (place prefix : Place) (len : ℕ) (start : BoundStart) (rest : Path)
       → ((scope : Scope) → IsScope (names_of binder.variables.now) scope → place_tree place ≡ place_of (enclosed 0 (texts around) scope) (rooted_tree path))
-      → ((ranges : List Range) → places ranges ≡ place_trees binder.plain.now.places.items
+      → ((ranges : List Range) → places ranges ≡ place_trees binder.plain.now
       → IsFixed ranges (place_tree place) (prefix_of len (place_tree place)) (drop len (place_tree place).parts))
       → prefix.root ≡ place.root → prefix.parts.now ≡ take len place.parts.now
       → path_tree rest ≡ seq (trees_of (map path_tree (drop len place.parts.now)))
-      → StartsAny binder.slots.now.names.now (ranges_of binder.slots.now.links.items) (place_tree prefix) start
+      → StartsAny binder.slots.now.names.now (ranges_of binder.slots.now.fused.items) (place_tree prefix) start
       → BindsRooted binder around (rooted_tree path) (bound_path (record { start = start; rest = rest }))
   bound_rooted path place prefix len start rest is fixed root parts ends starts plain scope serves can =
       let names = binder.slots.now.names.now in
-      let fused = ranges_of binder.slots.now.links.items in
+      let fused = ranges_of binder.slots.now.fused.items in
       let here = is scope serves.known in
       let is_fixed = fixed plain serves.places in
       let at : place_tree prefix ≡ prefix_of len (place_tree place) =

@@ -9,22 +9,23 @@ use Rattle.lorel_bind.specs.Types.{Oid, Start, BoundStart, CellOf}
 use Rattle.lorel_bind.specs.Types.shown
 use Rattle.lorel_bind.specs.Types.starts
 use Rattle.lorel_bind.specs.Types.bound_starts
-use Rattle.lorel_bind.specs.Places.{Place, CellPlace, object, word, cells_of}
-use Rattle.lorel_bind.specs.Conditions.{OperandOf, constant, at, CondOf, or, and, not, exists, for_all, compare, same, CondsOf, no_cond, cond, operand_paths, paths_of, paths_of_all, paths_in, cond_of, cond_places}
-use Rattle.lorel_bind.specs.Ranges.{Range, places, AreFused, IsUsed}
-use Rattle.lorel_bind.specs.Refusals.{ranged_identifiers, StartsNowhere}
+use Rattle.lorel_ranges.specs.Places.{Place, CellPlace, object, word, cells_of}
+use Rattle.lorel_ranges.specs.Conditions.{OperandOf, constant, at, CondOf, or, and, not, exists, for_all, compare, same, CondsOf, no_cond, cond, operand_paths, paths_of, paths_of_all, paths_in, cond_of, cond_places}
+use Rattle.lorel_ranges.specs.Ranges.{Range, places, AreFused, IsUsed}
+use Rattle.lorel_ranges.specs.Texts.{ranged_identifiers}
+use Rattle.lorel_bind.specs.Refusals.{StartsNowhere}
 use Rattle.lorel_bind.specs.Bound.{RangeTree, BoundPathTree}
 use Rattle.lorel_bind.specs.Bindings.{StandsFor, StandsForAny, IsBoundRange, IsBoundCell, IsBoundPath, CorrespondOperands, Correspond, CorrespondEach, CorrespondIf}
 use Rattle.lorel_bind.specs.Laws.{HasOneBinding, HasSomeBinding}
-use Rattle.lorel_bind.specs.inside.Orders.{IsOpen, AreOrdered}
+use Rattle.lorel_ranges.specs.inside.Orders.{IsOpen, AreOrdered}
 use Rattle.lorel_bind.specs.inside.Slots.{CanStart, CanShow, CanBind}
-use Rattle.lorel_bind.proofs.ToldLaws.{told_member, told_bytes}
-use Rattle.lorel_bind.proofs.ListLaws.{All-parts, Contains-slot}
-use Rattle.lorel_bind.proofs.OrderLaws.{open_places, other_places}
-use Rattle.lorel_bind.proofs.GatherLaws.{has_one_plain, has_some_plain}
-use Rattle.lorel_bind.proofs.PlainLaws.{plain_ordered}
-use Rattle.lorel_bind.proofs.FuseLaws.{has_one_fused, fused_ordered}
-use Rattle.lorel_bind.proofs.PrefixLaws.{one_fixed, some_fixed, has_some_fused}
+use Rattle.lorel_ranges.proofs.ToldLaws.{told_member, told_bytes}
+use Rattle.lorel_ranges.proofs.ListLaws.{All-parts, Contains-slot}
+use Rattle.lorel_ranges.proofs.OrderLaws.{open_places, other_places}
+use Rattle.lorel_ranges.proofs.GatherLaws.{has_one_plain, has_some_plain}
+use Rattle.lorel_ranges.proofs.PlainLaws.{plain_ordered}
+use Rattle.lorel_ranges.proofs.FuseLaws.{has_one_fused, fused_ordered}
+use Rattle.lorel_ranges.proofs.PrefixLaws.{one_fixed, some_fixed, has_some_fused}
 use Rattle.lorel_bind.proofs.ReadyLaws.{starts_can, cells_can, paths_can}
 
 -- ---- what is related to one thing at most

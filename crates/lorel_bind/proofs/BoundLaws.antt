@@ -1,7 +1,7 @@
 -- Bound conditions as plain data, by their forms.
 use Rattle.std.proofs.Common.{◌≡◌, List, sym, ap, ◌∙◌}
 use Rattle.lorel_bind.specs.Types.{Op}
-use Rattle.lorel_bind.specs.Conditions.{CondOf, exists, for_all, compare}
+use Rattle.lorel_ranges.specs.Conditions.{CondOf, exists, for_all, compare}
 use Rattle.lorel_bind.specs.Bound.{BoundPathTree, bound_path, bound_operand, bound_cond, cond_step, conds_step}
 use Rattle.lorel_bind.specs.declared.bound.BoundPath.{BoundPath}
 use Rattle.lorel_bind.specs.declared.bound.BoundOperand.{BoundOperand}

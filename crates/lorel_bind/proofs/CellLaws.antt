@@ -9,18 +9,18 @@ use Rattle.lore_base.proofs.MemberLaws.{Contains-none, Contains-cases}
 use Rattle.lorel_trees.specs.Trees.{SelectTree}
 use Rattle.lorel_bind.specs.Types.{Oid, Label, Cell}
 use Rattle.lorel_bind.specs.Types.cells
-use Rattle.lorel_bind.specs.Places.{Place, CellPlace, object, word, cells_of}
-use Rattle.lorel_bind.specs.Ranges.{Range, places, ArePlain}
+use Rattle.lorel_ranges.specs.Places.{Place, CellPlace, object, word, cells_of}
+use Rattle.lorel_ranges.specs.Ranges.{Range, places, ArePlain}
 use Rattle.lorel_bind.specs.Answers.{IsWordAt, ShowsCell}
-use Rattle.lorel_bind.specs.Refusals.{text_places}
-use Rattle.lorel_bind.specs.inside.Orders.{IsFound, AreOrdered}
-use Rattle.lorel_bind.proofs.ListedLaws.{IsListed, listed_members, listed_one, listed_same, listed_over, listed_where, listed_pairs}
+use Rattle.lorel_ranges.specs.Texts.{text_places}
+use Rattle.lorel_ranges.specs.inside.Orders.{IsFound, AreOrdered}
+use Rattle.lorel_ranges.proofs.ListedLaws.{IsListed, listed_members, listed_one, listed_same, listed_over, listed_where, listed_pairs}
 use Rattle.lorel_bind.proofs.LeastWordLaws.{listed_least}
-use Rattle.lorel_bind.proofs.ReachedLaws.{Contains-mapped}
-use Rattle.lorel_bind.proofs.PlaceLaws.{told_place}
-use Rattle.lorel_bind.proofs.OrderLaws.{IsFound-wider}
-use Rattle.lorel_bind.proofs.PlainLaws.{plain_ordered}
-use Rattle.lorel_bind.proofs.ShownLaws.{object_shown}
+use Rattle.lorel_ranges.proofs.ListLaws.{Contains-mapped}
+use Rattle.lorel_ranges.proofs.PlaceLaws.{told_place}
+use Rattle.lorel_ranges.proofs.OrderLaws.{IsFound-wider}
+use Rattle.lorel_ranges.proofs.PlainLaws.{plain_ordered}
+use Rattle.lorel_ranges.proofs.ShownLaws.{object_shown}
 use Rattle.lorel_bind.proofs.RootLaws.{IsBoundName, IsKnown, known_found, plain_roots, cells_known}
 use Rattle.lorel_bind.proofs.RowLaws.{Agree}
 use Rattle.lorel_bind.proofs.FusedRowLaws.{AgreeOn}

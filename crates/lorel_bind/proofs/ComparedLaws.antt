@@ -16,8 +16,8 @@ use Rattle.lore_base.specs.Bytes.{bytes_cmp}
 use Rattle.lore_base.specs.Wildcards.{like_sign, characters, IsLike}
 use Rattle.lore_base.specs.Comparisons.{IsNumber, ReadsAs, CompareAs, Admits, IsTextOf, AreAlike, Compares}
 use Rattle.lore_base.proofs.MemberLaws.{Contains-tail, Contains-head, Contains-same}
-use Rattle.lorel_bind.proofs.ToldLaws.{IsTold, told_by, told_below, told_same, told_not, told_both, told_either, told_bytes}
-use Rattle.lorel_bind.proofs.ListedLaws.{IsListed, listed_members, listed_none, listed_one, listed_same, listed_either, listed_when, listed_over, listed_where, told_some}
+use Rattle.lorel_ranges.proofs.ToldLaws.{IsTold, told_by, told_below, told_same, told_not, told_both, told_either, told_bytes}
+use Rattle.lorel_ranges.proofs.ListedLaws.{IsListed, listed_members, listed_none, listed_one, listed_same, listed_either, listed_when, listed_over, listed_where, told_some}
 use Rattle.lorel_bind.proofs.MatchedLaws.{told_stand}
 
 -- ---- the number that a text reads as

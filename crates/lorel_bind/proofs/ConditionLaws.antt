@@ -5,10 +5,11 @@ use Rattle.std.proofs.lemmas.List.Elements.{Contains-append_left, Contains-appen
 use Rattle.lore_base.specs.Comparisons.{Compares}
 use Rattle.lore_base.proofs.MemberLaws.{Contains-tail, Contains-head}
 use Rattle.lorel_bind.specs.Types.{Oid, Value, Op}
-use Rattle.lorel_bind.specs.Conditions.{OperandOf, constant, at, CondOf, or, and, not, exists, for_all, compare, same, CondsOf, no_cond, cond, operand_paths, paths_of, paths_of_all, Gives, Holds, SomeHolds, AllHold}
+use Rattle.lorel_ranges.specs.Conditions.{OperandOf, constant, at, CondOf, or, and, not, exists, for_all, compare, same, CondsOf, no_cond, cond, operand_paths, paths_of, paths_of_all}
+use Rattle.lorel_bind.specs.Holding.{Gives, Holds, SomeHolds, AllHold}
 use Rattle.lorel_bind.specs.Bindings.{CorrespondOperands, Correspond, CorrespondEach}
-use Rattle.lorel_bind.proofs.ToldLaws.{IsTold, told_same, told_not, told_both, told_either, told_oid}
-use Rattle.lorel_bind.proofs.ListedLaws.{IsListed, listed_one, listed_same, listed_over, told_some, told_all, told_listed}
+use Rattle.lorel_ranges.proofs.ToldLaws.{IsTold, told_same, told_not, told_both, told_either, told_oid}
+use Rattle.lorel_ranges.proofs.ListedLaws.{IsListed, listed_one, listed_same, listed_over, told_some, told_all, told_listed}
 use Rattle.lorel_bind.proofs.ComparedLaws.{told_compares}
 
 -- ---- conditions whose paths reach alike

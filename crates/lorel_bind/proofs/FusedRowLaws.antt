@@ -10,19 +10,19 @@ use Rattle.lore_base.proofs.MemberLaws.{Contains-tail, Contains-cases}
 use Rattle.lorel_trees.specs.Trees.{SelectTree}
 use Rattle.lorel_bind.specs.Types.{Oid, Label, Cell}
 use Rattle.lorel_bind.specs.Types.cells
-use Rattle.lorel_bind.specs.Places.{named, Place, at_root, CellPlace, object, word, cells_of}
-use Rattle.lorel_bind.specs.Conditions.{cond_of}
-use Rattle.lorel_bind.specs.Ranges.{Range, IsFixed, IsUsed, joined, Fuses, FusesTimes}
+use Rattle.lorel_ranges.specs.Places.{named, Place, at_root, CellPlace, object, word, cells_of}
+use Rattle.lorel_ranges.specs.Conditions.{cond_of}
+use Rattle.lorel_ranges.specs.Ranges.{Range, IsFixed, IsUsed, joined, Fuses, FusesTimes}
 use Rattle.lorel_bind.specs.Answers.{Leads, IsValuation, HoldsAt, IsWordAt, ShowsCell, IsRowOver}
 use Rattle.lorel_bind.specs.Laws.{FusingKeepsRows}
-use Rattle.lorel_bind.specs.inside.Orders.{AreOrdered}
-use Rattle.lorel_bind.proofs.ListLaws.{Contains-between, All-parts, All-from_members}
-use Rattle.lorel_bind.proofs.GatherLaws.{has_one_plain}
-use Rattle.lorel_bind.proofs.OrderLaws.{open_at, own_start, placed_once}
-use Rattle.lorel_bind.proofs.PlainLaws.{plain_ordered}
-use Rattle.lorel_bind.proofs.FuseLaws.{only_joined, only_middle, Fuses-ordered}
+use Rattle.lorel_ranges.specs.inside.Orders.{AreOrdered}
+use Rattle.lorel_ranges.proofs.ListLaws.{Contains-between, All-parts, All-from_members}
+use Rattle.lorel_ranges.proofs.GatherLaws.{has_one_plain}
+use Rattle.lorel_ranges.proofs.OrderLaws.{open_at, own_start, placed_once}
+use Rattle.lorel_ranges.proofs.PlainLaws.{plain_ordered}
+use Rattle.lorel_ranges.proofs.FuseLaws.{only_joined, only_middle, Fuses-ordered}
 use Rattle.lorel_bind.proofs.LeadLaws.{Reaches-split, Reaches-join}
-use Rattle.lorel_bind.proofs.ShownLaws.{object_shown}
+use Rattle.lorel_ranges.proofs.ShownLaws.{object_shown}
 use Rattle.lorel_bind.proofs.ValuationLaws.{HoldsAt-same, moved, moved_there, moved_elsewhere}
 
 -- ---- cells

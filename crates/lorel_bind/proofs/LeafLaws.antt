@@ -4,10 +4,11 @@ use Rattle.std.specs.List.{flat_map, sum_by}
 use Rattle.std.proofs.lemmas.List.Sums.{sum_by-cons, sum_by-append}
 use Rattle.lore_base.specs.Paths.{PathTree, trees_of, leaves_of}
 use Rattle.lorel_trees.specs.Trees.{FromTree, SelectTree}
-use Rattle.lorel_bind.specs.Places.{ranged, Place, at_root, beyond, Scope, place_of, scope_behind, cell_places}
-use Rattle.lorel_bind.specs.Conditions.{cond_places}
-use Rattle.lorel_bind.specs.Ranges.{Range, prefix_ranges, path_ranges, from_item_ranges, from_ranges, made_ranges, AreGathered, ArePlain, joined, IsUsed, Fuses, FusesTimes, AreFused, IsFixed}
-use Rattle.lorel_bind.specs.Refusals.{from_places, text_places, leaves_in}
+use Rattle.lorel_ranges.specs.Places.{ranged, Place, at_root, beyond, Scope, place_of, scope_behind, cell_places}
+use Rattle.lorel_ranges.specs.Conditions.{cond_places}
+use Rattle.lorel_ranges.specs.Ranges.{Range, prefix_ranges, path_ranges, from_item_ranges, from_ranges, made_ranges, AreGathered, ArePlain, joined, IsUsed, Fuses, FusesTimes, AreFused, IsFixed}
+use Rattle.lorel_ranges.specs.Texts.{from_places, text_places}
+use Rattle.lorel_bind.specs.Refusals.{leaves_in}
 
 -- the leaves of the paths of ranges
 abbrev pub range_leaves : List Range → ℕ

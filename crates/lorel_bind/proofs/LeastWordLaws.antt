@@ -17,8 +17,8 @@ use Rattle.lore_base.proofs.WalkLaws.{Walk-within}
 use Rattle.lore_base.proofs.MemberLaws.{Contains-none, Contains-tail, Contains-head, Contains-cases}
 use Rattle.lore_base.proofs.LeastWordLaws.{IsUpTo-refl, IsUpTo-trans, IsUpTo-same, before_up_to}
 use Rattle.lorel_bind.specs.CellOrder.{word_total}
-use Rattle.lorel_bind.proofs.ToldLaws.{IsTold, told_same, told_oid}
-use Rattle.lorel_bind.proofs.ListedLaws.{IsListed, listed_members, listed_one, listed_none, listed_when, listed_same, listed_either, listed_over, listed_where, told_listed}
+use Rattle.lorel_ranges.proofs.ToldLaws.{IsTold, told_same, told_oid}
+use Rattle.lorel_ranges.proofs.ListedLaws.{IsListed, listed_members, listed_one, listed_none, listed_when, listed_same, listed_either, listed_over, listed_where, told_listed}
 use Rattle.lorel_bind.proofs.ReachedLaws.{listed_reached}
 
 -- ---- a word as a graph of one line

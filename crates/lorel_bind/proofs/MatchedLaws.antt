@@ -1,7 +1,7 @@
 -- Whether a text is matched by a pattern can be told.
 use Rattle.std.proofs.Common.{◌≡◌, ℕ, inl, inr, List, [], ◌∷◌, ◌++◌, refl, sym, ap, subst}
 use Rattle.lore_base.specs.Wildcards.{Sign, many, one, itself, StandFor}
-use Rattle.lorel_bind.proofs.ToldLaws.{IsTold, told_bytes}
+use Rattle.lorel_ranges.proofs.ToldLaws.{IsTold, told_bytes}
 
 -- something holds of what is left behind some characters
 abbrev Behind : (List (List ℕ) → Type 0) → List (List ℕ) → Type 0

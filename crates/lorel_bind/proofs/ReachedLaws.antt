@@ -13,9 +13,10 @@ use Rattle.lore_base.specs.Paths as p
 use Rattle.lore_base.specs.Paths.{PathTree, PathTrees, Fits, Times, Spells, SpellInTurn, SomeSpells, Reaches}
 use Rattle.lore_base.proofs.WalkLaws.{Walk-append, Walk-split}
 use Rattle.lore_base.proofs.MemberLaws.{Contains-none, Contains-tail, Contains-head, Contains-cases, Contains-same}
-use Rattle.lorel_bind.proofs.ToldLaws.{IsTold, told_both, told_member, told_oid, told_bytes}
+use Rattle.lorel_ranges.proofs.ToldLaws.{IsTold, told_both, told_member, told_oid, told_bytes}
 use Rattle.lorel_bind.proofs.MatchedLaws.{told_stand}
-use Rattle.lorel_bind.proofs.ListedLaws.{IsListed}
+use Rattle.lorel_ranges.proofs.ListedLaws.{IsListed}
+use Rattle.lorel_ranges.proofs.ListLaws.{Contains-mapped}
 
 -- ---- whether a label fits a pattern
 told_text : (found : Option (List ℕ)) (text : List ℕ) → IsTold (found ≡ Some text)
@@ -277,13 +278,6 @@ images_leads R images ends bound xs =
         ),
       ),
     )
-
-pub Contains-mapped : {X Y : Type 0} (f : X → Y) (xs : List X) (x : X) → Contains xs x → Contains (map f xs) (f x)
-Contains-mapped f [] x here = absurd (Contains-none x here)
-Contains-mapped f (first ∷ xs) x here = elim (Contains-cases first xs x here) [
-  | inl same ↦ Contains-same (f first ∷ map f xs) (f first) (f x) (ap f same) (Contains-head (f first) (map f xs))
-  | inr later ↦ Contains-tail (f first) (map f xs) (f x) (Contains-mapped f xs x later)
-]
 
 -- ---- walks of words that pass
 module _ (edges : List Edge) where

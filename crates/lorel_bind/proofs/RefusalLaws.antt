@@ -9,17 +9,18 @@ use Rattle.lorel_trees.specs.Trees.{ItemTree, SelectTree}
 use Rattle.lorel_trees.specs.Trees as t
 use Rattle.lorel_bind.specs.Types.{Oid, Refusal, RANGES, ITEMS, LEAVES}
 use Rattle.lorel_bind.specs.Types.refusals
-use Rattle.lorel_bind.specs.Places.{Root, named, ranged, quantified, Place, path_variables, word_place}
-use Rattle.lorel_bind.specs.Ranges.{Range, AreFused, IsUsed}
-use Rattle.lorel_bind.specs.Refusals.{text_places, ranged_identifiers, StartsNowhere, HasUnknownPathVariable, HasManyRanges, leaves_in, Cause, order, IsFirst, IsClear}
+use Rattle.lorel_ranges.specs.Places.{Root, named, ranged, quantified, Place, path_variables, word_place}
+use Rattle.lorel_ranges.specs.Ranges.{Range, AreFused, IsUsed}
+use Rattle.lorel_ranges.specs.Texts.{text_places, ranged_identifiers}
+use Rattle.lorel_bind.specs.Refusals.{StartsNowhere, HasUnknownPathVariable, HasManyRanges, leaves_in, Cause, order, IsFirst, IsClear}
 use Rattle.lorel_bind.specs.Laws.{HasSomeVerdict, HasOneVerdict}
-use Rattle.lorel_bind.proofs.ToldLaws.{IsTold, told_same, told_not, told_either, told_member, told_bytes, told_below}
-use Rattle.lorel_bind.proofs.ListedLaws.{IsListed, listed_members, listed_none, listed_one, listed_same, listed_over, listed_where, told_some}
+use Rattle.lorel_ranges.proofs.ToldLaws.{IsTold, told_same, told_not, told_either, told_member, told_bytes, told_below}
+use Rattle.lorel_ranges.proofs.ListedLaws.{IsListed, listed_members, listed_none, listed_one, listed_same, listed_over, listed_where, told_some}
 use Rattle.lorel_bind.proofs.AscentLaws.{AllPairs-nil}
-use Rattle.lorel_bind.proofs.ListLaws.{All-from_members}
-use Rattle.lorel_bind.proofs.GatherLaws.{has_one_plain, has_some_plain}
-use Rattle.lorel_bind.proofs.FuseLaws.{has_one_fused}
-use Rattle.lorel_bind.proofs.PrefixLaws.{has_some_fused}
+use Rattle.lorel_ranges.proofs.ListLaws.{All-from_members}
+use Rattle.lorel_ranges.proofs.GatherLaws.{has_one_plain, has_some_plain}
+use Rattle.lorel_ranges.proofs.FuseLaws.{has_one_fused}
+use Rattle.lorel_ranges.proofs.PrefixLaws.{has_some_fused}
 
 -- ---- causes in order
 module _ (Applies : Refusal → Type 0) where

@@ -10,13 +10,14 @@ use Rattle.lore_base.specs.Paths.{PathTree}
 use Rattle.lorel_trees.specs.Trees.{FromTree, OperandTree, CondTree, CondTrees, RootedTree, SelectTree}
 use Rattle.lorel_trees.specs.Trees as t
 use Rattle.lorel_bind.specs.Types.{Oid}
-use Rattle.lorel_bind.specs.Places.{Root, named, ranged, quantified, Place, at_root, beyond, Scope, root_of, place_of, scope_behind, scope_of, cell_places}
-use Rattle.lorel_bind.specs.Conditions.{operand_in, cond_in, conds_in, operand_paths, paths_of, paths_of_all, paths_in, cond_places}
-use Rattle.lorel_bind.specs.Ranges.{Range, prefix_ranges, path_ranges, from_item_ranges, from_ranges, made_ranges, places, AreGathered, ArePlain}
-use Rattle.lorel_bind.specs.Refusals.{from_places, text_places, StartsNowhere}
-use Rattle.lorel_bind.specs.inside.Orders.{IsFound}
-use Rattle.lorel_bind.proofs.ListLaws.{All-parts, All-from_members}
-use Rattle.lorel_bind.proofs.PlainLaws.{scope_found, cell_found}
+use Rattle.lorel_ranges.specs.Places.{Root, named, ranged, quantified, Place, at_root, beyond, Scope, root_of, place_of, scope_behind, scope_of, cell_places}
+use Rattle.lorel_ranges.specs.Conditions.{operand_in, cond_in, conds_in, operand_paths, paths_of, paths_of_all, paths_in, cond_places}
+use Rattle.lorel_ranges.specs.Ranges.{Range, prefix_ranges, path_ranges, from_item_ranges, from_ranges, made_ranges, places, AreGathered, ArePlain}
+use Rattle.lorel_ranges.specs.Texts.{from_places, text_places}
+use Rattle.lorel_bind.specs.Refusals.{StartsNowhere}
+use Rattle.lorel_ranges.specs.inside.Orders.{IsFound}
+use Rattle.lorel_ranges.proofs.ListLaws.{All-parts, All-from_members}
+use Rattle.lorel_ranges.proofs.PlainLaws.{scope_found, cell_found}
 
 -- a quantifier, or a root whose place is found
 abbrev StartsFound : List Place → Root → Type 0

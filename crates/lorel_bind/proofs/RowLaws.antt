@@ -4,10 +4,10 @@ use Rattle.std.proofs.lemmas.List.Elements.{All-nil, All-cons, All-head, All-tai
 use Rattle.lore_base.specs.Paths.{PathTree}
 use Rattle.lore_base.proofs.MemberLaws.{Contains-same}
 use Rattle.lorel_bind.specs.Types.{Oid}
-use Rattle.lorel_bind.specs.Places.{Place}
-use Rattle.lorel_bind.specs.Ranges.{Range, places}
-use Rattle.lorel_bind.specs.inside.Orders.{IsPlaced, AreOrdered}
-use Rattle.lorel_bind.proofs.ListedLaws.{IsListed, listed_same, listed_over}
+use Rattle.lorel_ranges.specs.Places.{Place}
+use Rattle.lorel_ranges.specs.Ranges.{Range, places}
+use Rattle.lorel_ranges.specs.inside.Orders.{IsPlaced, AreOrdered}
+use Rattle.lorel_ranges.proofs.ListedLaws.{IsListed, listed_same, listed_over}
 use Rattle.lorel_bind.proofs.ValuationLaws.{moved, moved_there, moved_elsewhere}
 use Rattle.lorel_bind.proofs.RootLaws.{IsBoundName, IsKnown, known_found}
 

@@ -8,13 +8,13 @@ use Rattle.std.proofs.lemmas.Option.{slice_get-map, slice_get_read, slice_get_wi
 use Rattle.lorel_bind.specs.Types.{Oid, Start, BoundStart}
 use Rattle.lorel_bind.specs.Types.starts
 use Rattle.lorel_bind.specs.Types.bound_starts
-use Rattle.lorel_bind.specs.Places.{quantified, Place, at_root}
-use Rattle.lorel_bind.specs.Ranges.{Range, places}
+use Rattle.lorel_ranges.specs.Places.{quantified, Place, at_root}
+use Rattle.lorel_ranges.specs.Ranges.{Range, places}
 use Rattle.lorel_bind.specs.Bindings.{StandsFor, StandsForAny}
 use Rattle.lorel_bind.specs.inside.Slots.{CanStart, CanStartAny}
-use Rattle.lorel_bind.specs.inside.Views.{place_tree, range_of, ranges_of}
-use Rattle.lorel_bind.specs.declared.links.Link.{Link}
-use Rattle.lorel_bind.proofs.ListLaws.{AllZip-append}
+use Rattle.lorel_ranges.specs.Views.{place_tree, range_of, ranges_of}
+use Rattle.lorel_ranges.specs.declared.select_ranges.TextRange.{TextRange}
+use Rattle.lorel_ranges.proofs.ListLaws.{AllZip-append}
 
 -- ---- lists that go in pairs
 module _ {P Q : Type 0} where
@@ -62,21 +62,21 @@ pub All-read : {X : Type 0} (Passes : X → Type 0) (xs : List X) (i : ℕ) (x :
 All-read Passes xs i x low is pass passes = All-more Passes xs i x low pass (subst Passes is passes)
 
 -- ---- the slot of a place
--- the number of the link that is read is the slot of its place
-pub slot_read : (links items : List Link) (i : ℕ) (link : Link) (place : Place) → items ≡ links → i < length items
-    → link ≡ get_or items i link → place_tree link.place ≡ place → slice_get (places (ranges_of links)) i ≡ Some place
-slot_read links items i link place same low is here =
-    slice_get-map (λ (range : Range). range.place) (ranges_of links) i
+-- the number of the range that is read is the slot of its place
+pub slot_read : (fused items : List TextRange) (i : ℕ) (range : TextRange) (place : Place) → items ≡ fused → i < length items
+    → range ≡ get_or items i range → place_tree range.place ≡ place → slice_get (places (ranges_of fused)) i ≡ Some place
+slot_read fused items i range place same low is here =
+    slice_get-map (λ (range : Range). range.place) (ranges_of fused) i
     ∙ ap (option_map (λ (range : Range). range.place))
-    (slice_get-map range_of links i ∙ ap (λ (all : List Link). option_map range_of (slice_get all i)) (sym same)
-    ∙ ap (option_map range_of) (slice_get_read items (length items) i link refl low is))
+    (slice_get-map range_of fused i ∙ ap (λ (all : List TextRange). option_map range_of (slice_get all i)) (sym same)
+    ∙ ap (option_map range_of) (slice_get_read items (length items) i range refl low is))
     ∙ ap (λ (p : Place). Some p) here
 
-pub no_slot : (links : List Link) (place : Place) → All (λ link. place_tree link.place ≢ place) links
-    → Contains (places (ranges_of links)) place → ⊥
-no_slot links place none there =
-    All-contains (λ p. p ≢ place) (places (ranges_of links)) place
-    (All-map (λ p. p ≢ place) (λ (range : Range). range.place) (ranges_of links) (All-map (λ range. range.place ≢ place) range_of links none))
+pub no_slot : (fused : List TextRange) (place : Place) → All (λ range. place_tree range.place ≢ place) fused
+    → Contains (places (ranges_of fused)) place → ⊥
+no_slot fused place none there =
+    All-contains (λ p. p ≢ place) (places (ranges_of fused)) place
+    (All-map (λ p. p ≢ place) (λ (range : Range). range.place) (ranges_of fused) (All-map (λ range. range.place ≢ place) range_of fused none))
     there refl
 
 -- a place that isn't a name starts at the slot that it has

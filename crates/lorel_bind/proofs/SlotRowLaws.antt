@@ -17,22 +17,22 @@ use Rattle.lorel_bind.specs.Types.cells
 use Rattle.lorel_bind.specs.Types.shown
 use Rattle.lorel_bind.specs.Types.starts
 use Rattle.lorel_bind.specs.Types.bound_starts
-use Rattle.lorel_bind.specs.Places.{Root, named, ranged, quantified, Place, at_root, CellPlace, object, word, cells_of}
-use Rattle.lorel_bind.specs.Conditions.{OperandOf, constant, at, CondOf, or, and, not, exists, for_all, compare, same, CondsOf, no_cond, cond as conds, cond_of}
-use Rattle.lorel_bind.specs.Ranges.{Range, places, IsUsed}
+use Rattle.lorel_ranges.specs.Places.{Root, named, ranged, quantified, Place, at_root, CellPlace, object, word, cells_of}
+use Rattle.lorel_ranges.specs.Conditions.{OperandOf, constant, at, CondOf, or, and, not, exists, for_all, compare, same, CondsOf, no_cond, cond as conds, cond_of}
+use Rattle.lorel_ranges.specs.Ranges.{Range, places, IsUsed}
 use Rattle.lorel_bind.specs.Answers.{Leads, IsObjectOf, HasObject, IsReachedBy, HasValue, HoldsAt, IsWordAt, ShowsCell, IsRowOver}
 use Rattle.lorel_bind.specs.Bound.{RangeTree, BoundPathTree, BoundTree}
 use Rattle.lorel_bind.specs.Bindings.{StandsFor, StandsForAny, IsBoundRange, IsBoundCell, IsBoundPath, CorrespondOperands, Correspond, CorrespondEach, CorrespondIf, IsBinding}
 use Rattle.lorel_bind.specs.SlotRows.{StartsAt, BoundStartsAt, MeetsBy, HoldsOver, IsSlotWord, ShowsSlot, IsSlotRow}
 use Rattle.lorel_bind.specs.Laws.{BindingKeepsRows}
-use Rattle.lorel_bind.specs.inside.Equality.{same_place}
-use Rattle.lorel_bind.specs.inside.Orders.{IsOpen, AreOrdered}
-use Rattle.lorel_bind.proofs.ListLaws.{map-same, AllZip-length, Contains-slot}
-use Rattle.lorel_bind.proofs.PlaceLaws.{same_place-Decides}
-use Rattle.lorel_bind.proofs.OrderLaws.{open_places, other_places}
-use Rattle.lorel_bind.proofs.PlainLaws.{plain_ordered}
-use Rattle.lorel_bind.proofs.FuseLaws.{fused_ordered}
-use Rattle.lorel_bind.proofs.PrefixLaws.{one_fixed}
+use Rattle.lorel_ranges.specs.inside.Equality.{same_place}
+use Rattle.lorel_ranges.specs.inside.Orders.{IsOpen, AreOrdered}
+use Rattle.lorel_ranges.proofs.ListLaws.{map-same, AllZip-length, Contains-slot}
+use Rattle.lorel_ranges.proofs.PlaceLaws.{same_place-Decides}
+use Rattle.lorel_ranges.proofs.OrderLaws.{open_places, other_places}
+use Rattle.lorel_ranges.proofs.PlainLaws.{plain_ordered}
+use Rattle.lorel_ranges.proofs.FuseLaws.{fused_ordered}
+use Rattle.lorel_ranges.proofs.PrefixLaws.{one_fixed}
 use Rattle.lorel_bind.proofs.FusedRowLaws.{fusing_keeps_rows}
 use Rattle.lorel_bind.proofs.ConditionLaws.{ReachAlike, holds_like}
 

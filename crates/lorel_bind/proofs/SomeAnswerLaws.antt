@@ -8,25 +8,25 @@ use Rattle.lore_base.specs.Paths.{PathTree, seq, trees_of}
 use Rattle.lore_base.proofs.MemberLaws.{Contains-none, Contains-same}
 use Rattle.lorel_trees.specs.Trees.{SelectTree}
 use Rattle.lorel_bind.specs.Types.{Oid, Value, Cell}
-use Rattle.lorel_bind.specs.Places.{Root, named, ranged, quantified, Place, at_root, cells_of}
-use Rattle.lorel_bind.specs.Conditions.{CondOf, cond_of}
-use Rattle.lorel_bind.specs.Ranges.{Range, places, ArePlain, IsFixed}
+use Rattle.lorel_ranges.specs.Places.{Root, named, ranged, quantified, Place, at_root, cells_of}
+use Rattle.lorel_ranges.specs.Conditions.{CondOf, cond_of}
+use Rattle.lorel_ranges.specs.Ranges.{Range, places, ArePlain, IsFixed}
 use Rattle.lorel_bind.specs.Answers.{Leads, IsObjectOf, HasObject, IsReachedBy, HasValue, HoldsAt, ShowsCell, IsRowOver, IsRow, row_cmp}
 use Rattle.lorel_bind.specs.CellOrder.{cell_total, tied_rows}
 use Rattle.lorel_bind.specs.Refusals.{StartsNowhere}
 use Rattle.lorel_bind.specs.Laws.{HasSomeAnswer}
-use Rattle.lorel_bind.proofs.ToldLaws.{IsTold, told_oid}
-use Rattle.lorel_bind.proofs.ListedLaws.{IsListed, listed_members, listed_one, listed_option, listed_given, listed_same, listed_over, listed_where}
+use Rattle.lorel_ranges.proofs.ToldLaws.{IsTold, told_oid}
+use Rattle.lorel_ranges.proofs.ListedLaws.{IsListed, listed_members, listed_one, listed_option, listed_given, listed_same, listed_over, listed_where}
 use Rattle.lorel_bind.proofs.AscentLaws.{IsOrder, total_ordered, some_ordered}
 use Rattle.lorel_bind.proofs.ReachedLaws.{listed_reached}
 use Rattle.lorel_bind.proofs.ConditionLaws.{told_holds}
-use Rattle.lorel_bind.proofs.ListLaws.{All-from_members}
+use Rattle.lorel_ranges.proofs.ListLaws.{All-from_members}
 use Rattle.lorel_bind.proofs.FusedRowLaws.{AgreeOn, cells_same}
 use Rattle.lorel_bind.proofs.CellLaws.{listed_shown, cells_agree}
-use Rattle.lorel_bind.proofs.PrefixLaws.{Prefix, listed_fixed}
+use Rattle.lorel_ranges.proofs.PrefixLaws.{Prefix, listed_fixed}
 use Rattle.lorel_bind.proofs.ValuationLaws.{AgreeAt, HoldsAt-same}
-use Rattle.lorel_bind.proofs.GatherLaws.{has_one_plain, has_some_plain}
-use Rattle.lorel_bind.proofs.PlainLaws.{plain_ordered}
+use Rattle.lorel_ranges.proofs.GatherLaws.{has_one_plain, has_some_plain}
+use Rattle.lorel_ranges.proofs.PlainLaws.{plain_ordered}
 use Rattle.lorel_bind.proofs.RootLaws.{IsBoundName, IsKnown, names_bound, plain_roots, cond_known}
 use Rattle.lorel_bind.proofs.RowLaws.{Agree, ShowsBehind, listed_rows}
 

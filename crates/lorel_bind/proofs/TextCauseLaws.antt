@@ -14,15 +14,17 @@ use Rattle.lore_base.specs.Names.{object_of}
 use Rattle.lore_base.proofs.MemberLaws.{Contains-none, Contains-same}
 use Rattle.lorel_trees.specs.Trees.{SelectTree}
 use Rattle.lorel_bind.specs.Types.{Oid, ITEMS, LEAVES}
-use Rattle.lorel_bind.specs.Places as p
-use Rattle.lorel_bind.specs.Places.{named}
-use Rattle.lorel_bind.specs.Refusals.{StartsNowhere, HasUnknownName, HasUnknownVariable, HasDuplicate, HasTooMany, IsRefusedBy, leaves_in, text_places, ranged_identifiers}
+use Rattle.lorel_ranges.specs.Places as p
+use Rattle.lorel_ranges.specs.Places.{named}
+use Rattle.lorel_bind.specs.Refusals.{StartsNowhere, HasUnknownName, HasUnknownVariable, HasDuplicate, HasTooMany, IsRefusedBy, leaves_in}
+use Rattle.lorel_ranges.specs.Texts.{text_places, ranged_identifiers}
 use Rattle.lorel_bind.specs.declared.faults.BindFault.TheVariants as fault
-use Rattle.lorel_bind.specs.inside.Views.{texts}
-use Rattle.lorel_bind.specs.inside.Texts.{IsTextOf, places_of, ranged_of, StartsAmong, StartsUnranged, StartsRanged, HasNoted, HasMet, PassesText}
+use Rattle.lorel_ranges.specs.Views.{texts}
+use Rattle.lorel_ranges.specs.Readings.{IsTextOf}
+use Rattle.lorel_bind.specs.inside.Causes.{places_of, ranged_of, StartsAmong, StartsUnranged, StartsRanged, HasNoted, HasMet, PassesText}
 use Rattle.lorel_bind.specs.declared.causes.Ranged.{Ranged}
 use Rattle.lorel_bind.specs.declared.causes.Unknown.{Unknown}
-use Rattle.lorel_bind.specs.declared.text.Text.{Text}
+use Rattle.lorel_ranges.specs.declared.text.Text.{Text}
 
 -- ---- identifiers that are ranged
 any_text : (keys : List (Bor (List ℕ))) (text : List ℕ) → list_any (λ (key : Bor (List ℕ)). bytes_eq text key.now) keys ≡ list_any (bytes_eq text) (texts keys)
@@ -187,7 +189,7 @@ no_more_than n h = omega arith
 -- ---- the causes
 module _ (names : List (List ℕ × Oid)) (query : SelectTree) (text : Text) (is : IsTextOf query text) where
   all_places : places_of text ≡ text_places query
-  all_places = let from = is.from.places in let cells = is.items.cells in let conditions = is.conditions in cc
+  all_places = let from = is.from.places in let items = is.items.places in let conditions = is.conditions in cc
 
   pub many_items : ITEMS < text.item_count → HasTooMany query
   many_items many = let count = is.count in inr (inl (omega arith))

@@ -6,12 +6,12 @@ use Rattle.lore_base.specs.Databases.{Database}
 use Rattle.lore_base.specs.Paths.{PathTree}
 use Rattle.lore_base.specs.Comparisons.{Compares}
 use Rattle.lorel_bind.specs.Types.{Oid}
-use Rattle.lorel_bind.specs.Places.{Root, named, ranged, quantified, Place}
-use Rattle.lorel_bind.specs.Conditions.{CondOf, paths_in}
-use Rattle.lorel_bind.specs.Ranges.{Range, IsFixed}
+use Rattle.lorel_ranges.specs.Places.{Root, named, ranged, quantified, Place}
+use Rattle.lorel_ranges.specs.Conditions.{CondOf, paths_in}
+use Rattle.lorel_ranges.specs.Ranges.{Range, IsFixed}
 use Rattle.lorel_bind.specs.Answers.{IsObjectOf, IsReachedBy, HasValue, HoldsAt}
-use Rattle.lorel_bind.specs.inside.Equality.{same_place}
-use Rattle.lorel_bind.proofs.PlaceLaws.{same_place-Decides}
+use Rattle.lorel_ranges.specs.inside.Equality.{same_place}
+use Rattle.lorel_ranges.proofs.PlaceLaws.{same_place-Decides}
 use Rattle.lorel_bind.proofs.ConditionLaws.{ReachAlike, holds_like, like_itself}
 
 -- ---- valuations that agree where it matters

@@ -13,9 +13,10 @@ use Rattle.lore_base.specs.Paths.{PathTree, seq, trees_of, Reaches}
 use Rattle.lore_base.specs.LeastWords.{shortlex_cmp, IsLeast, IsSpelledWalk}
 use Rattle.lore_base.specs.Comparisons.{Compares}
 use Rattle.lorel_trees.specs.Trees.{SelectTree}
-use Rattle.lorel_bind.specs.Places.{Root, named, quantified, Place, at_root, CellPlace, object, word, cells_of}
-use Rattle.lorel_bind.specs.Ranges.{Range, ArePlain, IsFixed}
-use Rattle.lorel_bind.specs.Conditions.{CondOf, cond_of, Holds}
+use Rattle.lorel_ranges.specs.Places.{Root, named, quantified, Place, at_root, CellPlace, object, word, cells_of}
+use Rattle.lorel_ranges.specs.Ranges.{Range, ArePlain, IsFixed}
+use Rattle.lorel_ranges.specs.Conditions.{CondOf, cond_of}
+use Rattle.lorel_bind.specs.Holding.{Holds}
 
 -- a path of these parts reaches an object from a start
 abbrev pub Leads : Database → List PathTree → Oid → Oid → Type 0

@@ -1,18 +1,16 @@
 -- What binding gives: the fused ranges of a select by slots, its cells and its condition.
-use Rattle.std.specs.Prelude.{◌≡◌, ℕ, ◌+◌, ◌<◌, ◌≤◌, suc, max, List, [], ◌∷◌, length, sum_by, Option, Some, None, MatchOption, All, slice_get}
+use Rattle.std.specs.Prelude.{◌≡◌, ℕ, ◌+◌, ◌<◌, ◌≤◌, suc, List, [], ◌∷◌, length, sum_by, Option, Some, None, All, slice_get}
 use Rattle.std.specs.List.{AllZip}
-use Rattle.lorel_bind.specs.Types.{Oid, Start, BoundStart, RANGES, LEAVES, NESTING}
+use Rattle.lorel_bind.specs.Types.{Oid, Start, BoundStart, RANGES, LEAVES, CellOf}
 use Rattle.lorel_bind.specs.Types.starts
 use Rattle.lorel_bind.specs.Types.bound_starts
-use Rattle.lorel_bind.specs.Types.{CellOf}
 use Rattle.lorel_bind.specs.Types.shown
 use Rattle.lore_base.specs.Names.{object_of}
 use Rattle.lore_base.specs.Paths.{PathTree, seq, trees_of, leaves}
-use Rattle.lorel_trees.specs.Trees.{SelectTree, ItemTree, CondTree, CondTrees}
-use Rattle.lorel_trees.specs.Trees as t
-use Rattle.lorel_bind.specs.Places.{named, quantified, Place, at_root, CellPlace, object, word, cells_of}
-use Rattle.lorel_bind.specs.Conditions.{OperandOf, constant, at, CondOf, or, and, not, exists, for_all, compare, same, CondsOf, no_cond, cond, cond_of, paths_in}
-use Rattle.lorel_bind.specs.Ranges.{Range, ArePlain, AreFused, IsUsed, IsFixed, places}
+use Rattle.lorel_trees.specs.Trees.{SelectTree}
+use Rattle.lorel_ranges.specs.Places.{named, quantified, Place, at_root, CellPlace, object, word, cells_of}
+use Rattle.lorel_ranges.specs.Conditions.{OperandOf, constant, at, CondOf, or, and, not, exists, for_all, compare, same, CondsOf, no_cond, cond, cond_of, paths_in}
+use Rattle.lorel_ranges.specs.Ranges.{Range, ArePlain, AreFused, IsUsed, IsFixed, places}
 use Rattle.lorel_bind.specs.Bound.{RangeTree, BoundPathTree, BoundTree}
 
 -- a start stands for a place: the object of a name, or the slot of a fused range
@@ -115,22 +113,3 @@ pub record IsRunnable (bound : BoundTree) : Type 0 where
   pub in_order : AreInOrder 0 bound.ranges
   pub cells_within : All (IsCellWithin (length bound.ranges)) bound.cells
   pub condition_within : All (λ path. IsBoundWithin (length bound.ranges) path.start) (paths_in bound.cond)
-
--- how deep quantifiers stand in one another
-abbrev mutual
-  pub depth_of : CondTree → ℕ
-  depth_of (t.or members) = depth_of_all members
-  depth_of (t.and members) = depth_of_all members
-  depth_of (t.not body) = depth_of body
-  depth_of (t.exists variable path body) = suc (depth_of body)
-  depth_of (t.for_all variable path body) = suc (depth_of body)
-  depth_of (t.compare left op right) = 0
-  depth_of (t.same left right) = 0
-
-  pub depth_of_all : CondTrees → ℕ
-  depth_of_all t.no_cond = 0
-  depth_of_all (t.cond first others) = max (depth_of first) (depth_of_all others)
-
--- its quantifiers stand in one another no deeper than a statement nests
-abbrev pub IsShallow : SelectTree → Type 0
-IsShallow query = MatchOption query.tail.cond (Unit {0}) (λ cond. depth_of cond ≤ NESTING)

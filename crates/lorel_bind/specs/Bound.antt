@@ -2,7 +2,7 @@
 use Rattle.std.specs.Prelude.{List, [], ◌∷◌, map, Option, option_map}
 use Rattle.lorel_bind.specs.Types.{Start, BoundStart, CellOf}
 use Rattle.lore_base.specs.Paths.{PathTree, path_tree}
-use Rattle.lorel_bind.specs.Conditions.{OperandOf, constant, at, CondOf, or, and, not, exists, for_all, compare, same, CondsOf, no_cond, cond}
+use Rattle.lorel_ranges.specs.Conditions.{OperandOf, constant, at, CondOf, or, and, not, exists, for_all, compare, same, CondsOf, no_cond, cond}
 use Rattle.lorel_bind.specs.declared.bound.Range.{Range}
 use Rattle.lorel_bind.specs.declared.bound.BoundPath.{BoundPath}
 use Rattle.lorel_bind.specs.declared.bound.BoundOperand.{BoundOperand}

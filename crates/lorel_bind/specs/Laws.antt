@@ -1,31 +1,15 @@
--- Laws of the query language: ranges, bindings, answers and refusals are determined and exist, and neither fusing nor
--- binding changes a row.
+-- Laws of the query language: bindings, answers and refusals are determined and exist, and neither fusing nor binding
+-- changes a row.
 use Rattle.std.specs.Prelude.{◌≡◌, ◌⊎◌, ◌↔◌, ℕ, List}
 use Rattle.lorel_bind.specs.Types.{Oid, Refusal, Cell}
 use Rattle.lore_base.specs.Databases.{Database}
 use Rattle.lorel_trees.specs.Trees.{SelectTree}
-use Rattle.lorel_bind.specs.Ranges.{Range, ArePlain, AreFused, IsUsed}
+use Rattle.lorel_ranges.specs.Ranges.{Range, ArePlain, AreFused, IsUsed}
 use Rattle.lorel_bind.specs.Answers.{IsRow, IsRowOver, IsAnswer}
 use Rattle.lorel_bind.specs.Refusals.{StartsNowhere, Cause, order, IsFirst, IsAccepted}
 use Rattle.lorel_bind.specs.Bound.{BoundTree}
 use Rattle.lorel_bind.specs.Bindings.{IsBinding}
 use Rattle.lorel_bind.specs.SlotRows.{IsSlotRow}
-
--- a select has one list of plain ranges
-abbrev pub HasOnePlain : Type 0
-HasOnePlain = (query : SelectTree) (plain other : List Range) → ArePlain query plain → ArePlain query other → plain ≡ other
-
-abbrev pub HasSomePlain : Type 0
-HasSomePlain = (query : SelectTree) → (plain : List Range) × ArePlain query plain
-
--- and one list of fused ranges
-abbrev pub HasOneFused : Type 0
-HasOneFused = (query : SelectTree) (plain fused other : List Range) → ArePlain query plain
-    → AreFused (IsUsed query plain) plain fused → AreFused (IsUsed query plain) plain other → fused ≡ other
-
-abbrev pub HasSomeFused : Type 0
-HasSomeFused = (query : SelectTree) (plain : List Range) → ArePlain query plain
-    → (fused : List Range) × AreFused (IsUsed query plain) plain fused
 
 -- the valuations of the fused ranges that hold give the rows of the select
 abbrev pub FusingKeepsRows : Type 0

@@ -1,7 +1,5 @@
 pub mod Types
-pub mod Places
-pub mod Conditions
-pub mod Ranges
+pub mod Holding
 pub mod Answers
 pub mod CellOrder
 pub mod Faults

@@ -3,13 +3,12 @@
 use Rattle.std.specs.Prelude.{◌≡◌, ◌≢◌, ℕ, suc, ◌⊎◌, List, [], ◌∷◌, ◌++◌, map, take, drop, Option, Some, None, MatchOption, slice_get}
 use Rattle.lore_base.specs.Paths.{PathTree, path_tree, step, seq, trees_of}
 use Rattle.index_traits.specs.Entries.{IsProbed, IsFound}
-use Rattle.lorel_bind.specs.Types.{Oid, Label, Value, Complex, Op, Plain, ValueEntry, Start}
+use Rattle.lorel_bind.specs.Types.{Oid, Label, Value, Complex, Op, Plain, ValueEntry, Start, PlanKind, PlanStep, Plan}
 use Rattle.lorel_bind.specs.Types.starts
 use Rattle.lorel_bind.specs.Types.bound_starts
-use Rattle.lorel_bind.specs.Types.{PlanKind, PlanStep, Plan}
 use Rattle.lorel_bind.specs.Types.plan_kinds
 use Rattle.lorel_bind.specs.Types.plan_steps
-use Rattle.lorel_bind.specs.Conditions.{CondOf, CondsOf, and, compare, at, constant, no_cond, cond}
+use Rattle.lorel_ranges.specs.Conditions.{CondOf, CondsOf, and, compare, at, constant, no_cond, cond}
 use Rattle.lorel_bind.specs.Bound.{RangeTree, BoundPathTree, BoundTree}
 
 -- Where a bottom plan can be.

@@ -1,59 +1,17 @@
 -- Why a select is refused before it runs: the first cause that applies.
-use Rattle.std.specs.Prelude.{◌≡◌, ◌≢◌, ℕ, ◌<◌, ◌⊎◌, List, [], ◌∷◌, ◌++◌, length, sum_by, Option, Some, None, AllPairs, Contains}
-use Rattle.std.specs.List.{flat_map}
+use Rattle.std.specs.Prelude.{◌≡◌, ◌≢◌, ℕ, ◌<◌, ◌⊎◌, List, [], ◌∷◌, length, sum_by, None, AllPairs, Contains}
 use Rattle.lorel_bind.specs.Types.{Oid, Refusal, RANGES, ITEMS, LEAVES}
 use Rattle.lorel_bind.specs.Types.refusals
 use Rattle.lore_base.specs.Names.{object_of}
 pub use Rattle.lore_base.specs.Verdicts.{IsFirst, IsClear, IsToldBy}
 use Rattle.lore_base.specs.Paths.{leaves_of, trees_of}
-use Rattle.lorel_trees.specs.Trees.{SelectTree, FromTree, CondTree, CondTrees}
+use Rattle.lorel_trees.specs.Trees.{SelectTree}
 use Rattle.lorel_trees.specs.Trees as t
 use Rattle.lorel_bind.specs.Faults.{refusal_of}
 use Rattle.lorel_bind.specs.declared.faults.BindFault.{BindFault}
-use Rattle.lorel_bind.specs.Places.{named, Place, Scope, place_of, scope_behind, cell_places, path_variables, word_place}
-use Rattle.lorel_bind.specs.Conditions.{cond_places}
-use Rattle.lorel_bind.specs.Ranges.{Range, ArePlain, AreFused, IsUsed}
-
--- the places of from items, where the variables of earlier ones are in scope
-abbrev pub from_places : Scope → List FromTree → List Place
-from_places scope [] = []
-from_places scope (item ∷ items) =
-    place_of scope item.path ∷ from_places (scope_behind item.variable scope) items
-
--- each path in the text of a select
-abbrev pub text_places : SelectTree → List Place
-text_places query = from_places [] query.tail.ranges ++ (cell_places query ++ cond_places query)
-
-abbrev pub item_variables : Option (List ℕ) → List (List ℕ)
-item_variables None = []
-item_variables (Some variable) = variable ∷ []
-
--- the variables of quantifiers, in text order
-abbrev mutual
-  pub quantifier_variables : CondTree → List (List ℕ)
-  quantifier_variables (t.or members) = all_quantifier_variables members
-  quantifier_variables (t.and members) = all_quantifier_variables members
-  quantifier_variables (t.not body) = quantifier_variables body
-  quantifier_variables (t.exists variable path body) = variable ∷ quantifier_variables body
-  quantifier_variables (t.for_all variable path body) = variable ∷ quantifier_variables body
-  quantifier_variables (t.compare left op right) = []
-  quantifier_variables (t.same left right) = []
-
-  pub all_quantifier_variables : CondTrees → List (List ℕ)
-  all_quantifier_variables t.no_cond = []
-  all_quantifier_variables (t.cond first others) = quantifier_variables first ++ all_quantifier_variables others
-
-abbrev pub cond_variables : Option CondTree → List (List ℕ)
-cond_variables None = []
-cond_variables (Some cond) = quantifier_variables cond
-
--- the path variables and object variables of from items
-abbrev pub from_variables : List FromTree → List (List ℕ)
-from_variables items = flat_map (λ (item : FromTree). item_variables item.word ++ item_variables item.variable) items
-
--- the identifiers that are ranged anywhere in the statement
-abbrev pub ranged_identifiers : SelectTree → List (List ℕ)
-ranged_identifiers query = from_variables query.tail.ranges ++ cond_variables query.tail.cond
+use Rattle.lorel_ranges.specs.Places.{named, Place, path_variables, word_place}
+use Rattle.lorel_ranges.specs.Texts.{text_places, ranged_identifiers}
+use Rattle.lorel_ranges.specs.Ranges.{Range, ArePlain, AreFused, IsUsed}
 
 -- a path starts at an identifier that is neither a variable in scope nor a name
 abbrev pub StartsNowhere : List (List ℕ × Oid) → SelectTree → List ℕ → Type 0

@@ -10,7 +10,8 @@ use Rattle.lorel_bind.specs.Types.bound_starts
 use Rattle.lore_base.specs.Databases.{Database}
 use Rattle.lore_base.specs.Paths.{Reaches}
 use Rattle.lore_base.specs.Comparisons.{Compares}
-use Rattle.lorel_bind.specs.Conditions.{CondOf, Holds}
+use Rattle.lorel_ranges.specs.Conditions.{CondOf}
+use Rattle.lorel_bind.specs.Holding.{Holds}
 use Rattle.lorel_bind.specs.Bound.{RangeTree, BoundPathTree, BoundTree}
 
 -- the object of a start, where the slots hold these objects

@@ -1,12 +1,5 @@
--- Definitions that no public contract cites: the places, links, scopes and slots of the program, tests of equality, the
--- order of ranges, and fusing in one pass.
-pub mod Views
-pub mod Scopes
-pub mod Texts
-pub mod Links
+-- Definitions that no public contract cites: what is noted to tell causes, the slots of the program, and how conditions are
+-- bound.
+pub mod Causes
 pub mod Slots
 pub mod Binders
-pub mod Equality
-pub mod Orders
-pub mod Fusing
-pub mod Joins

@@ -1,22 +1,21 @@
 ghost use Rattle.std.specs.Prelude.{ℕ, List, IfOk, IfErr, OnOk};
 ghost use Rattle.lorel_trees.specs.Trees.{select_tree};
 ghost use Rattle.lorel_bind.specs.Bound.{bound_tree};
-ghost use Rattle.lorel_bind.specs.Bindings.{IsShallow, IsBinding, IsRunnable};
+ghost use Rattle.lorel_ranges.specs.Texts.{IsShallow};
+ghost use Rattle.lorel_bind.specs.Bindings.{IsBinding, IsRunnable};
 ghost use Rattle.lorel_bind.specs.Refusals.{StartsNowhere, IsAccepted, IsRefusedBy};
-ghost use Rattle.lorel_bind.specs.inside.Views.{ranges_of};
-ghost use Rattle.lorel_bind.specs.inside.Texts.{IsTextOf};
-ghost use Rattle.lorel_bind.specs.inside.Binders.{IsReady};
+ghost use Rattle.lorel_ranges.specs.Views.{ranges_of};
+ghost use Rattle.lorel_ranges.specs.Readings.{IsTextOf};
+ghost use Rattle.lorel_ranges.specs.SelectRanges.{AreRangesOf};
 
 use crate::bound::Bound;
 use crate::causes::check_text;
 use crate::conditions::Binder;
 use crate::faults::BindFault;
-use crate::fusing::fuse;
-use crate::links::{Links, Plain, plain_links};
 use crate::slots::Slots;
-use crate::text::{Text, text_of};
 use lore_base::limits::RANGES;
 use lore_base::{Names, NoMemory};
+use lorel_ranges::{PlainPlaces, Text, fused_ranges, text_of};
 use lorel_trees::Select;
 use std::alloc::Global;
 
@@ -41,27 +40,15 @@ pub fn bind(alloc: Global, query: &Select, names: &Names) -> Result<Bound, BindF
 {
     let text = text_of(alloc, query)?;
     check_text(alloc, &text, names)?;
-    let ranges = fused_links(alloc, query, &text)?;
-    if RANGES < ranges.links.len() {
+    let ranges = fused_ranges(alloc, query, &text)?;
+    if RANGES < ranges.fused.len() {
         return Err(BindFault::TooManyRanges);
     }
     let slots = Slots {
         names,
-        links: ranges.links,
+        fused: ranges.fused,
     };
     Ok(bound_select(alloc, query, &text, &ranges.plain, &slots)?)
-}
-
-// The fused ranges of a select, and the places of its plain ones.
-fn fused_links<'q>(alloc: Global, query: &'q Select, text: &Text<'q>) -> Result<Links<'q>, NoMemory>
-    requires { IsTextOf (select_tree query.now) text.now }
-    ensures { IfOk result (λ ranges.
-        IsReady (select_tree query.now) ranges.plain (ranges_of ranges.links.items)) }
-{
-    let mut ranges = plain_links(alloc, query, text)?;
-    ranges.mark_used(text);
-    fuse(&mut ranges.links)?;
-    Ok(ranges)
 }
 
 // The select by slots.
@@ -69,19 +56,20 @@ fn bound_select<'q>(
     alloc: Global,
     query: &'q Select,
     text: &Text<'q>,
-    plain: &Plain<'q>,
+    plain: &PlainPlaces<'q>,
     slots: &Slots<'q, '_>,
 ) -> Result<Bound, NoMemory>
     requires shallow { IsShallow (select_tree query.now) }
     requires text { IsTextOf (select_tree query.now) text.now }
-    requires ready { IsReady (select_tree query.now) plain.now (ranges_of slots.now.links.items) }
+    requires ready { AreRangesOf (select_tree query.now) plain.now
+        (ranges_of slots.now.fused.items) }
     requires somewhere { (start : List ℕ)
         → StartsNowhere slots.now.names.now (select_tree query.now) start → ⊥ }
     ensures { IfOk result (λ bound.
         IsBinding slots.now.names.now (select_tree query.now) (bound_tree bound)) }
 {
     let ranges = slots.ranges(alloc)?;
-    let cells = slots.cells(alloc, text.items.shown.as_slice())?;
+    let cells = slots.cells(alloc, text.items.cells.as_slice())?;
     let binder = Binder {
         variables: &text.variables,
         plain,

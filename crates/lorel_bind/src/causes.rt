@@ -3,18 +3,18 @@ ghost use Rattle.std.specs.Prelude.{OnOk, IfSome, IfNone, None};
 ghost use Rattle.lore_base.specs.Names.{object_of};
 ghost use Rattle.lore_base.specs.Paths.{path_tree, trees_of, leaves_of};
 ghost use Rattle.lorel_trees.specs.Trees.{SelectTree};
-ghost use Rattle.lorel_bind.specs.Places.{named, Place as ThePlace};
+ghost use Rattle.lorel_ranges.specs.Places.{named, Place as ThePlace};
 ghost use Rattle.lorel_bind.specs.Refusals.{IsRefusedBy, leaves_in};
-ghost use Rattle.lorel_bind.specs.inside.Views.{root_tree, place_tree, place_trees, texts};
-ghost use Rattle.lorel_bind.specs.inside.Texts.{IsTextOf, places_of, ranged_of, HasNoted, HasMet};
-ghost use Rattle.lorel_bind.specs.inside.Texts.{PassesText};
+ghost use Rattle.lorel_ranges.specs.Views.{root_tree, place_tree, place_trees, texts};
+ghost use Rattle.lorel_ranges.specs.Readings.{IsTextOf};
+ghost use Rattle.lorel_bind.specs.inside.Causes.{places_of, ranged_of, HasNoted, HasMet};
+ghost use Rattle.lorel_bind.specs.inside.Causes.{PassesText};
 
 use crate::faults::BindFault;
-use crate::places::{Place, Root};
-use crate::text::Text;
 use indexmap::IndexSet;
 use lore_base::limits::{ITEMS, LEAVES};
 use lore_base::{Names, NoMemory, OemText, Path, path_leaf_count};
+use lorel_ranges::{Place, Root, Text};
 use std::alloc::Global;
 
 // Looks at what each path of a select starts at, at the path variables that items name, at the
@@ -101,7 +101,7 @@ fn unknown_starts(text: &Text, names: &Names, ranged: &IndexSet<&[u8]>) -> Unkno
         variables: false,
     };
     unknown.note_all(text.from.places.as_slice(), names, ranged);
-    unknown.note_all(text.items.cells.as_slice(), names, ranged);
+    unknown.note_all(text.items.places.as_slice(), names, ranged);
     unknown.note_all(text.condition.places.as_slice(), names, ranged);
     unknown
 }
@@ -152,7 +152,7 @@ fn count_leaves(text: &Text) -> u64
     ensures { result ≡ min (2 ^ 64 - 1) (leaves_in (places_of text.now)) }
 {
     let from = leaves_of_places(text.from.places.as_slice());
-    let cells = leaves_of_places(text.items.cells.as_slice());
+    let cells = leaves_of_places(text.items.places.as_slice());
     let conditions = leaves_of_places(text.condition.places.as_slice());
     from.saturating_add(cells).saturating_add(conditions)
 }

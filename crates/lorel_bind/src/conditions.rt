@@ -1,24 +1,23 @@
-ghost use Rattle.std.specs.Prelude.{◌+◌, ◌≤◌, List, length, map, option_map, MatchOption, IfOk};
+ghost use Rattle.std.specs.Prelude.{◌≡◌, ◌+◌, ◌≤◌, List, length, map, option_map, MatchOption};
+ghost use Rattle.std.specs.Prelude.{IfOk};
+ghost use Rattle.lore_base.specs.Paths.{path_tree, seq, trees_of};
 ghost use Rattle.lorel_trees.specs.Trees.{cond_tree, conds_from, operand_tree, rooted_tree};
 ghost use Rattle.lorel_trees.specs.Trees as t;
 ghost use Rattle.lorel_bind.specs.Types.{NESTING};
-ghost use Rattle.lorel_bind.specs.Places.{Scope};
-ghost use Rattle.lorel_bind.specs.Conditions.{cond_in};
-ghost use Rattle.lorel_bind.specs.Ranges.{Range};
+ghost use Rattle.lorel_ranges.specs.Places.{Scope};
+ghost use Rattle.lorel_ranges.specs.Conditions.{cond_in};
+ghost use Rattle.lorel_ranges.specs.Ranges.{Range};
 ghost use Rattle.lorel_bind.specs.Bound.{bound_path, bound_operand, bound_cond, bound_conds};
 ghost use Rattle.lorel_bind.specs.Bound as b;
-ghost use Rattle.lorel_bind.specs.Bindings.{CorrespondIf, depth_of, depth_of_all};
-ghost use Rattle.lorel_bind.specs.inside.Links.{IsIndexed};
+ghost use Rattle.lorel_bind.specs.Bindings.{CorrespondIf};
+ghost use Rattle.lorel_ranges.specs.Texts.{depth_of, depth_of_all};
 ghost use Rattle.lorel_bind.specs.inside.Binders.{Serves, Binds, BindsRooted, BindsOperand};
 ghost use Rattle.lorel_bind.specs.inside.Binders.{BindsCond, BindsEach};
 
 use crate::bound::{BoundCond, BoundCondList, BoundOperand, BoundPath};
-use crate::links::Plain;
-use crate::places::{Place, sequence};
 use crate::slots::Slots;
-use crate::text::joined;
-use crate::variables::Variables;
-use lore_base::{NoMemory, OemText, Op, TryCopy};
+use lore_base::{NoMemory, OemText, Op, Path, PathList, TryCopy};
+use lorel_ranges::{Place, PlainPlaces, Variables, quantifiers_around};
 use lorel_trees::{Cond, Operand, Rooted};
 use std::alloc::Global;
 
@@ -26,7 +25,7 @@ use std::alloc::Global;
 #[derive(Drop)]
 pub(crate) struct Binder<'b, 'q, 'n> {
     pub(crate) variables: &'b Variables<'q>,
-    pub(crate) plain: &'b Plain<'q>,
+    pub(crate) plain: &'b PlainPlaces<'q>,
     pub(crate) slots: &'b Slots<'q, 'n>,
 }
 
@@ -37,7 +36,6 @@ impl<'b, 'q, 'n> Binder<'b, 'q, 'n> {
         alloc: Global,
         cond: &'q Option<Cond>,
     ) -> Result<Option<BoundCond>, NoMemory>
-        requires indexed { IsIndexed self.now.plain.now }
         requires shallow { MatchOption cond.now (Unit {0}) (λ cond. depth_of (cond_tree cond) ≤ NESTING) }
         ensures { IfOk result (λ bound. (plain : List Range) (scope : Scope) → Serves self.now plain scope
             → CorrespondIf (Binds self.now plain)
@@ -57,7 +55,6 @@ impl<'b, 'q, 'n> Binder<'b, 'q, 'n> {
         quantified: &[&'q OemText],
         cond: &'q Cond,
     ) -> Result<BoundCond, NoMemory>
-        requires indexed { IsIndexed self.now.plain.now }
         requires shallow { length quantified.now + depth_of (cond_tree cond.now) ≤ NESTING }
         ensures { IfOk result (λ bound.
             BindsCond self.now quantified.now (cond_tree cond.now) (bound_cond bound)) }
@@ -83,7 +80,7 @@ impl<'b, 'q, 'n> Binder<'b, 'q, 'n> {
                 body,
             } => {
                 let path = self.path(alloc, quantified, path)?;
-                let inner = joined(alloc, quantified, variable)?;
+                let inner = quantifiers_around(alloc, quantified, variable)?;
                 let body = Box::new(alloc, self.cond(alloc, inner.as_slice(), body)?)?;
                 Ok(BoundCond::Exists { path, body })
             }
@@ -93,7 +90,7 @@ impl<'b, 'q, 'n> Binder<'b, 'q, 'n> {
                 body,
             } => {
                 let path = self.path(alloc, quantified, path)?;
-                let inner = joined(alloc, quantified, variable)?;
+                let inner = quantifiers_around(alloc, quantified, variable)?;
                 let body = Box::new(alloc, self.cond(alloc, inner.as_slice(), body)?)?;
                 Ok(BoundCond::ForAll { path, body })
             }
@@ -111,7 +108,6 @@ impl<'b, 'q, 'n> Binder<'b, 'q, 'n> {
         quantified: &[&'q OemText],
         conds: &'q [Cond],
     ) -> Result<BoundCondList, NoMemory>
-        requires indexed { IsIndexed self.now.plain.now }
         requires shallow { length quantified.now + depth_of_all (conds_from (map cond_tree conds.now))
             ≤ NESTING }
         ensures { IfOk result (λ bound. BindsEach self.now quantified.now
@@ -132,7 +128,6 @@ impl<'b, 'q, 'n> Binder<'b, 'q, 'n> {
         op: Op,
         right: &'q Operand,
     ) -> Result<BoundCond, NoMemory>
-        requires indexed { IsIndexed self.now.plain.now }
         requires shallow { length quantified.now ≤ NESTING }
         ensures { IfOk result (λ bound. BindsCond self.now quantified.now
             (t.compare (operand_tree left.now) op (operand_tree right.now)) (bound_cond bound)) }
@@ -149,7 +144,6 @@ impl<'b, 'q, 'n> Binder<'b, 'q, 'n> {
         left: &'q Rooted,
         right: &'q Rooted,
     ) -> Result<BoundCond, NoMemory>
-        requires indexed { IsIndexed self.now.plain.now }
         requires shallow { length quantified.now ≤ NESTING }
         ensures { IfOk result (λ bound. BindsCond self.now quantified.now
             (t.same (rooted_tree left.now) (rooted_tree right.now)) (bound_cond bound)) }
@@ -165,7 +159,6 @@ impl<'b, 'q, 'n> Binder<'b, 'q, 'n> {
         quantified: &[&'q OemText],
         operand: &'q Operand,
     ) -> Result<BoundOperand, NoMemory>
-        requires indexed { IsIndexed self.now.plain.now }
         requires shallow { length quantified.now ≤ NESTING }
         ensures { IfOk result (λ bound.
             BindsOperand self.now quantified.now (operand_tree operand.now) (bound_operand bound)) }
@@ -183,7 +176,6 @@ impl<'b, 'q, 'n> Binder<'b, 'q, 'n> {
         quantified: &[&'q OemText],
         path: &'q Rooted,
     ) -> Result<BoundPath, NoMemory>
-        requires indexed { IsIndexed self.now.plain.now }
         requires shallow { length quantified.now ≤ NESTING }
         ensures { IfOk result (λ bound.
             BindsRooted self.now quantified.now (rooted_tree path.now) (bound_path bound)) }
@@ -196,4 +188,15 @@ impl<'b, 'q, 'n> Binder<'b, 'q, 'n> {
             rest,
         })
     }
+}
+
+// The path of these parts, one after another.
+fn sequence(alloc: Global, parts: &[Path]) -> Result<Path, NoMemory>
+    ensures { IfOk result (λ path. path_tree path ≡ seq (trees_of (map path_tree parts.now))) }
+{
+    let mut list = PathList::new(alloc);
+    'parts: for part in parts {
+        list.push(part.try_copy(alloc)?)?;
+    }
+    Ok(Path::Seq(list))
 }

@@ -1,6 +1,6 @@
 ghost use Rattle.std.specs.Prelude.{◌≡◌, List, option_map, IfOk};
 ghost use Rattle.lorel_bind.specs.Types.{CellOf as TheCell};
-ghost use Rattle.lorel_bind.specs.Conditions.{OperandOf, CondOf, compare, same};
+ghost use Rattle.lorel_ranges.specs.Conditions.{OperandOf, CondOf, compare, same};
 ghost use Rattle.lorel_bind.specs.Bound.{RangeTree, BoundPathTree, BoundTree};
 ghost use Rattle.lorel_bind.specs.Bound.{range_tree, bound_path, bound_operand, bound_cond};
 ghost use Rattle.lorel_bind.specs.Bound.{bound_conds, bound_tree};

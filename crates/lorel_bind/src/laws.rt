@@ -1,31 +1,10 @@
-//! Laws of the query language: ranges, bindings, answers and refusals are determined and exist, and
-//! neither fusing nor binding changes a row.
+//! Laws of the query language: bindings, answers and refusals are determined and exist, and neither
+//! fusing nor binding changes a row.
 
 ghost use Rattle.lore_base.specs.LeastWords.{HasSomeLeastWord};
-ghost use Rattle.lorel_bind.specs.Laws.{HasOnePlain, HasSomePlain, HasOneFused, HasSomeFused};
 ghost use Rattle.lorel_bind.specs.Laws.{FusingKeepsRows, BindingKeepsRows, HasOneAnswer, HasSomeAnswer};
 ghost use Rattle.lorel_bind.specs.Laws.{HasOneBinding, HasSomeBinding};
 ghost use Rattle.lorel_bind.specs.Laws.{HasOneVerdict, HasSomeVerdict};
-
-/// A select has one list of plain ranges.
-pub fn one_list_of_plain_ranges()
-    ensures { HasOnePlain }
-{}
-
-/// A select has some list of plain ranges.
-pub fn some_list_of_plain_ranges()
-    ensures { HasSomePlain }
-{}
-
-/// A select has one list of fused ranges.
-pub fn one_list_of_fused_ranges()
-    ensures { HasOneFused }
-{}
-
-/// The plain ranges of a select can be fused.
-pub fn some_list_of_fused_ranges()
-    ensures { HasSomeFused }
-{}
 
 /// A select has one binding.
 pub fn one_binding()

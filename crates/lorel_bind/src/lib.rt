@@ -1,8 +1,10 @@
 //! Binding: from the text of a select to ranges whose starts are objects and slots.
 //!
-//! A select ranges over the objects that its paths reach. `bind` finds what each path of the text
-//! starts at, makes the ranges, fuses those whose objects nobody looks at, and gives each that is
-//! left a slot (Abiteboul et al. 1997, range variables and path expressions).
+//! A select ranges over the objects that its paths reach. `bind` reads its text, tells why it is
+//! refused, if it is, and gives each of its fused ranges a slot; its cells and its condition then go
+//! by slots (Abiteboul et al. 1997, range variables and path expressions). What a row consists of
+//! (`Cell`) and what a plan to find rows is (`Plan`) is said here too, for the crates that choose
+//! plans, run them and show what they find.
 #![tactic(auto)]
 
 pub use binding::bind;
@@ -21,12 +23,6 @@ mod cells;
 mod conditions;
 mod copies;
 mod faults;
-mod fusing;
 pub mod laws;
-mod links;
-mod path_variables;
-mod places;
 mod plans;
 mod slots;
-mod text;
-mod variables;

@@ -5,37 +5,35 @@ ghost use Rattle.lore_base.specs.Paths.{path_tree, seq, trees_of};
 ghost use Rattle.lorel_bind.specs.Types.{Oid as TheOid, RANGES as THE_RANGES};
 ghost use Rattle.lorel_bind.specs.Types.starts;
 ghost use Rattle.lorel_bind.specs.Bound.{range_tree};
-ghost use Rattle.lorel_bind.specs.Places.{at_root, quantified};
-ghost use Rattle.lorel_bind.specs.Ranges.{places};
+ghost use Rattle.lorel_ranges.specs.Places.{at_root, quantified};
+ghost use Rattle.lorel_ranges.specs.Ranges.{places};
 ghost use Rattle.lorel_bind.specs.Bindings.{StandsFor};
-ghost use Rattle.lorel_bind.specs.inside.Views.{place_tree, range_of, ranges_of};
-ghost use Rattle.lorel_bind.specs.inside.Views.{shown_tree, shown_trees};
+ghost use Rattle.lorel_ranges.specs.Views.{place_tree, range_of, ranges_of};
+ghost use Rattle.lorel_ranges.specs.Views.{shown_tree, shown_trees};
 ghost use Rattle.lorel_bind.specs.inside.Slots.{Starts, StartsAny, BindsRange, BindsCell};
 
 use crate::bound::{BoundStart, CellList, CellOf, Range, RangeList, Start};
-use crate::links::Link;
-use crate::places::{Place, Root, same_place};
-use crate::text::Shown;
 use lore_base::limits::RANGES;
 use lore_base::{Names, NoMemory, Oid, Path, PathList, TryCopy};
+use lorel_ranges::{Place, Root, Shown, TextRange, same_place};
 use std::alloc::Global;
 
 // The slots of the fused ranges: that of a place is its number among them.
 #[derive(Drop)]
 pub(crate) struct Slots<'q, 'n> {
     pub(crate) names: &'n Names,
-    pub(crate) links: Vec<Link<'q>>,
-    ghost few: { length links.items ≤ THE_RANGES },
+    pub(crate) fused: Vec<TextRange<'q>>,
+    ghost few: { length fused.items ≤ THE_RANGES },
 }
 
 impl<'q, 'n> Slots<'q, 'n> {
     // The slot of the range with this place, or 0 where there is none.
     fn slot(&self, place: Place<'q>) -> u32
-        ensures { Contains (places (ranges_of self.now.links.items)) (place_tree place.entry)
-            → slice_get (places (ranges_of self.now.links.items)) result ≡ Some (place_tree place.entry) }
+        ensures { Contains (places (ranges_of self.now.fused.items)) (place_tree place.entry)
+            → slice_get (places (ranges_of self.now.fused.items)) result ≡ Some (place_tree place.entry) }
     {
-        'links: for (slot, link) in self.links.iter().enumerate() {
-            if same_place(&link.place, &place) {
+        'fused: for (slot, range) in self.fused.iter().enumerate() {
+            if same_place(&range.place, &place) {
                 return slot as u32;
             }
         }
@@ -44,7 +42,7 @@ impl<'q, 'n> Slots<'q, 'n> {
 
     // What a place starts at: the object of a name, or the slot of its range.
     pub(crate) fn start(&self, place: Place<'q>) -> Start
-        ensures { Starts self.now.names.now (ranges_of self.now.links.items) (place_tree place.entry)
+        ensures { Starts self.now.names.now (ranges_of self.now.fused.items) (place_tree place.entry)
             result }
     {
         match self.named(place) {
@@ -55,7 +53,7 @@ impl<'q, 'n> Slots<'q, 'n> {
 
     // The same in a condition, where it may also be the object of a quantifier.
     pub(crate) fn bound_start(&self, place: Place<'q>) -> BoundStart
-        ensures { StartsAny self.now.names.now (ranges_of self.now.links.items) (place_tree place.entry)
+        ensures { StartsAny self.now.names.now (ranges_of self.now.fused.items) (place_tree place.entry)
             result }
     {
         match quantifier_of(place) {
@@ -69,10 +67,10 @@ impl<'q, 'n> Slots<'q, 'n> {
 
     // The object of a place that is a name.
     fn named(&self, place: Place<'q>) -> Option<Oid>
-        ensures some { IfSome result (λ oid. StandsFor self.now.names.now (ranges_of self.now.links.items)
+        ensures some { IfSome result (λ oid. StandsFor self.now.names.now (ranges_of self.now.fused.items)
             (place_tree place.entry) (starts.Named oid)) }
         ensures none { IfNone result ((oid : TheOid) → StandsFor self.now.names.now
-            (ranges_of self.now.links.items) (place_tree place.entry) (starts.Named oid) → ⊥) }
+            (ranges_of self.now.fused.items) (place_tree place.entry) (starts.Named oid) → ⊥) }
     {
         match place.root {
             Root::Named(name) if place.parts.is_empty() => self.names.find(name),
@@ -83,31 +81,31 @@ impl<'q, 'n> Slots<'q, 'n> {
     // The ranges by slots.
     pub(crate) fn ranges(&self, alloc: Global) -> Result<RangeList, NoMemory>
         ensures { IfOk result (λ ranges.
-            AllZip (BindsRange self.now.names.now (ranges_of self.now.links.items))
-            (ranges_of self.now.links.items) (map range_tree ranges)) }
+            AllZip (BindsRange self.now.names.now (ranges_of self.now.fused.items))
+            (ranges_of self.now.fused.items) (map range_tree ranges)) }
     {
-        let mut ranges = RangeList::with_capacity(alloc, self.links.len())?;
-        'links: for link in &self.links {
-            ranges.push(self.range(alloc, link)?)?;
+        let mut ranges = RangeList::with_capacity(alloc, self.fused.len())?;
+        'fused: for range in &self.fused {
+            ranges.push(self.range(alloc, range)?)?;
         }
         Ok(ranges)
     }
 
     // A range by slots.
-    fn range(&self, alloc: Global, link: &Link<'q>) -> Result<Range, NoMemory>
-        ensures { IfOk result (λ range.
-            BindsRange self.now.names.now (ranges_of self.now.links.items) (range_of link.now)
-            (range_tree range)) }
+    fn range(&self, alloc: Global, range: &TextRange<'q>) -> Result<Range, NoMemory>
+        ensures { IfOk result (λ bound.
+            BindsRange self.now.names.now (ranges_of self.now.fused.items) (range_of range.now)
+            (range_tree bound)) }
     {
-        let path = joined_path(alloc, link.parts.as_slice())?;
-        let start = self.start(link.start);
+        let path = joined_path(alloc, range.parts.as_slice())?;
+        let start = self.start(range.start);
         Ok(Range { start, path })
     }
 
     // The cells by slots.
     pub(crate) fn cells(&self, alloc: Global, shown: &[Shown<'q>]) -> Result<CellList, NoMemory>
         ensures { IfOk result (λ cells.
-            AllZip (BindsCell self.now.names.now (ranges_of self.now.links.items))
+            AllZip (BindsCell self.now.names.now (ranges_of self.now.fused.items))
             (shown_trees shown.now) cells) }
     {
         let mut cells = CellList::with_capacity(alloc, shown.len())?;
@@ -119,7 +117,7 @@ impl<'q, 'n> Slots<'q, 'n> {
 
     // A cell by slots.
     fn cell(&self, shown: Shown<'q>) -> CellOf
-        ensures { BindsCell self.now.names.now (ranges_of self.now.links.items)
+        ensures { BindsCell self.now.names.now (ranges_of self.now.fused.items)
             (shown_tree shown.entry) result }
     {
         match shown {

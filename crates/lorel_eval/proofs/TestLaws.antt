@@ -2,7 +2,7 @@
 use Rattle.std.proofs.Common.{◌≡◌, ◌↔◌, List, [], Option, Some, Bool, IsTrue, Result, IfOk, IfSome, sym, ap, subst, ◌∙◌}
 use Rattle.std.specs.Option.{option_map}
 use Rattle.lorel_bind.specs.Bound.{BoundPathTree, bound_cond}
-use Rattle.lorel_bind.specs.Conditions.{CondOf}
+use Rattle.lorel_ranges.specs.Conditions.{CondOf}
 use Rattle.lorel_bind.specs.SlotRows.{HoldsOver}
 use Rattle.lorel_eval.specs.Types.{Oid, BoundCond}
 use Rattle.lorel_eval.specs.Tests.{CondOver}

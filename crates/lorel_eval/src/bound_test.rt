@@ -1,7 +1,7 @@
 ghost use Rattle.std.specs.Prelude.{◌≡◌, ◌≤◌, option_map, IfOk};
 ghost use Rattle.std.specs.Option.{option_copied};
 ghost use Rattle.lorel_bind.specs.Bound.{bound_cond};
-ghost use Rattle.lorel_bind.specs.Conditions.{paths_in};
+ghost use Rattle.lorel_ranges.specs.Conditions.{paths_in};
 ghost use Rattle.lorel_bind.specs.SlotRows.{HoldsOver};
 ghost use Rattle.lorel_eval.specs.Types.{LEAVES};
 ghost use Rattle.lorel_eval.specs.Tests.{rest_leaves};
@@ -37,7 +37,7 @@ impl<'a, A: Adjacent, G: ValueOf> Model for Test<'a, A, G> {
     ghost use Rattle.std.specs.Coded.{codes};
     ghost use Rattle.lorel_bind.specs.contracts.bound.BoundCond as bound_cond_contract;
     ghost use Rattle.lorel_bind.specs.Bound.{bound_cond};
-    ghost use Rattle.lorel_bind.specs.Conditions.{paths_in};
+    ghost use Rattle.lorel_ranges.specs.Conditions.{paths_in};
     ghost use Rattle.lorel_eval.specs.Types.{LEAVES};
     ghost use Rattle.lorel_eval.specs.Tests.{CondOver, rest_leaves};
     ghost use Rattle.lorel_eval.specs.inside.Ready.{ready_tree};

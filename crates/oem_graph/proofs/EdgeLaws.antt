@@ -1,5 +1,5 @@
 -- Ascending edges: their order, and lists of which one comes behind the other.
-use Rattle.std.proofs.Common.{◌≡◌, ℕ, ◌+◌, ◌-◌, ◌<◌, true, Less, Equal, List, ◌++◌, length, get_or, Some, zero, suc, refl, ap, ◌∙◌, inl, inr, arith, length-append}
+use Rattle.std.proofs.Common.{◌≡◌, ℕ, ◌+◌, ◌-◌, ◌<◌, true, Less, Equal, List, [], ◌∷◌, ◌++◌, length, get_or, Some, zero, suc, refl, ap, ◌∙◌, inl, inr, arith, length-append}
 use Rattle.std.specs.Cmp.{IsTotalOrder}
 use Rattle.std.specs.List.{slice_get}
 use Rattle.std.proofs.lemmas.Bool.{cases_lt}
@@ -26,6 +26,9 @@ edge_same a b h =
 
 pub equal_edges : (a b : Edge) → edge_cmp a b ≡ Equal → a ≡ b
 equal_edges a b h = edge_same a b (grind (arith, nat_tests))
+
+pub ascend-one : (edge : Edge) → AreAscendingEdges (edge ∷ [])
+ascend-one edge i j d lt len = absurd (omega arith)
 
 -- the parts of ascending edges ascend, and each edge of the first is below each of the second
 pub ascend-front : (xs ys : List Edge) → AreAscendingEdges (xs ++ ys) → AreAscendingEdges xs

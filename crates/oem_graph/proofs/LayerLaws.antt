@@ -16,11 +16,10 @@ use Rattle.lore_base.specs.Walks.{edge_cmp, out_of}
 use Rattle.lore_base.specs.Databases.{AreAscendingEdges}
 use Rattle.lore_base.specs.ChangeSets.{HasChildren}
 use Rattle.oem_graph.specs.Types.{Oid, Edge}
-use Rattle.oem_graph.specs.inside.EdgeTests.{is_listed}
-use Rattle.oem_graph.specs.inside.Strands.{AreJoined}
+use Rattle.oem_graph.specs.inside.EdgeTests.{edge_eq, is_listed}
+use Rattle.strand_sort.specs.StrandSorts.{AreJoined}
 use Rattle.oem_graph.specs.inside.Layers.{staying, with_edges, layered}
-use Rattle.oem_graph.proofs.EdgeLaws.{edge_cmp_total, equal_edges}
-use Rattle.oem_graph.proofs.StrandLaws.{ascend-one}
+use Rattle.oem_graph.proofs.EdgeLaws.{edge_cmp_total, edge_same, equal_edges, ascend-one}
 use Rattle.oem_graph.proofs.SearchLaws.{listed, not_listed}
 
 -- an edge before ascending ones that are all above it
@@ -164,13 +163,13 @@ pub same-edges : (edges others : List Edge) → AreAscendingEdges edges → AreA
 same-edges edges others ascend ascend_others same = AllPairs-unique (λ a b. edge_cmp a b ≡ Less) never-both edges others ascend ascend_others same
 
 -- edges that are joined are those put into each other
-pub joined-is : (edges others all : List Edge) → AreAscendingEdges edges → AreJoined edges others all
+pub joined-is : (edges others all : List Edge) → AreAscendingEdges edges → AreJoined edge_cmp edge_eq edges others all
     → all ≡ with_edges edges others
 joined-is edges others all ascend joined =
     same-edges all (with_edges edges others) joined.ascend (ascend-with_edges edges others ascend)
     (λ edge. (
-      λ at. (members-with_edges edges others edge).1 ((joined.members edge).0 at),
-      λ at. (joined.members edge).1 ((members-with_edges edges others edge).0 at),
+      λ at. (members-with_edges edges others edge).1 ((joined.members edge_same edge).0 at),
+      λ at. (joined.members edge_same edge).1 ((members-with_edges edges others edge).0 at),
     ))
 
 pub number_of : (a b : ℕ) → (a == b) ≡ true → a ≡ b
@@ -204,7 +203,7 @@ has-run (edge ∷ run) edges oid empty is tested =
     (λ _. (edge, there.0, ap (λ (n : ℕ). record { 0 = n }) there.1), λ _. ap not (tested ∙ some))
 
 pub layered-run : (kept lost fresh run : List Edge) (oid : Oid) → AreAscendingEdges kept
-    → AreJoined (staying (out_of oid lost) (out_of oid kept)) (out_of oid fresh) run
+    → AreJoined edge_cmp edge_eq (staying (out_of oid lost) (out_of oid kept)) (out_of oid fresh) run
     → run ≡ out_of oid (layered kept lost fresh)
 layered-run kept lost fresh run oid ascend joined =
     let whole = layered kept lost fresh in
@@ -217,7 +216,7 @@ layered-run kept lost fresh run oid ascend joined =
     let in_whole = in-run whole oid edge in
     let whole_is = members-layered kept lost fresh edge in
     let stay = members-staying (out_of oid lost) (out_of oid kept) edge in (
-      λ at. elim ((joined.members edge).0 at) [
+      λ at. elim ((joined.members edge_same edge).0 at) [
         | inl here ↦
             let parts = stay.0 here in
             let there = in_kept.0 parts.0 in
@@ -226,7 +225,7 @@ layered-run kept lost fresh run oid ascend joined =
       ],
       λ at.
           let parts = in_whole.0 at in
-          (joined.members edge).1 (elim (whole_is.0 parts.0) [
+          (joined.members edge_same edge).1 (elim (whole_is.0 parts.0) [
             | inl there ↦ inl (stay.1 (in_kept.1 (there.0, parts.1), λ gone. there.1 (in_lost.0 gone).0))
             | inr new ↦ inr (in_fresh.1 (new, parts.1))
           ]),
@@ -238,7 +237,7 @@ pub kept-run : (kept lost fresh : List Edge) (oid : Oid) → AreAscendingEdges k
 kept-run kept lost fresh oid ascend no_lost no_fresh =
     layered-run kept lost fresh (out_of oid kept) oid ascend (record {
       ascend = AllPairs-filter (λ a b. edge_cmp a b ≡ Less) (λ (e : Edge). e.parent.0 == oid.0) kept ascend;
-      members = λ edge. (
+      members = λ exact edge. (
         λ at. inl ((members-staying (out_of oid lost) (out_of oid kept) edge).1 (at, λ gone. Contains-none edge (subst (λ (l : List Edge). Contains l edge) no_lost gone))),
         λ either. elim either [
           | inl there ↦ ((members-staying (out_of oid lost) (out_of oid kept) edge).0 there).0

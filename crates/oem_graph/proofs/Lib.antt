@@ -1,7 +1,6 @@
 pub mod PartLaws
 pub mod ObjectLaws
 pub mod EdgeLaws
-pub mod StrandLaws
 pub mod SearchLaws
 pub mod LayerLaws
 pub mod ChangeLaws

@@ -6,8 +6,10 @@ use Rattle.std.proofs.lemmas.List.Kept.{AllPairs-filter}
 use Rattle.lore_base.specs.Walks.{ListsEntering, edge_cmp}
 use Rattle.lore_base.specs.Databases.{AreAscendingEdges}
 use Rattle.oem_graph.specs.Types.{Oid, Label, Edge}
-use Rattle.oem_graph.specs.inside.Strands.{AreJoined}
+use Rattle.strand_sort.specs.StrandSorts.{AreJoined}
+use Rattle.oem_graph.specs.inside.EdgeTests.{edge_eq}
 use Rattle.oem_graph.specs.inside.Layers.{staying, layered, edges_into, ListsInto}
+use Rattle.oem_graph.proofs.EdgeLaws.{edge_same}
 use Rattle.oem_graph.proofs.LayerLaws.{number_of, number_is, members-staying, members-layered}
 
 in-into : (edges : List Edge) (oid : Oid) (edge : Edge)
@@ -27,7 +29,7 @@ ascend-into edges oid ascend =
 
 -- those of each layer, joined
 pub into-layers : (kept lost fresh found : List Edge) (oid : Oid)
-    → AreJoined (staying lost (edges_into oid kept)) (edges_into oid fresh) found
+    → AreJoined edge_cmp edge_eq (staying lost (edges_into oid kept)) (edges_into oid fresh) found
     → ListsInto (layered kept lost fresh) oid found
 into-layers kept lost fresh found oid joined = record {
   ascend = joined.ascend;
@@ -36,14 +38,14 @@ into-layers kept lost fresh found oid joined = record {
       let stay = members-staying lost (edges_into oid kept) edge in
       let in_kept = in-into kept oid edge in
       let in_fresh = in-into fresh oid edge in (
-        λ at. elim ((joined.members edge).0 at) [
+        λ at. elim ((joined.members edge_same edge).0 at) [
           | inl here ↦
               let parts = stay.0 here in
               let there = in_kept.0 parts.0 in
               (whole.1 (inl (there.0, parts.1)), there.1)
           | inr new ↦ let there = in_fresh.0 new in (whole.1 (inr there.0), there.1)
         ],
-        λ both. (joined.members edge).1 (elim (whole.0 both.0) [
+        λ both. (joined.members edge_same edge).1 (elim (whole.0 both.0) [
           | inl stays ↦ inl (stay.1 (in_kept.1 (stays.0, both.1), stays.1))
           | inr new ↦ inr (in_fresh.1 (new, both.1))
         ]),
@@ -53,11 +55,11 @@ into-layers kept lost fresh found oid joined = record {
 -- the same, where the lists that are joined are told to be those
 pub into-told : (kept lost fresh found : List Edge) (oid : Oid) (of_kept of_lost of_fresh : List Edge)
     → of_kept ≡ edges_into oid kept → of_lost ≡ lost → of_fresh ≡ edges_into oid fresh
-    → AreJoined (staying of_lost of_kept) of_fresh found → ListsInto (layered kept lost fresh) oid found
+    → AreJoined edge_cmp edge_eq (staying of_lost of_kept) of_fresh found → ListsInto (layered kept lost fresh) oid found
 into-told kept lost fresh found oid of_kept of_lost of_fresh kept_is lost_is fresh_is joined =
-    let first = subst (λ (l : List Edge). AreJoined (staying of_lost l) of_fresh found) kept_is joined in
-    let second = subst (λ (l : List Edge). AreJoined (staying l (edges_into oid kept)) of_fresh found) lost_is first in
-    let third = subst (λ (l : List Edge). AreJoined (staying lost (edges_into oid kept)) l found) fresh_is second in
+    let first = subst (λ (l : List Edge). AreJoined edge_cmp edge_eq (staying of_lost l) of_fresh found) kept_is joined in
+    let second = subst (λ (l : List Edge). AreJoined edge_cmp edge_eq (staying l (edges_into oid kept)) of_fresh found) lost_is first in
+    let third = subst (λ (l : List Edge). AreJoined edge_cmp edge_eq (staying lost (edges_into oid kept)) l found) fresh_is second in
     into-layers kept lost fresh found oid third
 
 -- what enters the object among these enters it among all

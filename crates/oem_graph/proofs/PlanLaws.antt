@@ -2,9 +2,11 @@
 use Rattle.std.proofs.Common.{◌≡◌, inl, inr, List, [], ◌++◌, Contains, sym, ap, ◌∙◌, subst, arith}
 use Rattle.std.proofs.lemmas.List.Elements.{Contains-append_cases, Contains-append_left, Contains-append_right}
 use Rattle.lore_base.proofs.MemberLaws.{Contains-none}
+use Rattle.lore_base.specs.Walks.{edge_cmp}
 use Rattle.lore_base.specs.Databases.{AreAscendingEdges}
 use Rattle.oem_graph.specs.Types.{Oid, Edge, Value, Changes}
-use Rattle.oem_graph.specs.inside.Strands.{AreJoined}
+use Rattle.strand_sort.specs.StrandSorts.{AreJoined}
+use Rattle.oem_graph.specs.inside.EdgeTests.{edge_eq}
 use Rattle.oem_graph.specs.inside.Layers.{staying, layered}
 use Rattle.oem_graph.specs.inside.Left.{AreOrdered, objects_left, edges_left, ListsObjectsLeft}
 use Rattle.oem_graph.proofs.LayerLaws.{ascend-staying, ascend-layered, members-layered, same-edges, joined-is}
@@ -28,7 +30,7 @@ edges-behind kept lost fresh dead ascend no_lost no_dead behind =
 
 -- the whole list of the edges that are left
 pub edges-whole : (kept lost fresh whole left : List Edge) (dead : List Oid) → AreAscendingEdges kept
-    → AreJoined (staying lost kept) fresh whole → left ≡ edges_left dead whole
+    → AreJoined edge_cmp edge_eq (staying lost kept) fresh whole → left ≡ edges_left dead whole
     → left ≡ edges_left dead (layered kept lost fresh)
 edges-whole kept lost fresh whole left dead ascend joined is =
     is ∙ ap (edges_left dead) (joined-is (staying lost kept) fresh whole (ascend-staying lost kept ascend) joined)

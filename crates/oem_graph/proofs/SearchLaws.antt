@@ -10,7 +10,7 @@ use Rattle.std.proofs.lemmas.Bool.Decides.{nat_tests}
 use Rattle.std.proofs.lemmas.List.{get_or_default}
 use Rattle.oem_graph.specs.Types.{Edge}
 use Rattle.oem_graph.specs.inside.EdgeTests.{edge_eq, is_listed, AreFresh}
-use Rattle.oem_graph.specs.inside.Strands.{AreSorted}
+use Rattle.strand_sort.specs.StrandSorts.{AreSorted}
 use Rattle.lore_base.specs.Walks.{edge_cmp}
 use Rattle.lore_base.specs.Databases.{AreAscendingEdges}
 use Rattle.lore_base.proofs.MemberLaws.{Contains-none, Contains-head, Contains-tail, Contains-cases, Contains-same, Contains-filter, unfiltered}
@@ -94,11 +94,11 @@ module _ (kept more fresh : List Edge) (is : fresh ≡ filter (λ edge. not (is_
   fresh-few = rw is (length-filtered (λ edge. not (is_listed kept edge)) more)
 
 -- added edges that were sorted, each once, and lost those that are kept
-pub fresh-sorted : (kept added sorted fresh : List Edge) → AreSorted added sorted → fresh ≡ filter (λ edge. not (is_listed kept edge)) sorted → AreFresh kept added fresh
+pub fresh-sorted : (kept added sorted fresh : List Edge) → AreSorted edge_cmp edge_eq added sorted → fresh ≡ filter (λ edge. not (is_listed kept edge)) sorted → AreFresh kept added fresh
 fresh-sorted kept added sorted fresh all is = record {
   ascend = fresh-ascend kept sorted fresh is all.ascend;
-  come = λ edge at. (let passed = fresh-come kept sorted fresh is edge at in ((all.members edge).0 passed.0, passed.1));
-  rest = λ edge at. fresh-rest kept sorted fresh is edge ((all.members edge).1 at);
+  come = λ edge at. (let passed = fresh-come kept sorted fresh is edge at in ((all.members edge_same edge).0 passed.0, passed.1));
+  rest = λ edge at. fresh-rest kept sorted fresh is edge ((all.members edge_same edge).1 at);
   few = omega (arith, fresh-few kept sorted fresh is, all.few);
 }
 
@@ -110,10 +110,10 @@ apart kept more ascend edge at there =
     cc
 
 -- added edges that were sorted, each once, and come behind those that are kept
-pub fresh-behind : (kept added sorted : List Edge) → AreSorted added sorted → AreAscendingEdges (kept ++ sorted) → AreFresh kept added sorted
+pub fresh-behind : (kept added sorted : List Edge) → AreSorted edge_cmp edge_eq added sorted → AreAscendingEdges (kept ++ sorted) → AreFresh kept added sorted
 fresh-behind kept added sorted all ascend = record {
   ascend = all.ascend;
-  come = λ edge at. ((all.members edge).0 at, apart kept sorted ascend edge at);
-  rest = λ edge at. inr ((all.members edge).1 at);
+  come = λ edge at. ((all.members edge_same edge).0 at, apart kept sorted ascend edge at);
+  rest = λ edge at. inr ((all.members edge_same edge).1 at);
   few = all.few;
 }

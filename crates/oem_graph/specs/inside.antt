@@ -1,6 +1,5 @@
 -- Definitions that no public contract cites.
 pub mod EdgeTests
-pub mod Strands
 pub mod Planned
 pub mod Layers
 pub mod Left

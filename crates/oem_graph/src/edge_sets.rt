@@ -1,16 +1,14 @@
 ghost use Rattle.std.specs.Prelude.{◌≡◌, ◌++◌, filter, not, IfOk};
 ghost use Rattle.std.specs.Bool.{OnTrue};
+ghost use Rattle.lore_base.specs.Walks.{edge_cmp};
 ghost use Rattle.lore_base.specs.Databases.{AreAscendingEdges};
-ghost use Rattle.oem_graph.specs.inside.EdgeTests.{is_listed, AreFresh, AreLost};
+ghost use Rattle.oem_graph.specs.inside.EdgeTests.{edge_eq, is_listed, AreFresh, AreLost};
 ghost use Rattle.oem_graph.specs.inside.Layers.{staying};
-ghost use Rattle.oem_graph.specs.inside.Strands.{AreJoined};
+ghost use Rattle.strand_sort.specs.StrandSorts.{AreJoined};
 
-use crate::edge_strands::{joined, sorted_set};
 use lore_base::{Edge, EdgeBuf, NoMemory};
 use std::alloc::Global;
-
-// How many strands are taken out of the added edges before what is left is sorted as any list.
-const STRANDS: u8 = 8;
+use strand_sort::{joined, sorted_set};
 
 // A copy of the edges, in the same order.
 pub(crate) fn copied_edges(alloc: Global, edges: &[Edge]) -> Result<EdgeBuf, NoMemory>
@@ -86,18 +84,19 @@ pub(crate) fn lost_edges(
     requires { AreAscendingEdges kept.now }
     ensures { IfOk result (λ lost. AreLost kept.now removed.now lost) }
 {
-    let sorted = sorted_set(alloc, removed, STRANDS)?;
+    let sorted = sorted_set(alloc, removed)?;
     let lost = only_kept(alloc, kept, sorted.as_slice())?;
     Ok(lost)
 }
 
-// The added edges that aren't kept, in ascending order, each once. Where all come behind those that
-// are kept, the usual case of a load, none of them is looked for.
+// The added edges that aren't kept, in ascending order, each once. Those in text order are a few
+// strands, at most one for each level of nesting where members are in the order of their labels.
+// Where all come behind those that are kept, the usual case of a load, none of them is looked for.
 pub(crate) fn fresh_edges(alloc: Global, kept: &[Edge], added: &[Edge]) -> Result<EdgeBuf, NoMemory>
     requires { AreAscendingEdges kept.now }
     ensures { IfOk result (λ fresh. AreFresh kept.now added.now fresh) }
 {
-    let sorted = sorted_set(alloc, added, STRANDS)?;
+    let sorted = sorted_set(alloc, added)?;
     if come_behind(sorted.as_slice(), kept) {
         return Ok(sorted);
     }
@@ -115,7 +114,8 @@ pub(crate) fn layered_run(
     requires kept { AreAscendingEdges kept.now }
     requires lost { AreAscendingEdges lost.now }
     requires fresh { AreAscendingEdges fresh.now }
-    ensures { IfOk result (λ run. AreJoined (staying lost.now kept.now) fresh.now run) }
+    ensures { IfOk result
+        (λ run. AreJoined edge_cmp edge_eq (staying lost.now kept.now) fresh.now run) }
 {
     let stay = without_kept(alloc, lost, kept)?;
     let run = joined(alloc, stay.as_slice(), fresh)?;

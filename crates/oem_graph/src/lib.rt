@@ -17,7 +17,6 @@ mod edge_changes;
 mod edge_overlay;
 mod edge_runs;
 mod edge_sets;
-mod edge_strands;
 mod edges_then;
 mod graph_plan;
 mod graph_then;

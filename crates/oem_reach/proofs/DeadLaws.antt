@@ -1,5 +1,5 @@
 -- The objects that vanish, of those below a cut and the made ones; and where nothing is cut, of the made ones alone.
-use Rattle.std.proofs.Common.{◌≡◌, ◌↔◌, ℕ, ◌+◌, ◌<◌, ◌≤◌, ◌⊎◌, inl, inr, nat_lt, nat_le, List, [], ◌∷◌, ◌++◌, map, filter, get_or, AllPairs, Contains, Some, slice_get, Decides, refl, sym, ap, ◌∙◌, subst, arith, le-leb, leb-true}
+use Rattle.std.proofs.Common.{◌≡◌, ◌↔◌, ℕ, ◌+◌, ◌<◌, ◌≤◌, ◌⊎◌, inl, inr, nat_lt, nat_le, List, [], ◌∷◌, ◌++◌, map, filter, length, get_or, AllPairs, Contains, Some, slice_get, Decides, refl, sym, ap, ◌∙◌, subst, arith, le-leb, leb-true}
 use Rattle.std.proofs.lemmas.Bool.{cases_lt}
 use Rattle.std.proofs.lemmas.Bool.Decides.{Decides-and, Decides-ltb}
 use Rattle.std.proofs.lemmas.List.Elements.{All-contains, Contains-get_or, Contains-append_left, Contains-append_right, Contains-append_cases}
@@ -24,6 +24,13 @@ numbers_from next (object ∷ others) numbered oid at = elim (Contains-cases obj
   | inr later ↦ omega (arith, numbers_from (next + 1) others numbered.1 oid later)
 ]
 
+pub numbers_below : (next : ℕ) (made : List (Oid × Value)) → AreNumberedFrom next made → (oid : Oid) → Contains (map (λ object. object.0) made) oid → oid.0 < next + length made
+numbers_below next [] numbered oid at = absurd (Contains-none oid at)
+numbers_below next (object ∷ others) numbered oid at = elim (Contains-cases object.0 (map (λ o. o.0) others) oid at) [
+  | inl same ↦ omega (arith, numbered.0, ap (λ (o : Oid). o.0) same)
+  | inr later ↦ omega (arith, numbers_below (next + 1) others numbered.1 oid later)
+]
+
 pub numbers_ascend : (next : ℕ) (made : List (Oid × Value)) → AreNumberedFrom next made → AllPairs (λ a b. a.0 < b.0) (map (λ object. object.0) made)
 numbers_ascend next [] numbered = λ i j d below within. absurd (omega (arith, within))
 numbers_ascend next (object ∷ others) numbered =
@@ -45,6 +52,11 @@ first_number next [] first at numbered = cc
 first_number next (object ∷ others) first at numbered =
     let same : first ≡ object = cc in
     ap (λ (o : Oid × Value). o.0.0) same ∙ numbered.0
+
+pub entering-Decides : (next : ℕ) (edge : Edge) → Decides (is_entering next edge) ((edge.parent.0 < next) × (next ≤ edge.child.0))
+entering-Decides next edge =
+    Decides-and (nat_lt edge.parent.0 next) (nat_le next edge.child.0) (Decides-ltb edge.parent.0 next)
+    (leb-true next edge.child.0, le-leb next edge.child.0)
 
 -- what is left of the made ones, in their own terms
 pub left_of_made : (between fresh : List Edge) (named : List (List ℕ × Oid)) (made : List (Oid × Value)) (next first : ℕ) (oids entries dead : List Oid)
@@ -121,11 +133,6 @@ module _ (before : OemGraph) (changes : Changes) (between lost fresh : List Edge
     old_below : (oid : Oid) → IsLive before.objects oid → oid.0 < before.next
     old_below oid live = (All-contains (λ (object : Oid × Value). (1 ≤ object.0.0) × (object.0.0 < before.next)) before.objects (oid, live.0) rooted.well_formed.ordered.objects_numbered live.1).1
 
-    entering-Decides : (edge : Edge) → Decides (is_entering before.next edge) ((edge.parent.0 < before.next) × (before.next ≤ edge.child.0))
-    entering-Decides edge =
-        Decides-and (nat_lt edge.parent.0 before.next) (nat_le before.next edge.child.0) (Decides-ltb edge.parent.0 before.next)
-        (leb-true before.next edge.child.0, le-leb before.next edge.child.0)
-
     -- a walk from an old object to a made one enters the made ones somewhere
     enters : (word : List Label) (x y : Oid) → x.0 < before.next → before.next ≤ y.0 → Walk between x word y
         → IsWalkedFrom between (entered before.next changes.named fresh) y
@@ -137,7 +144,7 @@ module _ (before : OemGraph) (changes : Changes) (between lost fresh : List Edge
           | inr there ↦
               let unkept : Contains before.edges edge → ⊥ = λ kept. omega (arith, there, old_below walked.0 (child_before before changes between lost fresh rooted fits overlay edge kept)) in
               let at : Contains (filter (is_entering before.next) fresh) edge =
-              Contains-filter (is_entering before.next) fresh edge ((overlay.fresh_exact edge).1 (walked.1, unkept)) ((entering-Decides edge).1 (old, there)) in (
+              Contains-filter (is_entering before.next) fresh edge ((overlay.fresh_exact edge).1 (walked.1, unkept)) ((entering-Decides before.next edge).1 (old, there)) in (
                 walked.0,
                 word,
                 Contains-append_right (map (λ (entry : List ℕ × Oid). entry.1) changes.named) (map (λ (e : Edge). e.child) (filter (is_entering before.next) fresh)) walked.0
@@ -161,7 +168,7 @@ module _ (before : OemGraph) (changes : Changes) (between lost fresh : List Edge
           let edge = found.0 in
           let passed = unfiltered (is_entering before.next) fresh edge found.1 in
           let only = (overlay.fresh_exact edge).0 passed.0 in
-          let parent = reached_then edge.parent (parent_old edge only.0 only.1 ((entering-Decides edge).0 passed.1).0) in
+          let parent = reached_then edge.parent (parent_old edge only.0 only.1 ((entering-Decides before.next edge).0 passed.1).0) in
           record {
             name = parent.name;
             start = parent.start;

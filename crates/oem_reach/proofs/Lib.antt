@@ -2,3 +2,4 @@ pub mod MemberLaws
 pub mod ReachedLaws
 pub mod CutLaws
 pub mod DeadLaws
+pub mod LowerParentLaws

@@ -6,11 +6,12 @@ use Rattle.std.specs.Ordering.{nat_cmp, ordering_index}
 use Rattle.std.proofs.lemmas.Bool.{cases_lt}
 use Rattle.std.proofs.lemmas.Bool.Decides.{nat_tests}
 use Rattle.std.proofs.lemmas.List.{get_or_default}
-use Rattle.std.proofs.lemmas.List.Elements.{All-contains}
+use Rattle.std.proofs.lemmas.List.Elements.{All-contains, Contains-append_cases}
 use Rattle.std.proofs.lemmas.List.Kept.{AllPairs-filter}
 use Rattle.lore_base.specs.Walks.{Walk, out_of, edge_of}
 use Rattle.lore_base.specs.TargetSets.{ListsInOrder}
 use Rattle.lore_base.proofs.MemberLaws.{Contains-none, Contains-head, Contains-tail, Contains-cases, Contains-same, Contains-filter, unfiltered}
+use Rattle.lore_base.proofs.WalkLaws.{Walk-append}
 use Rattle.graph_search.specs.Closures.{IsMet, LeadAlong, LeadsOn, IsClosure, Lists}
 use Rattle.lore_base.specs.ChangeSets.{NamesThen, IsReachedThen}
 use Rattle.oem_reach.specs.Types.{Oid, Label, Edge, Changes, Met}
@@ -190,6 +191,55 @@ AreLeft-same Led Other Kept Stays left led kept is = record {
   only = λ oid at. (let found = is.only oid at in ((led oid).0 found.0, λ stays. found.1 ((kept oid).1 stays)));
   each = λ oid other. elim (is.each oid ((led oid).1 other)) [ inl there ↦ inl there | inr holds ↦ inr ((kept oid).0 holds) ];
 }
+
+-- first those are taken out that are reached from some that the starts reach, then those that the starts reach
+pub left_twice : (edges : List Edge) (oids some starts far left : List Oid) → ((oid : Oid) → Contains some oid → IsWalkedFrom edges starts oid)
+    → AreLeft (Contains oids) (IsWalkedFrom edges some) far → AreLeft (Contains far) (IsWalkedFrom edges starts) left
+    → AreLeft (Contains oids) (IsWalkedFrom edges starts) left
+left_twice edges oids some starts far left walked first second = record {
+  ascend = second.ascend;
+  only = λ oid at. (let found = second.only oid at in ((first.only oid found.0).0, found.1));
+  each = λ oid at. elim (first.each oid at) [
+    | inl there ↦ second.each oid there
+    | inr below ↦
+        let start = walked below.0 below.2 in
+        inr (start.0, start.1 ++ below.1, start.2, Walk-append edges start.0 start.1 below.0 below.1 oid start.3 below.3)
+  ];
+}
+
+-- the same where some are those of the objects that are close to the starts
+pub left_near : (edges : List Edge) (oids starts close near far left : List Oid) → AllPairs (λ a b. a.0 < b.0) oids
+    → ((oid : Oid) → Contains close oid → IsWalkedFrom edges starts oid) → near ≡ filter (is_listed oids) close
+    → (AllPairs (λ a b. a.0 < b.0) oids → AreLeft (Contains oids) (IsWalkedFrom edges near) far)
+    → (AllPairs (λ a b. a.0 < b.0) far → AreLeft (Contains far) (IsWalkedFrom edges starts) left)
+    → AreLeft (Contains oids) (IsWalkedFrom edges starts) left
+left_near edges oids starts close near far left ascend walked shared first second =
+    let there = first ascend in
+    left_twice edges oids near starts far left
+    (λ oid at. walked oid (unfiltered (is_listed oids) close oid (subst (λ (l : List Oid). Contains l oid) shared at)).0)
+    there (second there.ascend)
+
+-- starts are walked to, and so are the children of one
+pub starts_walked : (edges : List Edge) (starts some : List Oid) → some ≡ starts → (oid : Oid) → Contains some oid → IsWalkedFrom edges starts oid
+starts_walked edges starts some is oid at = (oid, [], subst (λ (l : List Oid). Contains l oid) is at, refl)
+
+pub children_walked : (edges cut read seen : List Edge) (starts close more : List Oid) (start : Oid) → Contains starts start
+    → cut ≡ [] → read ≡ cut ++ out_of start edges → seen ≡ read → more ≡ close ++ map (λ edge. edge.child) seen
+    → ((oid : Oid) → Contains close oid → IsWalkedFrom edges starts oid) → (oid : Oid) → Contains more oid → IsWalkedFrom edges starts oid
+children_walked edges cut read seen starts close more start at none reads sees more_is walked oid there =
+    let out = out_of start edges in
+    let is : more ≡ close ++ map (λ (edge : Edge). edge.child) out =
+    more_is ∙ ap (λ (l : List Edge). close ++ map (λ (edge : Edge). edge.child) l) (sees ∙ reads ∙ ap (λ (l : List Edge). l ++ out) none) in
+    elim (Contains-append_cases close (map (λ (edge : Edge). edge.child) out) oid (subst (λ (l : List Oid). Contains l oid) is there)) [
+      | inl before ↦ walked oid before
+      | inr child ↦
+          let found = mapped (λ (edge : Edge). edge.child) out oid child in
+          let edge = found.0 in
+          let leaves = unfiltered (λ (e : Edge). e.parent.0 == start.0) edges edge found.1 in
+          let parent : edge.parent ≡ start = same_oid edge.parent start leaves.1 in
+          let same : edge ≡ edge_of start edge.label oid = (let is_child = found.2 in λ i. record { parent = parent i; label = edge.label; child = is_child i }) in
+          (start, edge.label ∷ [], at, (oid, Contains-same edges edge (edge_of start edge.label oid) same leaves.0, refl))
+    ]
 
 -- what is walked to from the objects of the names then is reached then
 pub named_reached : (names then : List (List ℕ × Oid)) (changes : Changes) (between : List Edge) (named : List Oid)

@@ -15,7 +15,7 @@ pub(crate) fn push_objects(oids: &mut OidBuf, objects: &ObjectList) -> Result<()
 }
 
 // Appends the children of the edges.
-fn push_children(oids: &mut OidBuf, edges: &[Edge]) -> Result<(), NoMemory>
+pub(crate) fn push_children(oids: &mut OidBuf, edges: &[Edge]) -> Result<(), NoMemory>
     ensures { OnOk result (oids.new ≡ oids.old ++ map (λ edge. edge.child) edges.now) }
 {
     'edges: for edge in edges {

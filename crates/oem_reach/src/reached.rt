@@ -53,7 +53,7 @@ pub(crate) fn reached_from<A: Adjacent, L: Ledger>(
 }
 
 // Whether the object is one of the ascending ones, found by binary search.
-fn is_among(oids: &[Oid], oid: Oid) -> bool
+pub(crate) fn is_among(oids: &[Oid], oid: Oid) -> bool
     requires { AllPairs (λ a b. a.0 < b.0) oids.now }
     ensures { result ≡ is_listed oids.now oid }
 {

@@ -6,7 +6,7 @@ use Rattle.std.proofs.lemmas.List.Elements.{All-nil, All-cons, All-head, All-tai
 use Rattle.std.proofs.lemmas.Option.{same_Some, none-some}
 use Rattle.lore_base.specs.Paths.{PathTree, Reaches}
 use Rattle.lore_base.proofs.WalkLaws.{Walk-within}
-use Rattle.lorel_bind.specs.Conditions.{CondOf}
+use Rattle.lorel_ranges.specs.Conditions.{CondOf}
 use Rattle.lorel_bind.specs.Bound.{RangeTree, BoundPathTree, BoundTree}
 use Rattle.lorel_bind.specs.Bindings.{IsRunnable}
 use Rattle.lorel_bind.specs.SlotRows.{StartsAt, HoldsOver}

@@ -16,7 +16,8 @@ use Rattle.lore_base.specs.declared.operators.Op.TheVariants.{Like}
 use Rattle.lore_base.specs.declared.operators.Op.{Op}
 use Rattle.lore_base.specs.declared.paths.Pattern.TheVariants.{Plain}
 use Rattle.lorel_bind.specs.declared.bound.BoundStart.TheVariants as bound_starts
-use Rattle.lorel_bind.specs.Conditions.{CondOf, CondsOf, and, or, not, exists, for_all, same, compare, at, constant, no_cond, cond, paths_of, paths_of_all, paths_in, Holds, AllHold}
+use Rattle.lorel_ranges.specs.Conditions.{CondOf, CondsOf, and, or, not, exists, for_all, same, compare, at, constant, no_cond, cond, paths_of, paths_of_all, paths_in}
+use Rattle.lorel_bind.specs.Holding.{Holds, AllHold}
 use Rattle.lorel_bind.specs.Bound.{BoundPathTree, BoundTree}
 use Rattle.lorel_bind.specs.Bindings.{IsBoundWithin, IsRunnable}
 use Rattle.lorel_bind.specs.SlotRows.{MeetsBy, HoldsOver}

@@ -7,7 +7,7 @@ use Rattle.std.proofs.lemmas.List.Sums.{get_or-le-sum_by}
 use Rattle.lore_base.specs.Paths.{PathTree, leaves}
 use Rattle.lore_base.proofs.MemberLaws.{Contains-head}
 use Rattle.lorel_bind.specs.declared.bound.BoundStart.TheVariants as bound_starts
-use Rattle.lorel_bind.specs.Conditions.{CondOf, CondsOf, and, or, not, exists, for_all, same, compare, no_cond, cond, paths_of, paths_of_all, paths_in}
+use Rattle.lorel_ranges.specs.Conditions.{CondOf, CondsOf, and, or, not, exists, for_all, same, compare, no_cond, cond, paths_of, paths_of_all, paths_in}
 use Rattle.lorel_bind.specs.Bound.{RangeTree, BoundPathTree, BoundTree}
 use Rattle.lorel_bind.specs.Bindings.{IsRunnable}
 use Rattle.lorel_bind.specs.declared.plans.PlanStep.{PlanStep}

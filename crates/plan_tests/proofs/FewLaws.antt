@@ -1,7 +1,7 @@
 -- Paths reach no more objects than there are edges, and one.
 use Rattle.std.proofs.Common.{◌≢◌, ℕ, ◌≤◌, suc, inl, inr, List, [], ◌∷◌, length, map, All, AllPairs, Contains, ap, arith}
 use Rattle.std.proofs.lemmas.List.{length-map}
-use Rattle.lorel_bind.proofs.ListLaws.{All-from_members}
+use Rattle.lorel_ranges.proofs.ListLaws.{All-from_members, Contains-mapped}
 use Rattle.lore_base.specs.Walks.{Walk, edge_of}
 use Rattle.lore_base.specs.Paths.{PathTree, Reaches}
 use Rattle.lore_base.specs.TargetSets.{ListsInOrder}
@@ -9,7 +9,6 @@ use Rattle.lore_base.specs.declared.edges.Label.{Label}
 use Rattle.lore_base.specs.declared.edges.Edge.{Edge}
 use Rattle.lore_base.proofs.MemberLaws.{Contains-head, Contains-tail, Contains-cases, Contains-same}
 use Rattle.graph_search.proofs.SumLaws.{length-within}
-use Rattle.lorel_bind.proofs.ReachedLaws.{Contains-mapped}
 use Rattle.plan_tests.specs.Types.{Oid}
 
 abbrev child_of : Edge → Oid

@@ -1,7 +1,7 @@
 -- Ranges and conditions that are short: then a select of them can be run.
 use Rattle.std.specs.Prelude.{ℕ, ◌*◌, ◌≤◌, List, length, sum_by, Option, All}
 use Rattle.lore_base.specs.Paths.{leaves}
-use Rattle.lorel_bind.specs.Conditions.{CondOf, paths_in}
+use Rattle.lorel_ranges.specs.Conditions.{CondOf, paths_in}
 use Rattle.lorel_bind.specs.Bound.{RangeTree, BoundPathTree}
 use Rattle.lorel_bind.specs.Bindings.{AreInOrder, IsBoundWithin}
 

@@ -19,8 +19,8 @@ use Rattle.lorel_bind.specs.declared.bound.Range.{Range}
 use Rattle.lorel_bind.specs.Bound.{RangeTree, range_tree, BoundTree, bound_tree}
 use Rattle.lorel_bind.specs.Bindings.{IsRunnable}
 use Rattle.lorel_bind.specs.Plans.{Probe, path_to}
-use Rattle.lorel_bind.proofs.ToldLaws.{IsTold, told_by, told_same, told_both}
-use Rattle.lorel_bind.proofs.ListedLaws.{IsListed, listed_members, listed_one, listed_same, listed_over, listed_where}
+use Rattle.lorel_ranges.proofs.ToldLaws.{IsTold, told_by, told_same, told_both}
+use Rattle.lorel_ranges.proofs.ListedLaws.{IsListed, listed_members, listed_one, listed_same, listed_over, listed_where}
 use Rattle.lorel_bind.proofs.ComparedLaws.{told_compares}
 use Rattle.lorel_bind.proofs.AscentLaws.{IsOrder, some_ordered}
 use Rattle.planner.specs.Types.{Oid, Label, ValueEntry}

@@ -13,7 +13,7 @@ use Rattle.lore_base.specs.Paths.{PathTree, step, any, seq, trees_of, path_tree,
 use Rattle.lorel_bind.specs.declared.bound.Range.{Range}
 use Rattle.lorel_bind.specs.declared.bound.BoundCond.{BoundCond}
 use Rattle.lorel_bind.specs.Bound.{BoundPathTree, range_tree, bound_cond, conds_from}
-use Rattle.lorel_bind.specs.Conditions.{CondOf, compare, at, constant}
+use Rattle.lorel_ranges.specs.Conditions.{CondOf, compare, at, constant}
 use Rattle.lorel_bind.specs.Plans.{Probe, IsFitting, DoesNotFit, IsFirstFitting, FollowOn}
 use Rattle.planner.specs.Types.starts
 use Rattle.planner.specs.Types.{Plain}

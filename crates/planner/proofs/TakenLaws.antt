@@ -7,7 +7,7 @@ use Rattle.lore_base.proofs.MemberLaws.{Contains-head}
 use Rattle.index_traits.specs.Entries.{IsProbed}
 use Rattle.lorel_bind.specs.Bound.{RangeTree, BoundPathTree, BoundTree}
 use Rattle.lorel_bind.specs.Bindings.{IsBoundWithin, IsRunnable}
-use Rattle.lorel_bind.specs.Conditions.{CondOf, CondsOf, and, compare, no_cond, cond, at, constant, paths_of, paths_of_all, paths_in}
+use Rattle.lorel_ranges.specs.Conditions.{CondOf, CondsOf, and, compare, no_cond, cond, at, constant, paths_of, paths_of_all, paths_in}
 use Rattle.lorel_bind.specs.Plans.{Probe, IsFitting, IsFirstFitting, IsTaken, IsChain, CanBeBottom}
 use Rattle.planner.specs.Types.{Oid, Complex, Plain}
 use Rattle.planner.specs.Types.starts

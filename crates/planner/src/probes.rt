@@ -3,7 +3,7 @@ ghost use Rattle.lore_base.specs.Paths.{path_tree, step};
 ghost use Rattle.index_traits.specs.Entries.{IsProbed};
 ghost use Rattle.lorel_bind.specs.Bound.{bound_cond, bound_conds, conds_from};
 ghost use Rattle.lorel_bind.specs.Bound.{bound_operand, bound_path};
-ghost use Rattle.lorel_bind.specs.Conditions.{compare, at, constant};
+ghost use Rattle.lorel_ranges.specs.Conditions.{compare, at, constant};
 ghost use Rattle.lorel_bind.specs.Plans.{Probe as TheProbe, IsFitting, DoesNotFit};
 ghost use Rattle.lorel_bind.specs.Plans.{IsFirstFitting, IsTaken};
 ghost use Rattle.planner.specs.Types.{Complex, Plain};

@@ -1,6 +1,6 @@
 ghost use Rattle.std.specs.Prelude.{◌≡◌, ◌<◌, ◌≤◌};
 ghost use Rattle.lorel_bind.specs.Bound.{bound_cond};
-ghost use Rattle.lorel_bind.specs.Conditions.{paths_of};
+ghost use Rattle.lorel_ranges.specs.Conditions.{paths_of};
 ghost use Rattle.lorel_eval.specs.Types.{LEAVES};
 ghost use Rattle.lorel_eval.specs.Tests.{rest_leaves};
 

@@ -1,7 +1,7 @@
 ghost use Rattle.std.specs.Prelude.{◌+◌, ◌≤◌, IfSome};
 ghost use Rattle.lore_base.specs.Paths.{path_tree, leaves};
 ghost use Rattle.lorel_bind.specs.Bound.{bound_cond, bound_conds, conds_from, bound_operand};
-ghost use Rattle.lorel_bind.specs.Conditions.{paths_of, paths_of_all, operand_paths};
+ghost use Rattle.lorel_ranges.specs.Conditions.{paths_of, paths_of_all, operand_paths};
 ghost use Rattle.lorel_eval.specs.Tests.{rest_leaves};
 
 use lore_base::{Path, leaf_count};

@@ -8,7 +8,7 @@ use Rattle.std.proofs.lemmas.Bool.{true≢false, cases_lt}
 use Rattle.std.proofs.lemmas.Cmp.{tied_itself}
 use Rattle.std.proofs.lemmas.List.Folds.{Any-from_list_any, list_any_at, list_any_none}
 use Rattle.std.proofs.lemmas.List.Kept.{AllPairs-filter}
-use Rattle.lore_base.proofs.MemberLaws.{Contains-same, Contains-filter, unfiltered}
+use Rattle.lore_lists.proofs.MemberLaws.{Contains-same, Contains-filter, unfiltered}
 use Rattle.sorted_list.specs.SortedLists.{Ascends, IsExact}
 use Rattle.sorted_list.specs.inside.Listed.{is_listed, staying}
 

@@ -3,7 +3,7 @@ ghost use Rattle.sorted_list.specs.SortedLists.{Ascends, IsExact, IsChange, IsLe
 
 use crate::coming::put_in;
 use crate::going::take_out;
-use lore_base::NoMemory;
+use lore_lists::NoMemory;
 use std::alloc::Global;
 use std::marker::Model;
 
@@ -18,7 +18,7 @@ pub struct SortedList<T: Ord> {
 
 impl<T: Ord> Model for SortedList<T> {
     ghost use Rattle.std.specs.Prelude.{◌-◌, length, min, vec_capacity};
-    ghost use Rattle.lore_base.specs.Lists.{Roomy};
+    ghost use Rattle.lore_lists.specs.Lists.{Roomy};
     ghost use Rattle.sorted_list.specs.inside.Spares.{IsSpared};
 
     ghost Value = { Roomy T };

@@ -11,6 +11,7 @@ use index_traits::Links;
 use lore_base::{Edge, EdgeBuf, Label, Listing, NoMemory, Oid, Steps};
 use std::alloc::Global;
 use std::sync::ledger::Ledger;
+use strand_sort::sorted_set;
 
 // A label and an object that an edge with the label enters.
 #[derive(Clone, Copy, PartialEq, Eq, PartialOrd, Ord)]
@@ -44,8 +45,8 @@ pub(crate) fn pairs_before(alloc: Global, entering: &[Edge]) -> Result<PairList,
 {
     let mut pairs = PairList::with_capacity(alloc, entering.len())?;
     add_pairs(&mut pairs, entering)?;
-    pairs.sort_set();
-    Ok(pairs)
+    let sorted = sorted_set(alloc, pairs.as_slice())?;
+    Ok(sorted)
 }
 
 // The pairs of these edges less those that are lost, and of the fresh ones, ascending, each once.
@@ -58,15 +59,13 @@ pub(crate) fn pairs_then(
     ensures { IfOk result (λ pairs. AreSetOf pair_cmp
         (IsPairOf (IsThere entering.now lost.now fresh.now)) pairs) }
 {
-    let mut sorted = EdgeBuf::new(alloc);
-    sorted.append(lost)?;
-    sorted.sort_set();
-    let kept = kept_edges(alloc, entering, sorted.as_slice())?;
+    let gone = sorted_set(alloc, lost)?;
+    let kept = kept_edges(alloc, entering, gone.as_slice())?;
     let mut pairs = PairList::new(alloc);
     add_pairs(&mut pairs, kept.as_slice())?;
     add_pairs(&mut pairs, fresh)?;
-    pairs.sort_set();
-    Ok(pairs)
+    let sorted = sorted_set(alloc, pairs.as_slice())?;
+    Ok(sorted)
 }
 
 // Puts the pairs of the edges behind those that are there.

@@ -6,6 +6,7 @@ ghost use Rattle.value_changes.specs.inside.Touched.{oid_cmp, IsTouched};
 
 use lore_base::{Edge, NoMemory, Oid, OidBuf, Value};
 use std::alloc::Global;
+use strand_sort::sorted_set;
 
 // The objects that values are given to, ascending, each once.
 pub(crate) fn given_objects(alloc: Global, given: &[(Oid, Value)]) -> Result<OidBuf, NoMemory>
@@ -32,8 +33,8 @@ pub(crate) fn touched_objects(
     oids.append(given)?;
     add_children(&mut oids, lost)?;
     add_children(&mut oids, fresh)?;
-    oids.sort_set();
-    Ok(oids)
+    let sorted = sorted_set(alloc, oids.as_slice())?;
+    Ok(sorted)
 }
 
 // Puts the children of the edges behind the objects.

@@ -4,7 +4,7 @@ use Rattle.std.specs.Option.{option_to_list}
 use Rattle.std.specs.Map.{remove_entry}
 use Rattle.std.specs.BTreeMap.{insert_entry, is_at}
 use Rattle.lore_base.specs.Types.{Oid}
-use Rattle.lore_base.specs.Bytes.{bytes_cmp}
+use Rattle.lore_lists.specs.Bytes.{bytes_cmp}
 use Rattle.lore_base.specs.Names.{object_of}
 
 -- names bound one after another, each in place of an older binding

@@ -3,7 +3,7 @@ use Rattle.std.specs.Prelude.{◌≡◌, Option, Some, None, IfSome}
 use Rattle.std.specs.declared.result.Result.{Result}
 use Rattle.std.specs.declared.result.Result.TheVariants.{Ok, Err}
 use Rattle.lore_db.specs.Types.{Refusal, Reply, Refused}
-use Rattle.lore_base.specs.declared.no_memory.NoMemory.{NoMemory}
+use Rattle.lore_base.specs.Types.{NoMemory}
 use Rattle.lore_db.specs.declared.stops.Stop.{Stop}
 use Rattle.lore_db.specs.declared.stops.Stop.TheVariants as stop
 

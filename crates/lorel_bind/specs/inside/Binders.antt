@@ -1,35 +1,25 @@
--- What the program binds a select and its condition by, and how it binds conditions.
+-- What the program binds a condition by, and how it binds one.
 use Rattle.std.specs.Prelude.{◌≡◌, ℕ, List, length}
 use denote.Ref.{Bor}
-use Rattle.lorel_trees.specs.Trees.{RootedTree, OperandTree, CondTree, CondTrees, SelectTree}
-use Rattle.lorel_bind.specs.Places.{Place, Scope, place_of}
-use Rattle.lorel_bind.specs.Conditions.{OperandOf, CondOf, CondsOf, operand_in, cond_in, conds_in}
-use Rattle.lorel_bind.specs.Ranges.{Range, places, ArePlain, AreFused, IsUsed}
+use Rattle.lorel_trees.specs.Trees.{RootedTree, OperandTree, CondTree, CondTrees}
+use Rattle.lorel_ranges.specs.Places.{Place, Scope, place_of}
+use Rattle.lorel_ranges.specs.Conditions.{OperandOf, CondOf, CondsOf, operand_in, cond_in, conds_in}
+use Rattle.lorel_ranges.specs.Ranges.{Range, places}
 use Rattle.lorel_bind.specs.Bound.{BoundPathTree}
 use Rattle.lorel_bind.specs.Bindings.{CorrespondOperands, Correspond, CorrespondEach}
-use Rattle.lorel_bind.specs.inside.Scopes.{enclosed, IsScope, names_of}
-use Rattle.lorel_bind.specs.inside.Views.{place_trees, ranges_of, texts}
-use Rattle.lorel_bind.specs.inside.Links.{IsIndexed}
+use Rattle.lorel_ranges.specs.Scopes.{enclosed, IsScope, names_of}
+use Rattle.lorel_ranges.specs.Views.{place_trees, ranges_of, texts}
 use Rattle.lorel_bind.specs.inside.Slots.{BindsPath}
-use Rattle.lorel_bind.specs.declared.links.Plain.{Plain}
 use Rattle.lorel_bind.specs.declared.conditions.Binder.{Binder}
-
--- a select is ready: its fused ranges, and the places of its plain ones
-pub record IsReady (query : SelectTree) (plain : Plain) (fused : List Range) : Type 0 where
-  pub ranges : List Range
-  pub made : ArePlain query ranges
-  pub places : places ranges ≡ place_trees plain.places.items
-  pub fuses : AreFused (IsUsed query ranges) ranges fused
-  pub indexed : IsIndexed plain
 
 -- a binder has the variables of the scope and the places of the plain ranges
 pub record Serves (binder : Binder) (plain : List Range) (scope : Scope) : Type 0 where
   pub known : IsScope (names_of binder.variables.now) scope
-  pub places : places plain ≡ place_trees binder.plain.now.places.items
+  pub places : places plain ≡ place_trees binder.plain.now
 
 -- it binds a path by its slots
 abbrev pub Binds : Binder → List Range → Place → BoundPathTree → Type 0
-Binds binder plain = BindsPath binder.slots.now.names.now (ranges_of binder.slots.now.links.items) plain
+Binds binder plain = BindsPath binder.slots.now.names.now (ranges_of binder.slots.now.fused.items) plain
 
 -- within the quantifiers of these variables, the outermost first
 module _ (binder : Binder) (quantified : List (Bor (List ℕ))) where

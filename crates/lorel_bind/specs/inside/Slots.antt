@@ -2,8 +2,8 @@
 use Rattle.std.specs.Prelude.{ℕ, List, Contains}
 use Rattle.lore_base.specs.Paths.{PathTree}
 use Rattle.lorel_bind.specs.Types.{Oid, Start, BoundStart, CellOf}
-use Rattle.lorel_bind.specs.Places.{Place, CellPlace, object, word}
-use Rattle.lorel_bind.specs.Ranges.{Range, IsFixed, places}
+use Rattle.lorel_ranges.specs.Places.{Place, CellPlace, object, word}
+use Rattle.lorel_ranges.specs.Ranges.{Range, IsFixed, places}
 use Rattle.lorel_bind.specs.Bound.{RangeTree, BoundPathTree}
 use Rattle.lorel_bind.specs.Bindings.{StandsFor, StandsForAny, IsBoundRange, IsBoundCell, IsBoundPath}
 

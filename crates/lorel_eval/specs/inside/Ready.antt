@@ -2,7 +2,7 @@
 use Rattle.std.specs.Prelude.{List}
 use Rattle.lore_base.specs.Paths.{path_tree}
 use Rattle.lorel_bind.specs.Bound.{BoundPathTree, conds_from}
-use Rattle.lorel_bind.specs.Conditions.{OperandOf, constant, at, CondOf, or, and, not, exists, for_all, compare, same}
+use Rattle.lorel_ranges.specs.Conditions.{OperandOf, constant, at, CondOf, or, and, not, exists, for_all, compare, same}
 use Rattle.lorel_eval.specs.declared.ready_conds.ReadyPath.{ReadyPath}
 use Rattle.lorel_eval.specs.declared.ready_conds.ReadyOperand.{ReadyOperand}
 use Rattle.lorel_eval.specs.declared.ready_conds.ReadyOperand.TheVariants as o

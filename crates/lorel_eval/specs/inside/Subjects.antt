@@ -2,7 +2,8 @@
 use Rattle.std.specs.Prelude.{ℕ, List, Option, Some, slice_get, Contains}
 use Rattle.lore_base.specs.Comparisons.{Compares}
 use Rattle.lorel_bind.specs.Bound.{BoundPathTree}
-use Rattle.lorel_bind.specs.Conditions.{OperandOf, CondOf, CondsOf, Gives, Holds, SomeHolds, AllHold}
+use Rattle.lorel_ranges.specs.Conditions.{OperandOf, CondOf, CondsOf}
+use Rattle.lorel_bind.specs.Holding.{Gives, Holds, SomeHolds, AllHold}
 use Rattle.lorel_bind.specs.SlotRows.{MeetsBy}
 use Rattle.lorel_eval.specs.Types.{Oid, Edge, Value, BoundStart}
 use Rattle.lorel_eval.specs.Types.bound_starts

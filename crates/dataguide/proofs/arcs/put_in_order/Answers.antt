@@ -1,5 +1,12 @@
+use Rattle.std.proofs.Common.{◌↔◌, List, Contains, subst}
+use Rattle.dataguide.specs.Types.{Oid, Label}
 use Rattle.dataguide.proofs.ArcLaws.{arc_same}
 use Rattle.dataguide.proofs.arcs.put_in_order.Goals as goal
 
+pub returns-clause-ascend : goal.returns-clause-ascend
+returns-clause-ascend c = c.in_ok-sorted.ensures.ascend
+
 pub returns-clause-members : goal.returns-clause-members
-returns-clause-members c = c.sort_set.ensures.members arc_same
+returns-clause-members c =
+    subst (λ (l : List (Label × Oid)). (arc : Label × Oid) → Contains c.in_ok-sorted.sorted arc ↔ Contains l arc)
+    c.as_slice-2.ensures (c.in_ok-sorted.ensures.members arc_same)

@@ -1,5 +1,5 @@
 use Rattle.std.proofs.Common.{◌≡◌, map, take}
-use Rattle.guide_query.specs.PrintedObjects.{object_text}
+use Rattle.lore_base.specs.Printed.{object_text}
 use Rattle.guide_query.proofs.samples.object_lines.Given as goal
 
 abbrev pub invariant-oids : goal.invariant-oids

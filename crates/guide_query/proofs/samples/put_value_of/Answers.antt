@@ -2,7 +2,7 @@ use Rattle.std.proofs.Common.{◌≡◌, ℕ, List, ◌++◌, Bor, refl, ap, ◌
 use Rattle.std.specs.Result.{OnOk}
 use Rattle.lore_base.specs.Printed.{printed}
 use Rattle.guide_query.specs.Types.{Value}
-use Rattle.guide_query.proofs.ValueLaws.{value_of-found}
+use Rattle.lore_base.proofs.ValueLaws.{value_of-found}
 use Rattle.guide_query.proofs.samples.put_value_of.Goals as goal
 
 pub returns : goal.returns

@@ -2,7 +2,7 @@ use Rattle.std.proofs.Common.{Bor, ap, refl, ◌∙◌}
 use Rattle.lore_run.specs.Types.{Value}
 use Rattle.lore_base.specs.Printed.{printed}
 use Rattle.lore_base.proofs.PutLaws.{Puts-same}
-use Rattle.guide_query.proofs.ValueLaws.{value_of-found}
+use Rattle.lore_base.proofs.ValueLaws.{value_of-found}
 use Rattle.lore_run.proofs.rendering.put_value_of.Goals as goal
 
 pub returns : goal.returns

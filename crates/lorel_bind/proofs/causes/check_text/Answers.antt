@@ -2,8 +2,7 @@ use Rattle.std.proofs.Common.{◌<◌, ◌≤◌, subst}
 use Rattle.lorel_bind.specs.Types.{LEAVES}
 use Rattle.lorel_bind.proofs.TextCauseLaws.{refused_name, refused_start, refused_word, refused_duplicate, refused_many, passes_text, many_items, few_items, many_leaves, few_leaves}
 use Rattle.lorel_bind.proofs.causes.check_text.Goals as goal
-use Rattle.lorel_bind.proofs.causes.check_text.Goals.{then-unknown-2-via-then-unknown-2, then-unknown-2-via-else-unknown-2+then-text}
-use Rattle.lorel_bind.proofs.causes.check_text.Goals.{then-text-gt-ITEMS-via-then-text-gt-ITEMS, then-text-gt-ITEMS-via-else-text-gt-ITEMS+then-count_leaves}
+use Rattle.lorel_bind.proofs.causes.check_text.Goals.{then-unknown-2-via-then-unknown-2, then-unknown-2-via-else-unknown-2+then-text, then-text-gt-ITEMS-via-then-text-gt-ITEMS, then-text-gt-ITEMS-via-else-text-gt-ITEMS+then-count_leaves}
 
 pub returns-then-unknown-clause-refused : goal.returns-then-unknown-clause-refused
 returns-then-unknown-clause-refused c = λ query is.

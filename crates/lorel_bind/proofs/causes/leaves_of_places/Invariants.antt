@@ -1,6 +1,6 @@
 use Rattle.std.proofs.Common.{◌≡◌, ◌+◌, ◌-◌, ◌^◌, ◌<◌, min, drop}
 use Rattle.lorel_bind.specs.Refusals.{leaves_in}
-use Rattle.lorel_bind.specs.inside.Views.{place_trees}
+use Rattle.lorel_ranges.specs.Views.{place_trees}
 use Rattle.lorel_bind.proofs.causes.leaves_of_places.Given as goal
 
 abbrev pub invariant-places : goal.invariant-places

@@ -1,6 +1,6 @@
 use Rattle.std.proofs.Common.{[], ◌++◌, refl, ap, ◌∙◌, subst}
-use Rattle.lorel_bind.specs.inside.Views.{texts}
-use Rattle.lorel_bind.specs.inside.Texts.{HasNoted}
+use Rattle.lorel_ranges.specs.Views.{texts}
+use Rattle.lorel_bind.specs.inside.Causes.{HasNoted}
 use Rattle.lorel_bind.proofs.TextCauseLaws.{HasNoted-none}
 use Rattle.lorel_bind.proofs.causes.ranged_identifiers.Goals as goal
 

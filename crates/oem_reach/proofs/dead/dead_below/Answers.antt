@@ -10,9 +10,9 @@ pub returns : goal.returns
 returns g c =
     let between = g.A.Adjacent.edges c.args.overlay.now in
     let starts = c.args.parted ++ map (λ object. object.0) c.args.changes.now.made in
-    IfOk-weaker c.unreached.result _ _
+    IfOk-weaker c.unreached_near_first.result _ _
     (λ dead left. left_below c.args.names.now c.in_ok-then.then c.args.changes.now between starts
     c.in_ok-below.below c.as_slice-2.result.now dead
     (subst (λ (l : List Oid). ListsInOrder (IsWalkedFrom between l) c.in_ok-below.below) (c.as_slice.ensures ∙ c.in_ok-push_objects.ensures) c.in_ok-below.ensures)
-    c.in_ok-then.ensures.members (c.as_slice-2.ensures ∙ c.in_ok-named.ensures) left)
-    c.unreached.ensures
+    c.in_ok-then.ensures.members (c.as_slice-2.ensures ∙ c.in_ok-named.ensures) (λ _. left))
+    c.unreached_near_first.ensures

@@ -13,7 +13,7 @@ returns-then-is_empty g c =
     (λ dead left before rooted named fits overlay. dead_made before c.args.changes.now (g.A.Adjacent.edges c.args.overlay.now) c.args.lost.now c.args.fresh.now rooted fits overlay
     (λ oid at. Contains-none oid (subst (λ (l : List Oid). Contains l oid) (c.is_empty.ensures.0 c.if-is_empty.true)
     ((c.in_ok-parted.ensures oid).1 (subst (λ (names : List (List ℕ × Oid)). IsParted names c.args.lost.now c.args.changes.now oid) named at))))
-    dead (left before.next fits.numbered))
+    dead (left before.next fits.numbered (λ edge at. ((overlay.fresh_exact edge).0 at).0)))
     c.dead_made.ensures
 
 pub returns : goal.returns

@@ -1,7 +1,7 @@
 use Rattle.std.proofs.Common.{◌≡◌, ◌∙◌, IfNone, sym, ap, subst}
 use Rattle.lorel_bind.specs.declared.bound.BoundOperand.{BoundOperand}
 use Rattle.lorel_bind.specs.Bound.{BoundPathTree, bound_path, bound_operand}
-use Rattle.lorel_bind.specs.Conditions.{CondOf, compare, at, constant}
+use Rattle.lorel_ranges.specs.Conditions.{CondOf, compare, at, constant}
 use Rattle.lorel_bind.specs.Plans.{DoesNotFit}
 use Rattle.planner.proofs.probes.comparison.Goals as goal
 

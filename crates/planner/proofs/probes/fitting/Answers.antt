@@ -1,6 +1,6 @@
 use Rattle.std.proofs.Common.{IfNone, sym, subst}
 use Rattle.lorel_bind.specs.Bound.{BoundPathTree}
-use Rattle.lorel_bind.specs.Conditions.{CondOf}
+use Rattle.lorel_ranges.specs.Conditions.{CondOf}
 use Rattle.lorel_bind.specs.Plans.{DoesNotFit}
 use Rattle.lorel_bind.proofs.BoundLaws.{compare_cond}
 use Rattle.planner.proofs.probes.fitting.Goals as goal

@@ -1,7 +1,7 @@
 use Rattle.std.proofs.Common.{sym, subst}
 use Rattle.std.specs.Prelude.{Option, IfNone}
 use Rattle.lorel_bind.specs.Bound.{bound_path}
-use Rattle.lorel_bind.specs.Conditions.{compare, at, constant}
+use Rattle.lorel_ranges.specs.Conditions.{compare, at, constant}
 use Rattle.lorel_bind.specs.Plans.{DoesNotFit}
 use Rattle.planner.specs.declared.probes.Probe.{Probe}
 use Rattle.planner.proofs.ProbeLaws.{unended}

@@ -13,7 +13,8 @@ returns c =
     let first = c.in_ok-append.ensures.ok ∙ ap (λ (l : List Oid). l ++ c.args.given.now) c.new-oids.ensures in
     let second = c.in_ok-add_children.ensures ∙ ap (λ (l : List Oid). l ++ of_lost) first in
     let third = c.in_ok-add_children-2.ensures ∙ ap (λ (l : List Oid). l ++ of_fresh) second in
-    set-sorted oid_cmp (IsTouched c.args.lost.now c.args.fresh.now c.args.given.now) c.add_children-2.new.oids
-    c.sort_set.new.self c.sort_set.ensures.ascend (c.sort_set.ensures.members same_oid)
-    (λ oid. subst (λ (l : List Oid). Contains l oid ↔ IsTouched c.args.lost.now c.args.fresh.now c.args.given.now oid) (sym third)
+    let sorted = c.in_ok-sorted.ensures in
+    set-sorted oid_cmp (IsTouched c.args.lost.now c.args.fresh.now c.args.given.now) c.as_slice.result.now
+    c.in_ok-sorted.sorted sorted.ascend (sorted.members same_oid)
+    (λ oid. subst (λ (l : List Oid). Contains l oid ↔ IsTouched c.args.lost.now c.args.fresh.now c.args.given.now oid) (sym (c.as_slice.ensures ∙ third))
     (touched-listed c.args.lost.now c.args.fresh.now c.args.given.now oid))

@@ -10,6 +10,6 @@ returns-then-is_too_much c =
 
 pub returns : goal.returns
 returns c =
-    subst (AreRows (Contains c.args.self)) (sym (c.in_ok-answer_of.ensures ∙ c.found.view_is))
+    subst (AreRows (Contains c.args.self)) (sym (c.from_rows.ensures ∙ c.found.view_is))
     (all_rows c.args.self c.settle.new.self c.settle.ensures.members c.settle.ensures.ascending
     (λ much. true≢false (sym (c.is_too_much.ensures.1 much) ∙ c.if-is_too_much.false)))

@@ -9,4 +9,4 @@ returns-clause-arcs g c =
     are-arcs (g.A.Adjacent.edges c.args.graph.now) c.args.set.now c.list_arcs.new.arcs c.put_in_order.new.arcs
     (c.in_ok-list_arcs.ensures ∙ ap (λ (l : List Edge). arcs_of l) (c.as_slice.ensures
     ∙ c.in_ok-read_edges.ensures.edges))
-    c.put_in_order.ensures.ascend c.put_in_order.ensures.members
+    c.in_ok-put_in_order.ensures.ascend c.in_ok-put_in_order.ensures.members

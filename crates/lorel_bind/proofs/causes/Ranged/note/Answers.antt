@@ -1,5 +1,5 @@
 use Rattle.std.proofs.Common.{refl, ℕ, List, [], ◌∷◌, ◌++◌, ◌||◌, not, subst}
-use Rattle.lorel_bind.specs.inside.Texts.{HasNoted}
+use Rattle.lorel_bind.specs.inside.Causes.{HasNoted}
 use Rattle.lorel_bind.specs.declared.causes.Ranged.{Ranged}
 use Rattle.lorel_bind.proofs.TextCauseLaws.{HasNoted-push}
 use Rattle.lorel_bind.proofs.causes.Ranged.note.Goals as goal

@@ -1,8 +1,8 @@
 use Rattle.std.proofs.Common.{ℕ, List, [], ◌∷◌, ◌++◌, take, Bor, subst, sym, ap, ◌∙◌, append_assoc}
 use Rattle.std.proofs.lemmas.List.{take_all}
-use Rattle.lorel_bind.specs.inside.Views.{texts}
-use Rattle.lorel_bind.specs.inside.Texts.{HasNoted}
-use Rattle.lorel_bind.proofs.ListLaws.{map-take_read}
+use Rattle.lorel_ranges.specs.Views.{texts}
+use Rattle.lorel_bind.specs.inside.Causes.{HasNoted}
+use Rattle.lorel_ranges.proofs.ListLaws.{map-take_read}
 use Rattle.lorel_bind.proofs.causes.Ranged.note_all.Goals as goal
 
 pub identifiers-preserved : goal.identifiers-preserved

@@ -1,6 +1,6 @@
 use Rattle.std.proofs.Common.{ℕ, List, refl, sym, ap, ◌∙◌, Contains, Bor, subst}
 use Rattle.std.proofs.lemmas.Option.{same_Some}
-use Rattle.lorel_bind.specs.inside.Views.{place_tree, texts}
+use Rattle.lorel_ranges.specs.Views.{place_tree, texts}
 use Rattle.lorel_bind.proofs.TextCauseLaws.{HasMet-bound, HasMet-ranged, HasMet-unranged, found_text, missed_text}
 use Rattle.lorel_bind.proofs.causes.Unknown.note.Goals as goal
 

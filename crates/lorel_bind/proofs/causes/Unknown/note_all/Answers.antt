@@ -1,8 +1,8 @@
 use Rattle.std.proofs.Common.{[], ◌∷◌, ◌++◌, take, subst, sym, ap, ◌∙◌, append_assoc}
 use Rattle.std.proofs.lemmas.List.{take_all}
-use Rattle.lorel_bind.specs.inside.Views.{place_tree, place_trees, texts}
-use Rattle.lorel_bind.specs.inside.Texts.{HasMet}
-use Rattle.lorel_bind.proofs.ListLaws.{map-take_read}
+use Rattle.lorel_ranges.specs.Views.{place_tree, place_trees, texts}
+use Rattle.lorel_bind.specs.inside.Causes.{HasMet}
+use Rattle.lorel_ranges.proofs.ListLaws.{map-take_read}
 use Rattle.lorel_bind.proofs.causes.Unknown.note_all.Goals as goal
 
 pub places-preserved : goal.places-preserved

@@ -1,7 +1,7 @@
 use Rattle.std.proofs.Common.{List, ◌++◌, take}
-use Rattle.lorel_bind.specs.Places.{Place}
-use Rattle.lorel_bind.specs.inside.Views.{place_trees, texts}
-use Rattle.lorel_bind.specs.inside.Texts.{HasMet}
+use Rattle.lorel_ranges.specs.Places.{Place}
+use Rattle.lorel_ranges.specs.Views.{place_trees, texts}
+use Rattle.lorel_bind.specs.inside.Causes.{HasMet}
 use Rattle.lorel_bind.proofs.causes.Unknown.note_all.Given as goal
 
 abbrev pub invariant-places : goal.invariant-places

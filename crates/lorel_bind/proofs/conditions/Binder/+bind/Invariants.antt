@@ -3,7 +3,7 @@ use Rattle.std.specs.List.{AllZip}
 use Rattle.lorel_trees.specs.Trees.{cond_tree, conds_from}
 use Rattle.lorel_bind.specs.Types.{NESTING}
 use Rattle.lorel_bind.specs.Bound.{bound_conds}
-use Rattle.lorel_bind.specs.Bindings.{depth_of_all}
+use Rattle.lorel_ranges.specs.Texts.{depth_of_all}
 use Rattle.lorel_bind.specs.inside.Binders.{BindsCond}
 use Rattle.lorel_bind.proofs.conditions.Binder.+bind.Given as goal
 

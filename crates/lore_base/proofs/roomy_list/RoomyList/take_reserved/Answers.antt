@@ -1,5 +1,0 @@
-use Rattle.std.proofs.Common.{ap, arith}
-use Rattle.lore_base.proofs.roomy_list.RoomyList.take_reserved.Goals as goal
-
-pub returns-clause-room : goal.returns-clause-room
-returns-clause-room g c = omega (arith, c.requires, ap (λ v. v.room) c.self.view_is, c.in-Ok.ensures.capacity, c.in-Ok.ensures.len, c.args.more.ok.0)

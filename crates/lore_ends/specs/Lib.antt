@@ -1,0 +1,2 @@
+pub mod MemoryEnds
+pub mod Outcomes

@@ -1,0 +1,4 @@
+pub mod ListLaws
+pub mod PutLaws
+pub mod MemberLaws
+pub mod SetLaws

@@ -1,0 +1,5 @@
+pub mod Bytes
+pub mod inside
+pub mod Lists
+pub mod Causes
+pub mod Pieces

@@ -1,5 +1,0 @@
-use Rattle.lorel_bind.proofs.FuseLaws.{has_one_fused}
-use Rattle.lorel_bind.proofs.laws.one_list_of_fused_ranges.Goals as goal
-
-pub returns : goal.returns
-returns c = has_one_fused

@@ -1,5 +1,0 @@
-use Rattle.lorel_bind.proofs.GatherLaws.{has_one_plain}
-use Rattle.lorel_bind.proofs.laws.one_list_of_plain_ranges.Goals as goal
-
-pub returns : goal.returns
-returns c = has_one_plain

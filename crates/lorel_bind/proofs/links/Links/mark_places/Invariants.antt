@@ -1,8 +1,0 @@
-use Rattle.std.proofs.Common.{take}
-use Rattle.std.specs.List.{Contains}
-use Rattle.lorel_bind.specs.inside.Views.{place_trees}
-use Rattle.lorel_bind.specs.inside.Links.{AreMarked}
-use Rattle.lorel_bind.proofs.links.Links.mark_places.Given as goal
-
-abbrev pub invariant-places : goal.invariant-places
-invariant-places l = AreMarked l.fn.self l.self (Contains (take l.place-index (place_trees l.places)))

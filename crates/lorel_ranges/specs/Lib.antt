@@ -1,0 +1,11 @@
+pub mod Types
+pub mod Places
+pub mod Conditions
+pub mod Texts
+pub mod Ranges
+pub mod Laws
+pub mod Views
+pub mod Scopes
+pub mod Readings
+pub mod SelectRanges
+pub mod inside
