@@ -154,6 +154,10 @@ def cases():
            b"ok objects 60002 edges 60001 nodes 3\n")
     yield ("as many objects as there may be, again and again",
            [braces("A", (f"a {i}" for i in range(many)))] * 3, 0, f"ok objects {many + 1} edges {many} nodes 2\n".encode() * 3)
+    values = [i * 40_503 % 65_536 for i in range(many)]
+    yield ("as many numbers and texts in no order, thirty times",
+           [braces("A", (f"a {value}" if i % 2 else f'a "{value}"' for i, value in enumerate(values)))] * 30, 0,
+           f"ok objects {many + 1} edges {many} nodes 2\n".encode() * 30)
     yield ("a select of a hundred thousand items", [b"load A := 1; select ", b"A, " * 99_999, b"A;"], 1,
            b"ok objects 1 edges 0 nodes 1\nrefused 10 TooManyRanges\n")
     pairs = "".join(f"&{i} 0 | &{j} 0\n" for i in range(2, 318) for j in range(2, 318))
@@ -210,6 +214,11 @@ def cases():
            f"ok objects 2050 edges 4098 nodes 2051\n{'.n' * 129_024}\nrows 1\n".encode())
     yield ("millions of choices and one word", [braces("N", ["a 0"] * 3_000), b"select path-of(P) from N.a@P X, N.a Y;"], 0,
            b"ok objects 3001 edges 3000 nodes 2\n.a\nrows 1\n")
+    deep = 32_000
+    state = f"ok objects {2 * deep + 2} edges {2 * deep + 1} nodes 4\n".encode()
+    yield ("a path over many objects, two hundred times",
+           [f"load D := {{ r {{ {', '.join(['m { x 0 }'] * deep)} }} }}; set plan top;".encode(), b"select D.r.m.x.y;" * 200], 0,
+           state * 2 + b"rows 0\n" * 200)
     leaves = ", ".join(["c { v 1 }"] * 10_000)
     yield ("words to ten thousand ends, which come first",
            [f"load G := {{ p &1 {{ h &3 {{ {leaves} }} }}, p &2 {{ h &3 }} }};".encode(), b"set plan bottom;",
