@@ -70,6 +70,19 @@ def dump_text(labels, names, children, paths):
     yield b"end\n"
 
 
+def long_texts(names, each):
+    """Loads of so many names (at most ten) with so many long texts each, and the dump of them."""
+    text = "street " * 500
+    roots = [(each + 1) * i + 1 for i in range(names)]
+    loads = [braces(f"T{i}", (f't "{text}{j}"' for j in range(each))) for i in range(names)]
+    lines = [f"oem 1\nnext {(each + 1) * names + 1}\nnodes 4096\nplan auto\nlabel t\n"]
+    lines += [f"name T{i} &{root}\n" for i, root in enumerate(roots)]
+    for root in roots:
+        lines += [f"object &{root} {{}}\n", *(f'object &{root + 1 + j} "{text}{j}"\n' for j in range(each))]
+    lines += [f"edge &{root} t &{root + 1 + j}\n" for root in roots for j in range(each)]
+    return loads, "".join([*lines, "end\n"]).encode()
+
+
 def doubling(count):
     """A load of a graph with two to the power of the count target sets, for a count of at least 2, and more."""
     body = (f"x &{i} {{ a &{i + 1}, b &{i + 1} }}" if i < count else f"x &{i} 0" for i in range(2, count + 1))
@@ -251,6 +264,18 @@ def cases():
     text = "street " * 500
     yield ("a statement of many megabytes", [braces("T", (f't "{text}{i}"' for i in range(2_000)))], 0,
            b"ok objects 2001 edges 2000 nodes 2\n")
+    loads, dump = long_texts(10, 2_000)
+    yield ("a dump longer than a statement may be", [*loads, b"dump;"], 0,
+           "".join(f"ok objects {2_001 * i} edges {2_000 * i} nodes {2 * i}\n" for i in range(1, 11)).encode() + dump)
+    far = (b"oem 1\nnext 4294967296\nnodes 4096\nplan auto\nlabel a\nname A &1\nobject &1 {}\nobject &2 {}\nobject &4294967294 {}\n"
+           b"object &4294967295 5\nedge &1 a &2\nedge &1 a &4294967294\nedge &4294967294 a &4294967295\nend\n")
+    yield ("numbers far apart", [b"restore ", far, b"; update A.a.a := 6; dump;"], 0,
+           b"ok objects 4 edges 3 nodes 3\n" * 2 + far.replace(b" 5\n", b" 6\n"))
+    apart = ["a { v 1, w 2 }", *["m 0"] * 100, "a { v 3, w 4 }"]
+    yield ("changes of objects far apart",
+           [braces("A", apart), b"update A.a.v := 5; update X.y += Y from A.a X, A.a.w Y; select A.a.v, A.a.y; select X.y from A.a X where X.v = 5;"], 0,
+           b"ok objects 107 edges 106 nodes 5\n" * 2 + b"ok objects 107 edges 110 nodes 5\n"
+           + b"&3 5 | &4 2\n&3 5 | &107 4\n&106 5 | &4 2\n&106 5 | &107 4\nrows 4\n&4 2\n&107 4\nrows 2\n")
     yield "a statement as long as one may be", [*repeated(b" ", CHUNK), b";"], 1, b"refused 5 Syntax\n"
     yield "a statement of one byte more", [*repeated(b" ", CHUNK + 1), b";"], 5, b""
     yield "a rest as long as one may be", repeated(b" ", CHUNK), 0, b""

@@ -6,11 +6,11 @@ import sys
 from typing import NamedTuple
 
 LIMIT = 60
-RUNS = 3
+RUNS = 7
 
 
 class Cost(NamedTuple):
-    """Milliseconds of processor time, of the system's work for it too; how far they differ from run to run; the peak in MiB."""
+    """Of some runs: the least processor time, of the system's work too, in milliseconds; how much more the middle one took; the peak in MiB."""
 
     time: float
     spread: float
@@ -41,7 +41,7 @@ def head(path):
 
 
 def measured(start, runs=RUNS):
-    """The median of so many runs, or None; `start` makes what a run needs and gives what `once` takes."""
+    """The cost of so many runs, or None; `start` makes what a run needs and gives what `once` takes."""
     found = []
     for _ in range(runs):
         one = once(*start())
@@ -49,7 +49,7 @@ def measured(start, runs=RUNS):
             return None
         found.append(one)
     times, peaks = (sorted(numbers) for numbers in zip(*found))
-    return Cost(times[runs // 2], times[-1] - times[0], peaks[runs // 2])
+    return Cost(times[0], times[runs // 2] - times[0], peaks[runs // 2])
 
 
 def apart(work, *words):

@@ -13,13 +13,14 @@ ENOUGH = 50
 STOPPED = f"> {LIMIT} s"
 LEGEND = """
 A cell has the milliseconds of the whole process, from its start to its end; those of the question alone; and the peak memory in MiB.
-Milliseconds are processor time, the system's work for the process included, and each number is the median of {runs} runs. To tell the
-question alone it is said 1, 10 or 100 times in one process; from that is taken what a process without any question costs, and the rest
-is divided. Without any question lore and the Python program have read their text and built what they look into, and jq and gojq have
-parsed theirs; an index that jq makes is a part of the question. sqlite3 has only started then: its data are in a file with indexes, which
-`load` made, so there is no load in its whole process. `<` stands where less is left than runs differ by, and `≤` where the peak isn't
-above that of the process which starts the others. For "what is there" lore shows its guide, two steps of it and a sample, and sqlite3
-its schema. Except there, and where a row only loads or dumps, the answers were compared and are alike.
+Milliseconds are processor time, the system's work for the process included, and each number is that of the least of {runs} runs, the one
+that other work on the machine disturbed least. To tell the question alone it is said 1, 10 or 100 times in one process; from that is
+taken what a process without any question costs, and the rest is divided. Without any question lore and the Python program have read
+their text and built what they look into, and jq and gojq have parsed theirs; an index that jq makes is a part of the question. sqlite3
+has only started then: its data are in a file with indexes, which `load` made, so there is no load in its whole process. `<` stands where
+less is left than the runs in the middle took more, and `≤` where the peak isn't above that of the process which starts the others. For
+"what is there" lore shows its guide, two steps of it and a sample, and sqlite3 its schema. Except there, and where a row only loads or
+dumps, the answers were compared and are alike.
 """
 
 

@@ -7,14 +7,36 @@ ghost use Rattle.dataguide.specs.ReadCosts.{reads_of};
 ghost use Rattle.dataguide.specs.inside.Arcs.{AreArcs, AscendAsArcs, arc_cmp, leaving, arcs_of};
 
 use index_traits::Adjacent;
+use key_sort::{Key, set_by_keys};
 use lore_base::{Edge, EdgeBuf, Label, Listing, NoMemory, Oid, Steps};
 use oem_set::OidSet;
 use std::alloc::Global;
 use std::sync::ledger::Ledger;
-use strand_sort::sorted_set;
 
 // A label and the child that an edge with it leads to.
 pub(crate) type ArcBuf = Listing<(Label, Oid)>;
+
+// The key of an arc's child.
+struct ByChild;
+
+impl Key<(Label, Oid)> for ByChild {
+    ghost key_of = { λ arc. arc.1.0 };
+
+    fn key(arc: &(Label, Oid)) -> u32 {
+        arc.1.0
+    }
+}
+
+// The key of an arc's label.
+struct ByLabel;
+
+impl Key<(Label, Oid)> for ByLabel {
+    ghost key_of = { λ arc. arc.0.0 };
+
+    fn key(arc: &(Label, Oid)) -> u32 {
+        arc.0.0
+    }
+}
 
 // Memory in which the edges of one set after another are read.
 #[derive(Drop)]
@@ -98,7 +120,8 @@ impl Reader {
 }
 
 // Puts the arcs into order, each once. They mostly are: where the set has one object, or its objects
-// have edges with one label. Else they are strands, mostly one for each label.
+// have edges with one label. Else they come object by object, and the numbers of labels and of
+// children are mostly close together: so they are put by these keys.
 fn put_in_order(arcs: &mut ArcBuf) -> Result<(), NoMemory>
     ensures ascend { OnOk result (AscendAsArcs arcs.new) }
     ensures members { OnOk result
@@ -107,7 +130,9 @@ fn put_in_order(arcs: &mut ArcBuf) -> Result<(), NoMemory>
     if ascend(arcs.as_slice()) {
         return Ok(());
     }
-    let sorted = sorted_set(arcs.allocator(), arcs.as_slice())?;
+    let alloc = arcs.allocator();
+    let read = std::mem::replace(arcs, ArcBuf::new(alloc));
+    let sorted = set_by_keys::<(Label, Oid), ByChild, ByLabel>(alloc, read)?;
     *arcs = sorted;
     Ok(())
 }

@@ -3,7 +3,7 @@ use Rattle.std.proofs.Common.{◌≡◌, ℕ, true, List, [], ◌∷◌, ◌++�
 use Rattle.std.proofs.lemmas.List.Elements.{All-cons, All-tail}
 use Rattle.dump_laws.specs.Types.{Kind}
 use Rattle.dump_laws.specs.Types.kinds as k
-use Rattle.dump_laws.specs.Laws.{AreTexts, printed_dump, IsReadAs, DumpsReadBack, DumpsAreSound}
+use Rattle.dump_laws.specs.Laws.{AreTexts, IsReadAs, DumpsReadBack, DumpsAreSound}
 use Rattle.lore_base.specs.Databases.{Database}
 use Rattle.lorel_lex.specs.Gaps.{is_blank}
 use Rattle.lorel_lex.specs.Tokens.{HasForm}
@@ -15,7 +15,7 @@ use Rattle.lorel_trees.specs.Tokens.{HasTokens}
 use Rattle.lorel_trees.proofs.FormLaws.{formed_all}
 use Rattle.lorel_ast.specs.Printing.{print_dump, print_statement}
 use Rattle.lorel_ast.proofs.PrintFormLaws.{statement_printed}
-use Rattle.dump_text.specs.Dumps.{dump_tree}
+use Rattle.dump_text.specs.Dumps.{dump_tree, printed_dump}
 use Rattle.dump_text.specs.Restores.{IsRestorable}
 use Rattle.dump_laws.proofs.FormedLaws.{formed_dump}
 use Rattle.dump_laws.proofs.DerivedLaws.{dump_derived}

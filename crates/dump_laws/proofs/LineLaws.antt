@@ -6,7 +6,6 @@ use Rattle.std.proofs.lemmas.Bool.{and_from}
 use Rattle.dump_laws.specs.Types.{Oid, Value, Whole, Chars, Complex, Mode, Auto, Top, Bottom, Guided, Kind, DumpTree}
 use Rattle.dump_laws.specs.Types.kinds as k
 use Rattle.dump_laws.specs.Types.signs as s
-use Rattle.dump_laws.specs.Laws.{lines_text}
 use Rattle.lore_base.specs.Names.{is_identifier}
 use Rattle.lore_base.specs.Printed.{printed, label_text}
 use Rattle.lore_base.specs.Quotes.{in_quotes}
@@ -16,7 +15,7 @@ use Rattle.lorel_trees.specs.Repetitions.{spell_each}
 use Rattle.lorel_trees.specs.Literals.{spell_value}
 use Rattle.lorel_trees.specs.Statements.{spell_mode, spell_oid, spell_dump_object, spell_dump_objects}
 use Rattle.lorel_ast.specs.Printing.{label_token, print_label, print_dump_labels, print_dump_name, print_dump_names, print_dump_edge, print_dump_edges, print_dump}
-use Rattle.dump_text.specs.Dumps.{line_of, oid_text, mode_text, label_line, name_line, object_line, edge_line, dump_lines}
+use Rattle.dump_text.specs.Dumps.{line_of, oid_text, mode_text, label_line, name_line, object_line, edge_line, dump_lines, lines_text}
 
 -- a blank byte before written tokens
 pub blank_before : (blank : ℕ) (kinds : List Kind) (bytes : List ℕ) → is_blank blank ≡ true → AreWritten kinds bytes → AreWritten kinds (blank ∷ bytes)

@@ -1,6 +1,5 @@
 -- What `dump` prints for a database is read back as the tree of that database.
 use Rattle.std.specs.Prelude.{◌≡◌, ℕ, List, [], ◌∷◌, ◌++◌, codes, All, ⊤, IsUtf8, IsTrue}
-use Rattle.std.specs.List.{flat_map}
 use Rattle.dump_laws.specs.Types.{Value, Chars, Kind}
 use Rattle.lore_base.specs.Databases.{Database}
 use Rattle.lorel_lex.specs.Gaps.{is_blank}
@@ -11,7 +10,7 @@ use Rattle.lorel_trees.specs.Grammar.{DumpText}
 use Rattle.lorel_trees.specs.Statements.{spell_dump_text, tree_dump_text}
 use Rattle.lorel_trees.specs.Tokens.{HasTokens}
 use Rattle.lorel_trees.specs.Sound.{IsSoundDump}
-use Rattle.dump_text.specs.Dumps.{dump_tree, dump_lines}
+use Rattle.dump_text.specs.Dumps.{dump_tree, printed_dump}
 use Rattle.dump_text.specs.Restores.{IsRestorable}
 
 -- a value is UTF-8 where it is a text
@@ -23,14 +22,6 @@ IsText _ = ⊤
 pub record AreTexts (db : Database) : Type 0 where
   pub labels : All IsUtf8 db.labels
   pub values : All (λ object. IsText object.1) db.graph.objects
-
--- lines as they are printed
-abbrev pub lines_text : List (List ℕ) → List ℕ
-lines_text lines = flat_map (λ line. line ++ codes "\n") lines
-
--- what `dump` prints
-abbrev pub printed_dump : Database → List ℕ
-printed_dump db = lines_text (dump_lines (dump_tree db))
 
 -- the bytes are read as the statement: their tokens are tokens of it
 abbrev pub IsReadAs : List ℕ → StatementTree → Type 0

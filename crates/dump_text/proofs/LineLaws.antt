@@ -1,18 +1,28 @@
--- The lines of a dump as they are put one behind the other.
-use Rattle.std.proofs.Common.{◌≡◌, ℕ, ◌+◌, ◌<◌, List, [], ◌∷◌, ◌++◌, length, map, take, get_or, Contains, Option, Some, sym, ap, ◌∙◌, append_assoc}
+-- The lines of a dump as they are put one behind the other, each with its end.
+use Rattle.std.proofs.Common.{◌≡◌, ℕ, ◌+◌, ◌<◌, List, ◌++◌, length, map, take, get_or, Contains, Option, Some, sym, ap, ◌∙◌, append_assoc}
 use Rattle.std.specs.Prelude.{slice_get}
 use Rattle.std.specs.Option.{unwrap_or}
 use Rattle.std.proofs.lemmas.Option.{unwrap_or-slice_get}
-use Rattle.std.proofs.lemmas.List.{map_more, get_or-map, get_or_default}
+use Rattle.std.proofs.lemmas.Grind.{flat_map-append}
+use Rattle.std.proofs.lemmas.List.{map_more, flat_map_more, get_or-map, get_or_default}
 use Rattle.dump_text.specs.Types.{Oid, Value}
+use Rattle.dump_text.specs.Dumps.{ended, lines_text}
+
+-- lines behind those before them, and the rest of the text
+pub goes_on : (before after whole : List ℕ) (part rest : List (List ℕ)) → after ≡ before ++ lines_text part
+    → whole ≡ after ++ lines_text rest → whole ≡ before ++ lines_text (part ++ rest)
+goes_on before after whole part rest this others =
+    others ∙ ap (λ l. l ++ lines_text rest) this ∙ append_assoc before (lines_text part) (lines_text rest)
+    ∙ ap (λ l. before ++ l) (sym (flat_map-append ended part rest))
 
 -- one line more
-pub lines_more : {X : Type 0} (f : X → List ℕ) (old before after : List (List ℕ)) (xs : List X) (i : ℕ) (x : X) (line : List ℕ)
-    → i < length xs → line ≡ f (get_or xs i x) → after ≡ before ++ line ∷ [] → before ≡ old ++ map f (take i xs)
-    → after ≡ old ++ map f (take (i + 1) xs)
+pub lines_more : {X : Type 0} (f : X → List ℕ) (old before after : List ℕ) (xs : List X) (i : ℕ) (x : X) (line : List ℕ)
+    → i < length xs → line ≡ f (get_or xs i x) → after ≡ before ++ ended line → before ≡ old ++ lines_text (map f (take i xs))
+    → after ≡ old ++ lines_text (map f (take (i + 1) xs))
 lines_more f old before after xs i x line low is step so_far =
-    step ∙ ap (λ l. l ++ line ∷ []) so_far ∙ append_assoc old (map f (take i xs)) (line ∷ [])
-    ∙ ap (λ y. old ++ (map f (take i xs) ++ y ∷ [])) is ∙ ap (λ l. old ++ l) (sym (map_more f xs i x low))
+    step ∙ ap (λ y. before ++ ended y) is ∙ ap (λ l. l ++ ended (f (get_or xs i x))) so_far
+    ∙ flat_map_more ended old (map f (take i xs)) (f (get_or xs i x))
+    ∙ ap (λ l. old ++ lines_text l) (sym (map_more f xs i x low))
 
 -- a name and its object stand where they do in two lists
 pub name_here : (names : List (List ℕ × Oid)) (texts : List (List ℕ)) (oids : List Oid) (i : ℕ) (text other : List ℕ) (oid none : Oid)
@@ -46,16 +56,3 @@ object_live objects oids i oid none value same low here =
     let at = get_or objects i (oid, value) in
     let is : (oid, at.1) ≡ at = λ k. (number k, at.1) in
     (i, low, get_or_default objects i (oid, at.1) (oid, value) low ∙ sym is)
-
--- all lines, as they come part by part
-pub all_lines : (none head labels names objects edges one two three four five six : List (List ℕ)) (last : List ℕ)
-    → none ≡ [] → one ≡ none ++ head → two ≡ one ++ labels → three ≡ two ++ names → four ≡ three ++ objects
-    → five ≡ four ++ edges → six ≡ five ++ last ∷ []
-    → six ≡ head ++ (labels ++ (names ++ (objects ++ (edges ++ last ∷ []))))
-all_lines none head labels names objects edges one two three four five six last s0 s1 s2 s3 s4 s5 s6 =
-    s6 ∙ ap (λ l. l ++ last ∷ []) (s5 ∙ ap (λ l. l ++ edges) (s4 ∙ ap (λ l. l ++ objects)
-    (s3 ∙ ap (λ l. l ++ names) (s2 ∙ ap (λ l. l ++ labels) (s1 ∙ ap (λ l. l ++ head) s0)))))
-    ∙ append_assoc (((head ++ labels) ++ names) ++ objects) edges (last ∷ [])
-    ∙ append_assoc ((head ++ labels) ++ names) objects (edges ++ last ∷ [])
-    ∙ append_assoc (head ++ labels) names (objects ++ (edges ++ last ∷ []))
-    ∙ append_assoc head labels (names ++ (objects ++ (edges ++ last ∷ [])))

@@ -1,6 +1,7 @@
--- The dump of a database: the tree that stands for it, and the lines of a tree, without line ends.
+-- The dump of a database: the tree that stands for it, the lines of a tree, without line ends, and what is printed.
 use Rattle.std.specs.Prelude.{ℕ, ℤ, pos, List, [], ◌∷◌, ◌++◌, map, slice_get, codes}
 use Rattle.std.specs.Option.{unwrap_or}
+use Rattle.std.specs.List.{flat_map}
 use Rattle.std.specs.Fmt.{decimal, signed_decimal}
 use Rattle.dump_text.specs.Types.{Oid, Label, Edge, Value, Mode, Auto, Top, Bottom, Guided, DumpTree}
 use Rattle.lore_base.specs.Databases.{Database}
@@ -68,3 +69,17 @@ dump_lines tree =
     head_lines tree.version tree.next tree.nodes tree.mode
     ++ (map label_line tree.labels ++ (map name_line tree.names ++ (map object_line tree.objects
     ++ (map edge_line tree.edges ++ codes "end" ∷ []))))
+
+-- What is printed.
+
+-- a line with its end
+abbrev pub ended : List ℕ → List ℕ
+ended line = line ++ codes "\n"
+
+-- lines as they are printed
+abbrev pub lines_text : List (List ℕ) → List ℕ
+lines_text lines = flat_map ended lines
+
+-- what `dump` prints
+abbrev pub printed_dump : Database → List ℕ
+printed_dump db = lines_text (dump_lines (dump_tree db))

@@ -5,6 +5,7 @@
 #![tactic(auto)]
 
 pub use faults::DumpFault;
+pub use printed::PrintedDump;
 pub use reading::read_dump;
 pub use restored::Restored;
 pub use writing::dump;
@@ -12,8 +13,8 @@ pub use writing::dump;
 mod edges;
 mod faults;
 pub mod laws;
-mod line_buffer;
 mod lines;
+mod printed;
 mod reach;
 mod reading;
 mod restored;

@@ -1,6 +1,7 @@
 ghost use Rattle.std.specs.Prelude.{◌≡◌};
 ghost use Rattle.link_index.specs.inside.LinkEdges.{edge_at, link_at};
 
+use key_sort::Key;
 use lore_base::{Edge, Label, Oid};
 
 // An edge in the order of child, label and parent.
@@ -30,5 +31,27 @@ impl Link {
             label: self.label,
             child: self.child,
         }
+    }
+}
+
+// The key of a link's child.
+pub(crate) struct ByChild;
+
+impl Key<Link> for ByChild {
+    ghost key_of = { λ link. link.child.0 };
+
+    fn key(link: &Link) -> u32 {
+        link.child.0
+    }
+}
+
+// The key of its label.
+pub(crate) struct ByLabel;
+
+impl Key<Link> for ByLabel {
+    ghost key_of = { λ link. link.label.0 };
+
+    fn key(link: &Link) -> u32 {
+        link.label.0
     }
 }

@@ -2,19 +2,19 @@ ghost use Rattle.std.specs.Prelude.{◌≡◌, ◌++◌, map, IfOk, OnOk, OnErr}
 ghost use Rattle.lore_base.specs.Lists.{Extends};
 ghost use Rattle.link_index.specs.inside.LinkEdges.{AreSortedLinks, edges_of, link_at};
 
-use crate::link::Link;
+use crate::link::{ByChild, ByLabel, Link};
+use key_sort::set_by_keys;
 use lore_base::{Edge, EdgeBuf, Listing, NoMemory};
 use std::alloc::Global;
-use strand_sort::sorted_set;
 
-// The links of these edges in ascending order, each once. Those of a load are a few strands, about
-// one for each level of nesting.
+// The links of these edges in ascending order, each once. Edges come by parent and label, and the
+// numbers of labels and of objects are mostly close together: so keys put links in order.
 pub(crate) fn sorted_links(edges: &EdgeBuf) -> Result<Vec<Link>, NoMemory>
     ensures { IfOk result (λ links. AreSortedLinks edges.now links.items) }
 {
     let alloc = edges.allocator();
     let links = links_of(alloc, edges.as_slice())?;
-    let sorted = sorted_set(alloc, links.as_slice())?;
+    let sorted = set_by_keys::<Link, ByLabel, ByChild>(alloc, links)?;
     Ok(sorted.into_items())
 }
 

@@ -17,7 +17,7 @@ use Rattle.oem_changes.proofs.ValidLaws.{valid_after}
 use Rattle.guide_laws.proofs.TargetSetLaws.{target_sets_exist, more_sets_are_told}
 use Rattle.guide_query.proofs.SomeLines.{lines_exist}
 use Rattle.guide_query.proofs.SomePathLines.{browsing_exists, sample_exists}
-use Rattle.dump_text.specs.Dumps.{dump_tree, dump_lines}
+use Rattle.dump_text.specs.Dumps.{printed_dump}
 use Rattle.lore_store.proofs.NewLaws.{new_valid}
 use Rattle.lore_store.proofs.ModeLaws.{valid_in_mode}
 use Rattle.lore_store.proofs.LimitLaws.{valid_limited}
@@ -35,7 +35,7 @@ use Rattle.oem_text.specs.Literals.{HasDouble, HasUndefined}
 use Rattle.answers.specs.Types.{ROWS, PATH_LABELS}
 use Rattle.answers.specs.Answers.{row_labels, IsTooMuch}
 use Rattle.lore_db.specs.Types.{Oid, Cell, Mode, Changes, Refusal, LABELS, NAMES, OBJECTS, EDGES, NEXT_NUMBER, Reply, Changed}
-use Rattle.lore_db.specs.Types.{Rows, Lines, Refused}
+use Rattle.lore_db.specs.Types.{Rows, Lines, Dump, Refused}
 use Rattle.lore_db.specs.Types.refusals
 use Rattle.lore_db.specs.Forms.{reads, binds, makes, path_select, MakesChanges, IsBetween, AreGenerable}
 use Rattle.lore_db.specs.Effects.{object_cells, AreRowsOf, effects}
@@ -377,7 +377,7 @@ some_performed db valid (sample start labels count) formed clear =
     let size = between_not 1 100000 count within.0 in
     let lines = sample_exists db.graph.names db.graph.objects db.graph.edges db.labels start labels size.0 valid.well_formed.ordered.names_ascend in
     (Lines lines.0, db, (refl, (size.0, size.1, lines.0, refl, lines.1)), valid)
-some_performed db valid dump formed clear = (Lines (dump_lines (dump_tree db)), db, (refl, refl), valid)
+some_performed db valid dump formed clear = (Dump (printed_dump db), db, (refl, refl), valid)
 some_performed db valid (restore text) formed clear =
     let dumped = clear_right (Cause db (restore text)) (fit_order ++ sizes) late clear in
     some_restored text dumped.1.1.0

@@ -1,6 +1,6 @@
 -- What one statement answers, and the database that it leaves.
 use Rattle.std.specs.Prelude.{◌≡◌, ◌≢◌, ℕ, ℤ, pos, ◌⊎◌, List, [], ◌∷◌, length, MatchOption}
-use Rattle.lore_db.specs.Types.{Oid, Mode, Refusal, Cell, Reply, Changed, Rows, Lines, Refused}
+use Rattle.lore_db.specs.Types.{Oid, Mode, Refusal, Cell, Reply, Changed, Rows, Lines, Dump, Refused}
 use Rattle.lore_db.specs.Types.refusals
 use Rattle.lore_base.specs.Databases.{Database, IsValid, new_database}
 use Rattle.lore_base.specs.TargetSets.{AreTargetSets}
@@ -15,7 +15,7 @@ use Rattle.lorel_bind.specs.Answers.{IsAnswer}
 use Rattle.lorel_bind.specs.Refusals as binding
 use Rattle.answers.specs.Answers.{IsTooMuch}
 use Rattle.oem_text.specs.Literals.{HasDouble, HasUndefined}
-use Rattle.dump_text.specs.Dumps.{dump_tree, dump_lines}
+use Rattle.dump_text.specs.Dumps.{printed_dump}
 use Rattle.dump_text.specs.Restores.{IsDumpOf}
 use Rattle.guide_query.specs.GuideLines.{AreGuideLines}
 use Rattle.guide_query.specs.PathLines.{AreBrowseLines, AreSampleLines}
@@ -157,9 +157,9 @@ Limits before nodes reply after =
 abbrev pub ChoosesBy : Database → Mode → Reply → Database → Type 0
 ChoosesBy before mode reply after = (after ≡ record before { mode = mode }) × Counts after reply
 
--- the lines of the dump, and nothing changes
+-- what a dump prints, and nothing changes
 abbrev pub Dumps : Database → Reply → Database → Type 0
-Dumps before reply after = (after ≡ before) × (reply ≡ Lines (dump_lines (dump_tree before)))
+Dumps before reply after = (after ≡ before) × (reply ≡ Dump (printed_dump before))
 
 -- the database becomes that of which the text is the dump, a valid one
 abbrev pub Restores : DumpTree → Reply → Database → Type 0

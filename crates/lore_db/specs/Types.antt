@@ -18,4 +18,4 @@ pub use Rattle.lorel_bind.specs.declared.plans.PlanKind.TheVariants as plan_kind
 pub use Rattle.lore_base.specs.declared.limits.TheConstants.{LABELS, NAMES, OBJECTS, EDGES, NEXT_NUMBER, NODES}
 pub use Rattle.lore_base.specs.declared.limits.TheConstants.{LEAVES, RANGES}
 pub use Rattle.lore_db.specs.declared.replies.Reply.{Reply}
-pub use Rattle.lore_db.specs.declared.replies.Reply.TheVariants.{Changed, Rows, PlanShown, Lines, Refused}
+pub use Rattle.lore_db.specs.declared.replies.Reply.TheVariants.{Changed, Rows, PlanShown, Lines, Dump, Refused}

@@ -18,7 +18,7 @@ use std::alloc::Global;
 use std::sync::ledger::Ledger;
 
 impl Db {
-    /// The lines of the dump. A step is counted for each object and one for each edge.
+    /// The dump as it is printed. A step is counted for each object and one for each edge.
     pub(crate) fn dump<L: Ledger>(&self, alloc: Global, steps: &mut Steps<L>) -> Result<Reply, Stop>
         ensures ok { IfOk result (λ reply. Dumps self.now reply self.now) }
         ensures unrefused { IfErr result (λ stop. told stop ≡ None) }
@@ -27,7 +27,7 @@ impl Db {
         let graph = store.graph();
         let edges = all_edges(alloc, graph, steps)?;
         let (labels, nodes, mode) = (store.labels(), store.limit(), store.mode());
-        Ok(Reply::Lines(dump(alloc, graph, &edges, labels, nodes, mode)?))
+        Ok(Reply::Dump(dump(alloc, graph, &edges, labels, nodes, mode)?))
     }
 
     /// Fills the new database with what a dump text stands for. Refused are another database than

@@ -1,4 +1,5 @@
 use answers::Answer;
+use dump_text::PrintedDump;
 use lore_base::{Refusal, TextList};
 use lorel_bind::PlanKind;
 
@@ -24,6 +25,8 @@ pub enum Reply {
     },
     /// Lines of text, without line ends.
     Lines(TextList),
+    /// The lines of a dump, each with its end.
+    Dump(PrintedDump),
     /// The statement was refused and changed nothing.
     Refused(Refusal),
 }

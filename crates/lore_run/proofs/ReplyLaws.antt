@@ -73,7 +73,7 @@ performs-some before (sample start labels count) reply after (kept, (most, is, l
     listed-some after reply lines same (last-some _ lines _ shown.are)
 performs-some before (set_plan mode) reply after (led, counted) = counts-some after reply counted
 performs-some before dump reply after (kept, same) =
-    listed-some after reply _ same (omega arith)
+    same-some after reply _ same (omega arith)
 performs-some before (restore text) reply after (dumped, valid, counted) = counts-some after reply counted
 performs-some before (generate seed count) reply after (led, counted) = counts-some after reply counted
 

@@ -9,7 +9,7 @@ use Rattle.lore_base.specs.Chunks.{joined_chunks}
 use Rattle.lore_run.specs.Types.{SCRIPT_BYTES}
 use Rattle.lore_base.specs.Databases.{Database}
 use Rattle.lorel_lex.specs.Scan.{IsChunk}
-use Rattle.lore_run.specs.Types.{Reply, Changed, Rows, PlanShown, Lines, Refused}
+use Rattle.lore_run.specs.Types.{Reply, Changed, Rows, PlanShown, Lines, Dump, Refused}
 use Rattle.lore_run.specs.Replies.{rendered}
 use Rattle.lore_run.specs.Runs.{ScriptPart, chunk, Runs, refusals}
 use Rattle.lore_run.specs.Endings.{Outside, outside}
@@ -143,6 +143,7 @@ refusals_le (Changed objects edges nodes) = omega arith
 refusals_le (Rows oids) = omega arith
 refusals_le (PlanShown kind candidates found) = omega arith
 refusals_le (Lines lines) = omega arith
+refusals_le (Dump text) = omega arith
 refusals_le (Refused refusal) = omega arith
 
 -- a run at its beginning, and behind one more piece

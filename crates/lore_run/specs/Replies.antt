@@ -1,7 +1,7 @@
 -- What each reply prints.
 use Rattle.std.specs.Prelude.{ℕ, List, [], ◌∷◌, ◌++◌, length, codes, decimal, Option, Some, None, unwrap_or, slice_get}
 use Rattle.std.specs.List.{flat_map, join_by}
-use Rattle.lore_run.specs.Types.{Oid, Label, Cell, Value, PlanKind, Reply, Changed, Rows, PlanShown, Lines, Refused}
+use Rattle.lore_run.specs.Types.{Oid, Label, Cell, Value, PlanKind, Reply, Changed, Rows, PlanShown, Lines, Dump, Refused}
 use Rattle.lore_run.specs.Types.plan_kinds
 use Rattle.lore_run.specs.Types.cells
 use Rattle.lore_base.specs.Printed.{label_text}
@@ -45,6 +45,7 @@ rendered labels objects (Changed live edges nodes) =
 rendered labels objects (PlanShown kind candidates found) =
     codes "plan " ++ kind_text kind ++ given_text candidates ++ given_text found ++ codes "\n"
 rendered labels objects (Lines lines) = flat_map (λ line. line ++ codes "\n") lines
+rendered labels objects (Dump text) = text
 rendered labels objects (Rows rows) =
     flat_map (row_line labels objects) rows ++ codes "rows " ++ decimal (length rows) ++ codes "\n"
 rendered labels objects (Refused refusal) =

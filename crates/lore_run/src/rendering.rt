@@ -73,6 +73,7 @@ fn put_reply<O: Out>(reply: &Reply, db: &Db, out: &mut O) -> Result<(), O::Fault
             found,
         } => put_plan(*kind, *candidates, *found, out),
         Reply::Lines(lines) => put_lines(lines.as_slice(), out),
+        Reply::Dump(dump) => out.put(dump.as_bytes()),
         Reply::Refused(refusal) => put_refused(*refusal, out),
     }
 }

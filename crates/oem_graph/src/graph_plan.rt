@@ -1,17 +1,20 @@
 ghost use Rattle.std.specs.Prelude.{◌≡◌, length};
 
 use crate::planned_items::PlannedItems;
+use crate::run_starts::RunStarts;
 use lore_base::{Edge, Names, Oid, Value};
 use std::marker::Model;
 
 /// What becomes of a graph with a change, worked out by `Graph::prepare` and put in place by
 /// `Graph::commit`: the whole table of names, the objects and the edges that come behind those that
-/// are kept or stand in their place, and the next number.
+/// are kept or stand in their place, and the next number. Beside them are the places where the
+/// edges of each object begin then, unless the edges stay as they are.
 #[derive(Drop)]
 pub struct GraphPlan {
     pub(crate) names: Names,
     pub(crate) objects: PlannedItems<(Oid, Value)>,
     pub(crate) edges: PlannedItems<Edge>,
+    pub(crate) starts: Option<RunStarts>,
     pub(crate) next: u64,
 }
 

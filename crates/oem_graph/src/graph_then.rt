@@ -1,6 +1,7 @@
 use crate::edge_runs::runs_then;
 use crate::object_lists::{value_in, value_in_parts};
 use crate::planned_items::PlannedItems;
+use crate::run_starts::RunStarts;
 use index_traits::{Adjacent, ValueOf};
 use lore_base::{Edge, EdgeBuf, NoMemory, Oid, Steps, Value};
 use std::marker::Model;
@@ -14,6 +15,7 @@ pub struct GraphThen<'a> {
     pub(crate) kept_edges: &'a [Edge],
     pub(crate) objects: &'a PlannedItems<(Oid, Value)>,
     pub(crate) edges: &'a PlannedItems<Edge>,
+    pub(crate) starts: &'a RunStarts,
 }
 
 impl<'a> Model for GraphThen<'a> {
@@ -42,7 +44,7 @@ impl<'a> Adjacent for GraphThen<'a> {
         buf: &mut EdgeBuf,
         steps: &mut Steps<L>,
     ) -> Result<(), NoMemory> {
-        let (kept, more) = runs_then(self.kept_edges, self.edges, oid);
+        let (kept, more) = runs_then(self.starts, self.kept_edges, self.edges, oid);
         buf.append(kept)?;
         buf.append(more)?;
         steps.tick(1 + kept.len() as u64);

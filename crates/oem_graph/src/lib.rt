@@ -2,8 +2,9 @@
 //! objects by their numbers, edges by parent, label and child.
 //!
 //! A reader finds an object where it stands while numbers have no gap, or by binary search, and the
-//! edges that leave it by binary search. A change comes in three calls: `prepare` works out what
-//! comes, `reserve` takes the memory for it, and `commit` puts it in place and cannot fail.
+//! edges that leave it by a table of the places where they begin, or by binary search too. A change
+//! comes in three calls: `prepare` works out what comes, `reserve` takes the memory for it, and
+//! `commit` puts it in place and cannot fail.
 #![tactic(auto)]
 
 pub use edge_changes::EdgeChanges;
@@ -23,4 +24,5 @@ mod graph_then;
 mod object_lists;
 mod objects_then;
 mod planned_items;
+mod run_starts;
 mod sorted_graph;

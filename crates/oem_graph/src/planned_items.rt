@@ -25,14 +25,17 @@ pub(crate) fn make_room<T: Drop>(
     }
 }
 
-// Puts in place what is planned. Takes no memory.
+// Puts in place what is planned. Takes no memory. Where nothing is kept, what comes behind it is
+// taken as a whole list, and no item is moved.
 pub(crate) fn put_in_place<T: Drop>(kept: &mut RoomyList<T>, plan: PlannedItems<T>)
     requires { count_behind (planned plan) ≤ kept.old.room }
     ensures { kept.new.items ≡ list_then kept.old.items (planned plan) }
 {
     match plan {
-        PlannedItems::Behind(more) => kept.take_reserved(more),
-        PlannedItems::Whole(items) => *kept = RoomyList::from_items(items),
+        PlannedItems::Behind(more) if kept.len() > 0 => kept.take_reserved(more),
+        PlannedItems::Behind(items) | PlannedItems::Whole(items) => {
+            *kept = RoomyList::from_items(items);
+        }
     }
 }
 

@@ -9,7 +9,6 @@ ghost use Rattle.oem_graph.specs.Plans.{graph_then, HasRoom, AreEdgeChanges};
 
 use crate::edge_changes::{EdgeChanges, planned_changes};
 use crate::edge_overlay::Overlay;
-use crate::edge_runs::run_of;
 use crate::edge_sets::{copied_edges, fresh_edges, lost_edges};
 use crate::edges_then::planned_edges;
 use crate::graph_plan::GraphPlan;
@@ -17,6 +16,7 @@ use crate::graph_then::GraphThen;
 use crate::object_lists::{copied_objects, value_in};
 use crate::objects_then::planned_objects;
 use crate::planned_items::{count_then, make_room, put_in_place};
+use crate::run_starts::{RunStarts, starts_then};
 use index_traits::{Adjacent, ValueOf};
 use lore_base::{
     Changes, Edge, EdgeBuf, Names, NoMemory, OemText, Oid, OidBuf, RoomyList, Steps, TryCopy, Value,
@@ -32,6 +32,7 @@ pub struct Graph {
     names: Names,
     objects: RoomyList<(Oid, Value)>,
     edges: RoomyList<Edge>,
+    starts: RunStarts,
     next: u64,
 }
 
@@ -68,6 +69,7 @@ impl Graph {
             names: Names::new(alloc),
             objects: RoomyList::new(alloc),
             edges: RoomyList::new(alloc),
+            starts: RunStarts::new(alloc),
             next: 1,
         }
     }
@@ -81,10 +83,12 @@ impl Graph {
         let names = changes.named.try_copy(alloc)?;
         let objects = copied_objects(alloc, &changes.made)?;
         let edges = copied_edges(alloc, changes.added.as_slice())?;
+        let starts = RunStarts::of(alloc, edges.as_slice(), &[])?;
         Ok(Graph {
             names,
             objects: RoomyList::from_items(objects),
             edges: RoomyList::from_items(edges.into_items()),
+            starts,
             next,
         })
     }
@@ -140,7 +144,8 @@ impl Graph {
     pub fn has_edge(&self, oid: Oid) -> bool
         ensures { IsTrue result ↔ HasChildren self.now.graph.edges oid }
     {
-        !run_of(self.edges.as_slice(), oid).is_empty()
+        let run = self.starts.run_in(self.edges.as_slice(), 0, oid);
+        !run.is_empty()
     }
 
     /// The edges that there are once the changes are made, before objects vanish. No step is
@@ -174,11 +179,13 @@ impl Graph {
         let lost = lost_edges(alloc, kept, changes.removed.as_slice())?;
         let fresh = fresh_edges(alloc, kept, changes.added.as_slice())?;
         let edges = planned_edges(alloc, kept, lost.as_slice(), fresh, dead)?;
+        let starts = starts_then(alloc, kept, &edges)?;
         let next = self.next + changes.made.len() as u64;
         Ok(GraphPlan {
             names,
             objects,
             edges,
+            starts,
             next,
         })
     }
@@ -220,6 +227,7 @@ impl Graph {
             kept_edges: self.edges.as_slice(),
             objects: &plan.objects,
             edges: &plan.edges,
+            starts: plan.starts.as_ref().unwrap_or(&self.starts),
         }
     }
 
@@ -245,11 +253,13 @@ impl Graph {
             names,
             objects,
             edges,
+            starts,
             next,
         } = plan;
         self.names = names;
         put_in_place(&mut self.objects, objects);
         put_in_place(&mut self.edges, edges);
+        self.starts.replace(starts);
         self.next = next;
     }
 }
@@ -263,7 +273,7 @@ impl Adjacent for Graph {
         buf: &mut EdgeBuf,
         steps: &mut Steps<L>,
     ) -> Result<(), NoMemory> {
-        let run = run_of(self.edges.as_slice(), oid);
+        let run = self.starts.run_in(self.edges.as_slice(), 0, oid);
         buf.append(run)?;
         steps.tick(1 + run.len() as u64);
         Ok(())

@@ -1,11 +1,11 @@
 -- The generated layout is sound: its root and the parents of its edges are complex, its edges lead to places of objects,
 -- and its labels are those of a list. Then its objects and edges, once numbered, belong together.
-use Rattle.std.proofs.Common.{◌≡◌, inl, inr, ℕ, zero, suc, ◌+◌, ◌*◌, ◌/◌, ◌%◌, ◌<◌, ◌≤◌, nat_le, Bool, true, false, true≢false, if◌then◌else◌, List, [], ◌∷◌, ◌++◌, length, map, get_or, Some, slice_get, All, Contains, refl, sym, ap, subst, ◌∙◌, arith}
+use Rattle.std.proofs.Common.{◌≡◌, inl, inr, ℕ, zero, suc, ◌+◌, ◌*◌, ◌/◌, ◌%◌, ◌<◌, ◌≤◌, ◌==◌, nat_le, Bool, true, false, true≢false, if◌then◌else◌, List, [], ◌∷◌, ◌++◌, length, map, get_or, Some, slice_get, All, Contains, refl, sym, ap, subst, ◌∙◌, arith}
 use Rattle.std.specs.Prelude.{codes}
 use Rattle.std.specs.List.{flat_map}
 use Rattle.std.specs.Str.{bytes_eq}
 use Rattle.std.proofs.Math.Nat.{div-le_self}
-use Rattle.std.proofs.lemmas.List.Elements.{All-nil, All-cons, All-head, All-tail, All-append, All-map, All-weaker, All-contains, All-contains_itself, All-from_recursion, recursion_from_All}
+use Rattle.std.proofs.lemmas.List.Elements.{All-nil, All-cons, All-head, All-tail, All-append, All-map, All-weaker, All-contains, All-contains_itself, All-filter, All-from_recursion, recursion_from_All}
 use Rattle.std.proofs.lemmas.Nat.{mod_below}
 use Rattle.std.proofs.lemmas.Option.{none-some, same_Some, slice_get-get_or, slice_get_within}
 use Rattle.std.proofs.lemmas.Slice.Eq.{bytes_eq-Decides}
@@ -18,7 +18,7 @@ use Rattle.oem_labels.proofs.LabelLaws.{either}
 use Rattle.oem_text.specs.Types.{Oid, Edge, Value, Complex}
 use Rattle.oem_text.specs.Literals.{numbered}
 use Rattle.oem_text.specs.Layouts.{PlacedArc, LaidOut, edge_from, edges_from}
-use Rattle.oem_text.specs.Generated.{numbers_from, generated_values, person_place, club_place, link_place, joined, boss_arcs, person_arcs, club_arc, member_arc, leader_arc, ring_arc, next_arc, generated_arcs, generated_labels, generated_layout}
+use Rattle.oem_text.specs.Generated.{numbers_from, generated_values, person_place, club_place, link_place, joined, boss_arcs, person_arc, arcs_of_person, club_arc, members_of, member_arc, leader_arc, arcs_of_club, ring_arc, next_arc, generated_arcs, generated_labels, generated_layout}
 use Rattle.oem_text.proofs.GeneratedPlaces.{All-numbers_from, All-flat_map, generated_length, person_at, club_at, link_at, generated_sized}
 
 -- the root is complex, and so is each parent; values have their forms, edges lead to objects, and labels are in the list
@@ -73,19 +73,19 @@ module _ (seed count : ℕ) (enough : 20 ≤ count) where
         | false ↦ All-nil IsSound
       ]
 
-  person_sound : (i : ℕ) → 1 ≤ i → i ≤ count → All IsSound (person_arcs i)
-  person_sound i first low =
+  person_sound : (i : ℕ) → i ≤ count → IsSound (person_arc i)
+  person_sound i low = record { parent = refl; child = person_below i low; label = known 0 (omega arith) }
+
+  own_sound : (i : ℕ) → 1 ≤ i → i ≤ count → All IsSound (arcs_of_person i)
+  own_sound i first low =
       let here = person_at seed count i first low in
-      All-from_recursion IsSound (person_arcs i) (
-        record { parent = refl; child = person_below i low; label = known 0 (omega arith) },
+      All-from_recursion IsSound (arcs_of_person i) (
+        record { parent = here; child = omega (arith, low, long); label = known 1 (omega arith) },
         (
-          record { parent = here; child = omega (arith, low, long); label = known 1 (omega arith) },
+          record { parent = here; child = omega (arith, low, long); label = known 2 (omega arith) },
           (
-            record { parent = here; child = omega (arith, low, long); label = known 2 (omega arith) },
-            (
-              record { parent = here; child = omega (arith, low, long); label = known 3 (omega arith) },
-              recursion_from_All IsSound (boss_arcs i) (boss_sound i first low),
-            ),
+            record { parent = here; child = omega (arith, low, long); label = known 3 (omega arith) },
+            recursion_from_All IsSound (boss_arcs i) (boss_sound i first low),
           ),
         ),
       )
@@ -93,9 +93,9 @@ module _ (seed count : ℕ) (enough : 20 ≤ count) where
   club_sound : (c : ℕ) → c < 10 → IsSound (club_arc count c)
   club_sound c low = record { parent = refl; child = slice_get_within values (club_place count c) Complex (club_at seed count c low); label = known 5 (omega arith) }
 
-  member_sound : (i : ℕ) → i ≤ count → IsSound (member_arc count i)
-  member_sound i low = record {
-    parent = club_at seed count (i % 10) (mod_below i 10 (omega arith));
+  member_sound : (c i : ℕ) → c < 10 → i ≤ count → IsSound (member_arc count c i)
+  member_sound c i digit low = record {
+    parent = club_at seed count c digit;
     child = person_below i low;
     label = known 6 (omega arith);
   }
@@ -106,6 +106,14 @@ module _ (seed count : ℕ) (enough : 20 ≤ count) where
     child = person_below (10 + c) (omega (arith, low, enough));
     label = known 7 (omega arith);
   }
+
+  arcs_of_club_sound : (c : ℕ) → c < 10 → All IsSound (arcs_of_club count c)
+  arcs_of_club_sound c digit =
+      let sound : ℕ → Type 0 = λ i. IsSound (member_arc count c i) in
+      let each = All-numbers_from sound 1 count (λ i first below. member_sound c i digit (omega (arith, below))) in
+      All-append IsSound (map (member_arc count c) (members_of count c)) (leader_arc count c ∷ [])
+      (All-map IsSound (member_arc count c) (members_of count c) (All-filter (λ (i : ℕ). i % 10 == c) sound (numbers_from 1 count) each))
+      (All-cons IsSound (leader_arc count c) [] (leader_sound c digit) (All-nil IsSound))
 
   ring_sound : IsSound (ring_arc count)
   ring_sound = record {
@@ -130,21 +138,22 @@ module _ (seed count : ℕ) (enough : 20 ≤ count) where
 
   arcs_sound : All IsSound (generated_arcs count)
   arcs_sound =
-      let people = flat_map person_arcs (numbers_from 1 count) in
+      let people = map person_arc (numbers_from 1 count) in
       let clubs = map (club_arc count) (numbers_from 0 10) in
-      let members = map (member_arc count) (numbers_from 1 count) in
-      let leaders = map (leader_arc count) (numbers_from 0 10) in
+      let own = flat_map arcs_of_person (numbers_from 1 count) in
+      let members = flat_map (arcs_of_club count) (numbers_from 0 10) in
       let links = map (next_arc count) (numbers_from 0 100) in
-      All-append IsSound people (clubs ++ (members ++ (leaders ++ (ring_arc count ∷ links))))
-      (All-flat_map IsSound person_arcs (numbers_from 1 count)
-      (All-numbers_from (λ i. All IsSound (person_arcs i)) 1 count (λ i first below. person_sound i first (omega (arith, below)))))
-      (All-append IsSound clubs (members ++ (leaders ++ (ring_arc count ∷ links)))
+      All-append IsSound people (clubs ++ (ring_arc count ∷ (own ++ (members ++ links))))
+      (mapped_sound person_arc 1 count (λ i first below. person_sound i (omega (arith, below))))
+      (All-append IsSound clubs (ring_arc count ∷ (own ++ (members ++ links)))
       (mapped_sound (club_arc count) 0 10 (λ c first below. club_sound c (omega (arith, below))))
-      (All-append IsSound members (leaders ++ (ring_arc count ∷ links))
-      (mapped_sound (member_arc count) 1 count (λ i first below. member_sound i (omega (arith, below))))
-      (All-append IsSound leaders (ring_arc count ∷ links)
-      (mapped_sound (leader_arc count) 0 10 (λ c first below. leader_sound c (omega (arith, below))))
-      (All-cons IsSound (ring_arc count) links ring_sound
+      (All-cons IsSound (ring_arc count) (own ++ (members ++ links)) ring_sound
+      (All-append IsSound own (members ++ links)
+      (All-flat_map IsSound arcs_of_person (numbers_from 1 count)
+      (All-numbers_from (λ i. All IsSound (arcs_of_person i)) 1 count (λ i first below. own_sound i first (omega (arith, below)))))
+      (All-append IsSound members links
+      (All-flat_map IsSound (arcs_of_club count) (numbers_from 0 10)
+      (All-numbers_from (λ c. All IsSound (arcs_of_club count c)) 0 10 (λ c first below. arcs_of_club_sound c (omega (arith, below)))))
       (mapped_sound (next_arc count) 0 100 (λ j first below. next_sound j (omega (arith, below))))))))
 
 pub generated_sound : (seed count : ℕ) → 20 ≤ count → count ≤ 10000 → IsSoundLayout (generated_layout seed count)

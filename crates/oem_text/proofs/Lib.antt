@@ -9,5 +9,6 @@ pub mod PartLaws
 pub mod GeneratedPlaces
 pub mod GeneratedSound
 pub mod GeneratedObjectLaws
+pub mod GeneratedClubs
 pub mod GeneratedEdgeLaws
 pub mod GeneratedPartLaws

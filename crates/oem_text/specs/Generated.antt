@@ -1,7 +1,7 @@
 -- The generated database: persons, each with an id, a name, an age and perhaps a boss, clubs of persons, and a ring of
 -- links. Its objects have places: the root first, the persons from 1 on with their atoms, 10 clubs and 100 links.
 use Rattle.std.specs.Prelude.{◌≡◌, ℕ, zero, suc, ◌+◌, ◌-◌, ◌*◌, ◌/◌, ◌%◌, ◌<◌, if◌then◌else◌, ◌==◌, nat_le}
-use Rattle.std.specs.Prelude.{pos, List, [], ◌∷◌, ◌++◌, length, map, flat_map, replicate, codes}
+use Rattle.std.specs.Prelude.{pos, List, [], ◌∷◌, ◌++◌, length, map, filter, flat_map, replicate, codes}
 use Rattle.std.specs.Fmt.{decimal}
 use Rattle.oem_text.specs.Types.{Refusal, Value, Complex, LABELS, NEXT_NUMBER}
 use Rattle.oem_text.specs.Types.refusals
@@ -61,27 +61,38 @@ link_place count j = 4 * count + 11 + j
 abbrev pub joined : ℕ → List ℕ → ℕ → PlacedArc
 joined parent label child = record { parent = parent; label = label; child = child }
 
--- person i of the root, its atoms, and its boss: the person with half its number
+-- the edge from the root to person i
+abbrev pub person_arc : ℕ → PlacedArc
+person_arc i = joined 0 (codes "person") (person_place i)
+
+-- its boss: the person with half its number
 abbrev pub boss_arcs : ℕ → List PlacedArc
 boss_arcs i = if nat_le 2 i then (joined (person_place i) (codes "boss") (person_place (i / 2)) ∷ []) else []
 
-abbrev pub person_arcs : ℕ → List PlacedArc
-person_arcs i =
-    joined 0 (codes "person") (person_place i)
-    ∷ joined (person_place i) (codes "id") (person_place i + 1)
+-- its atoms and its boss
+abbrev pub arcs_of_person : ℕ → List PlacedArc
+arcs_of_person i =
+    joined (person_place i) (codes "id") (person_place i + 1)
     ∷ joined (person_place i) (codes "name") (person_place i + 2)
     ∷ joined (person_place i) (codes "age") (person_place i + 3)
     ∷ boss_arcs i
 
--- the clubs of the root; person i as a member, by its last digit; and the leader of club c
+-- the edge from the root to club c
 abbrev pub club_arc : (count c : ℕ) → PlacedArc
 club_arc count c = joined 0 (codes "club") (club_place count c)
 
-abbrev pub member_arc : (count i : ℕ) → PlacedArc
-member_arc count i = joined (club_place count (i % 10)) (codes "member") (person_place i)
+-- its members, the persons whose numbers end in the digit c, and its leader
+abbrev pub members_of : (count c : ℕ) → List ℕ
+members_of count c = filter (λ i. i % 10 == c) (numbers_from 1 count)
+
+abbrev pub member_arc : (count c i : ℕ) → PlacedArc
+member_arc count c i = joined (club_place count c) (codes "member") (person_place i)
 
 abbrev pub leader_arc : (count c : ℕ) → PlacedArc
 leader_arc count c = joined (club_place count c) (codes "leader") (person_place (10 + c))
+
+abbrev pub arcs_of_club : (count c : ℕ) → List PlacedArc
+arcs_of_club count c = map (member_arc count c) (members_of count c) ++ leader_arc count c ∷ []
 
 -- the ring of the root, and the link behind link j
 abbrev pub ring_arc : (count : ℕ) → PlacedArc
@@ -90,17 +101,18 @@ ring_arc count = joined 0 (codes "ring") (link_place count 0)
 abbrev pub next_arc : (count j : ℕ) → PlacedArc
 next_arc count j = joined (link_place count j) (codes "next") (link_place count ((j + 1) % 100))
 
+-- all edges: those that leave the root, then persons, clubs and links
 abbrev pub generated_arcs : (count : ℕ) → List PlacedArc
 generated_arcs count =
-    flat_map person_arcs (numbers_from 1 count)
+    map person_arc (numbers_from 1 count)
     ++ (map (club_arc count) (numbers_from 0 10)
-    ++ (map (member_arc count) (numbers_from 1 count)
-    ++ (map (leader_arc count) (numbers_from 0 10)
-    ++ (ring_arc count ∷ map (next_arc count) (numbers_from 0 100)))))
+    ++ (ring_arc count ∷ (flat_map arcs_of_person (numbers_from 1 count)
+    ++ (flat_map (arcs_of_club count) (numbers_from 0 10)
+    ++ map (next_arc count) (numbers_from 0 100)))))
 
 -- The part.
 
--- the labels, in the order in which new ones are numbered
+-- the labels, in the order in which new ones are numbered: as the text of such a load would use them first
 abbrev pub generated_labels : List (List ℕ)
 generated_labels =
     codes "person" ∷ codes "id" ∷ codes "name" ∷ codes "age" ∷ codes "boss" ∷ codes "club" ∷ codes "member"

@@ -13,7 +13,7 @@ pub record PlacedArc : Type 0 where
   pub label : List ℕ
   pub child : ℕ
 
--- the values of objects by place, and the edges between them in text order
+-- the values of objects by place, and the edges between them, those of a literal in text order
 pub record LaidOut : Type 0 where
   pub values : List Value
   pub arcs : List PlacedArc

@@ -1,4 +1,4 @@
-ghost use Rattle.std.specs.Prelude.{◌≡◌, ◌+◌, ◌*◌, ◌≤◌, ◌<◌, ◌^◌, ℕ, List, ◌++◌, length, map};
+ghost use Rattle.std.specs.Prelude.{◌≡◌, ◌+◌, ◌*◌, ◌%◌, ◌≤◌, ◌<◌, ◌^◌, ℕ, List, ◌++◌, length, map};
 ghost use Rattle.std.specs.Prelude.{flat_map, codes, IfOk, OnOk};
 ghost use Rattle.oem_labels.specs.Labels.{label_in};
 ghost use Rattle.oem_text.specs.Layouts.{edge_from};
@@ -8,8 +8,9 @@ ghost use Rattle.oem_text.specs.Generated.{generated_arcs, generated_labels, num
 use lore_base::{Edge, EdgeBuf, Label, NoMemory, Oid};
 use std::alloc::Global;
 
-// The edges of so many persons, where the root has the number `next`. The labels are those of
-// `person`, `id`, `name`, `age`, `boss`, `club`, `member`, `leader`, `ring` and `next`.
+// The edges of so many persons, where the root has the number `next`. Where all labels are new, the
+// edges ascend. The labels are those of `person`, `id`, `name`, `age`, `boss`, `club`, `member`,
+// `leader`, `ring` and `next`.
 pub(crate) fn edges_of(
     alloc: Global,
     count: u32,
@@ -25,12 +26,12 @@ pub(crate) fn edges_of(
 {
     let mut edges = EdgeBuf::with_capacity(alloc, 6 * count as usize + 120)?;
     let clubs = next + 4 * u64::from(count) + 1;
-    put_persons(next, count, labels, &mut edges)?;
-    put_clubs(next, clubs, labels[5], &mut edges)?;
-    put_members(next, count, labels[6], &mut edges)?;
-    put_leaders(next, clubs, labels[7], &mut edges)?;
     let links = clubs + 10;
+    put_persons(next, count, labels[0], &mut edges)?;
+    put_clubs(next, clubs, labels[5], &mut edges)?;
     edges.push(edge(next, labels[8], links))?;
+    put_edges_of_persons(next, count, labels, &mut edges)?;
+    put_edges_of_clubs(next, count, labels, &mut edges)?;
     put_links(links, labels[9], &mut edges)?;
     Ok(edges)
 }
@@ -60,33 +61,66 @@ fn person(next: u64, i: u32) -> u64
     next + 4 * u64::from(i) - 3
 }
 
-fn put_persons(next: u64, count: u32, labels: &[Label], edges: &mut EdgeBuf) -> Result<(), NoMemory>
+// The number of club c, where the root has the number `next`.
+fn club(next: u64, count: u32, c: u32) -> u64
+    requires few { count ≤ 10000 }
+    requires digit { c < 10 }
+    requires number { next < 2 ^ 32 }
+    ensures { result ≡ next + spec.club_place count c }
+{
+    next + 4 * u64::from(count) + 1 + u64::from(c)
+}
+
+fn put_persons(next: u64, count: u32, label: Label, edges: &mut EdgeBuf) -> Result<(), NoMemory>
+    requires few { count ≤ 10000 }
+    requires numbers { next + (4 * count + 111) ≤ 2 ^ 32 }
+    ensures { OnOk result ((table : List (List ℕ)) → label ≡ label_in table (codes "person")
+        → edges.new ≡ edges.old
+        ++ map (edge_from next table) (map spec.person_arc (numbers_from 1 count))) }
+{
+    'persons: for place in 0..count {
+        edges.push(edge(next, label, person(next, place + 1)))?;
+    }
+    Ok(())
+}
+
+// The edges that leave the persons.
+fn put_edges_of_persons(
+    next: u64,
+    count: u32,
+    labels: &[Label],
+    edges: &mut EdgeBuf,
+) -> Result<(), NoMemory>
     requires few { count ≤ 10000 }
     requires labels { length labels.now ≡ 10 }
     requires numbers { next + (4 * count + 111) ≤ 2 ^ 32 }
     ensures { OnOk result ((table : List (List ℕ))
         → labels.now ≡ map (label_in table) generated_labels
         → edges.new ≡ edges.old
-        ++ map (edge_from next table) (flat_map spec.person_arcs (numbers_from 1 count))) }
+        ++ map (edge_from next table) (flat_map spec.arcs_of_person (numbers_from 1 count))) }
 {
     'persons: for place in 0..count {
-        put_person(next, place + 1, labels, edges)?;
+        put_edges_of_person(next, place + 1, labels, edges)?;
     }
     Ok(())
 }
 
-// The edges of person i: to it, to its atoms and to its boss.
-fn put_person(next: u64, i: u32, labels: &[Label], edges: &mut EdgeBuf) -> Result<(), NoMemory>
+// The edges of person i: to its atoms and to its boss.
+fn put_edges_of_person(
+    next: u64,
+    i: u32,
+    labels: &[Label],
+    edges: &mut EdgeBuf,
+) -> Result<(), NoMemory>
     requires some { 1 ≤ i }
     requires few { i ≤ 10000 }
     requires labels { length labels.now ≡ 10 }
     requires numbers { next + (4 * i + 1) ≤ 2 ^ 32 }
     ensures { OnOk result ((table : List (List ℕ))
         → labels.now ≡ map (label_in table) generated_labels
-        → edges.new ≡ edges.old ++ map (edge_from next table) (spec.person_arcs i)) }
+        → edges.new ≡ edges.old ++ map (edge_from next table) (spec.arcs_of_person i)) }
 {
     let here = person(next, i);
-    edges.push(edge(next, labels[0], here))?;
     edges.push(edge(here, labels[1], here + 1))?;
     edges.push(edge(here, labels[2], here + 2))?;
     edges.push(edge(here, labels[3], here + 3))?;
@@ -96,8 +130,7 @@ fn put_person(next: u64, i: u32, labels: &[Label], edges: &mut EdgeBuf) -> Resul
     Ok(())
 }
 
-// From here on `clubs` and `links` are the numbers of the first club and of the first link.
-
+// The edges of the root to the clubs, where `clubs` is the number of the first.
 fn put_clubs(next: u64, clubs: u64, label: Label, edges: &mut EdgeBuf) -> Result<(), NoMemory>
     requires numbers { clubs + 10 ≤ 2 ^ 32 }
     requires root { next < clubs }
@@ -112,35 +145,83 @@ fn put_clubs(next: u64, clubs: u64, label: Label, edges: &mut EdgeBuf) -> Result
     Ok(())
 }
 
-fn put_members(next: u64, count: u32, label: Label, edges: &mut EdgeBuf) -> Result<(), NoMemory>
+// The edges that leave the clubs.
+fn put_edges_of_clubs(
+    next: u64,
+    count: u32,
+    labels: &[Label],
+    edges: &mut EdgeBuf,
+) -> Result<(), NoMemory>
     requires few { count ≤ 10000 }
+    requires labels { length labels.now ≡ 10 }
+    requires numbers { next + (4 * count + 111) ≤ 2 ^ 32 }
+    ensures { OnOk result ((table : List (List ℕ))
+        → labels.now ≡ map (label_in table) generated_labels
+        → edges.new ≡ edges.old
+        ++ map (edge_from next table) (flat_map (spec.arcs_of_club count) (numbers_from 0 10))) }
+{
+    'clubs: for c in 0..10u32 {
+        put_edges_of_club(next, count, c, labels, edges)?;
+    }
+    Ok(())
+}
+
+// The edges of club c: to its members and to its leader.
+fn put_edges_of_club(
+    next: u64,
+    count: u32,
+    c: u32,
+    labels: &[Label],
+    edges: &mut EdgeBuf,
+) -> Result<(), NoMemory>
+    requires few { count ≤ 10000 }
+    requires digit { c < 10 }
+    requires labels { length labels.now ≡ 10 }
+    requires numbers { next + (4 * count + 111) ≤ 2 ^ 32 }
+    ensures { OnOk result ((table : List (List ℕ))
+        → labels.now ≡ map (label_in table) generated_labels
+        → edges.new ≡ edges.old ++ map (edge_from next table) (spec.arcs_of_club count c)) }
+{
+    put_members(next, count, c, labels[6], edges)?;
+    edges.push(edge(club(next, count, c), labels[7], person(next, 10 + c)))?;
+    Ok(())
+}
+
+// The edges of club c to its members.
+fn put_members(
+    next: u64,
+    count: u32,
+    c: u32,
+    label: Label,
+    edges: &mut EdgeBuf,
+) -> Result<(), NoMemory>
+    requires few { count ≤ 10000 }
+    requires digit { c < 10 }
     requires numbers { next + (4 * count + 111) ≤ 2 ^ 32 }
     ensures { OnOk result ((table : List (List ℕ)) → label ≡ label_in table (codes "member")
         → edges.new ≡ edges.old
-        ++ map (edge_from next table) (map (spec.member_arc count) (numbers_from 1 count))) }
+        ++ map (edge_from next table) (map (spec.member_arc count c) (spec.members_of count c))) }
 {
-    let clubs = next + 4 * u64::from(count) + 1;
-    'members: for place in 0..count {
-        let i = place + 1;
-        edges.push(edge(clubs + u64::from(i % 10), label, person(next, i)))?;
+    let parent = club(next, count, c);
+    let mut i = first_member(c);
+    'members: while i <= count {
+        edges.push(edge(parent, label, person(next, i)))?;
+        i += 10;
     }
     Ok(())
 }
 
-fn put_leaders(next: u64, clubs: u64, label: Label, edges: &mut EdgeBuf) -> Result<(), NoMemory>
-    requires numbers { clubs + 10 ≤ 2 ^ 32 }
-    requires persons { next + 80 < clubs }
-    ensures { OnOk result ((table : List (List ℕ)) (count : ℕ)
-        → label ≡ label_in table (codes "leader") → clubs ≡ next + (4 * count + 1)
-        → edges.new ≡ edges.old
-        ++ map (edge_from next table) (map (spec.leader_arc count) (numbers_from 0 10))) }
+// The first person whose number ends in the digit c.
+fn first_member(c: u32) -> u32
+    requires digit { c < 10 }
+    ensures digit { result % 10 ≡ c }
+    ensures some { 1 ≤ result }
+    ensures first { result ≤ 10 }
 {
-    'clubs: for c in 0..10u32 {
-        edges.push(edge(clubs + u64::from(c), label, person(next, 10 + c)))?;
-    }
-    Ok(())
+    if c == 0 { 10 } else { c }
 }
 
+// The ring of links, where `links` is the number of the first.
 fn put_links(links: u64, label: Label, edges: &mut EdgeBuf) -> Result<(), NoMemory>
     requires numbers { links + 100 ≤ 2 ^ 32 }
     ensures { OnOk result ((table : List (List ℕ)) (next count : ℕ)

@@ -93,19 +93,23 @@ from_only Leads (only ∷ []) other one oid = (
 from_only Leads (first ∷ second ∷ level) other one oid = absurd (omega (arith, one))
 
 -- objects that some of one more lead to
-pub from_more : (Leads : Oid → Oid → Type 0) (level : List Oid) (next : Oid) (middle new : List Oid) → ((oid : Oid) → Contains middle oid ↔ FromSome Leads level oid)
-    → ExtendsByAll (Leads next) middle new → (oid : Oid) → Contains new oid ↔ FromSome Leads (level ++ next ∷ []) oid
-from_more Leads level next middle new earlier now oid = (
-  λ h. elim (Contains-append_cases middle now.0 oid (subst (λ (l : List Oid). Contains l oid) now.1 h)) [
-    | inl front ↦
-        let found = (earlier oid).0 front in
-        (found.0, Contains-append_left level (next ∷ []) found.0 found.1, found.2)
-    | inr back ↦ (next, Contains-push level next, (now.2 oid).0 back)
-  ],
-  λ h. subst (λ (l : List Oid). Contains l oid) (sym now.1) (elim (Contains-push_cases level next h.0 h.1) [
-    | inl front ↦ Contains-append_left middle now.0 oid ((earlier oid).1 (h.0, front, h.2))
-    | inr same ↦ Contains-append_right middle now.0 oid ((now.2 oid).1 (subst (λ (o : Oid). Leads o oid) (sym same) h.2))
-  ]),
+pub some_more : (Leads : Oid → Oid → Type 0) (level : List Oid) (next : Oid) (old middle new : List Oid) → ExtendsByAll (FromSome Leads level) old middle
+    → ExtendsByAll (Leads next) middle new → ExtendsByAll (FromSome Leads (level ++ next ∷ [])) old new
+some_more Leads level next old middle new earlier now = (
+  earlier.0 ++ now.0,
+  now.1 ∙ ap (λ (l : List Oid). l ++ now.0) earlier.1 ∙ append_assoc old earlier.0 now.0,
+  λ oid. (
+    λ h. elim (Contains-append_cases earlier.0 now.0 oid h) [
+      | inl front ↦
+          let found = (earlier.2 oid).0 front in
+          (found.0, Contains-append_left level (next ∷ []) found.0 found.1, found.2)
+      | inr back ↦ (next, Contains-push level next, (now.2 oid).0 back)
+    ],
+    λ h. elim (Contains-push_cases level next h.0 h.1) [
+      | inl front ↦ Contains-append_left earlier.0 now.0 oid ((earlier.2 oid).1 (h.0, front, h.2))
+      | inr same ↦ Contains-append_right earlier.0 now.0 oid ((now.2 oid).1 (subst (λ (o : Oid). Leads o oid) (sym same) h.2))
+    ],
+  ),
 )
 
 -- a list extends its front, by what is in order already
@@ -200,18 +204,39 @@ module _ (labels : List (List ℕ)) (edges : List Edge) where
     );
   }
 
-  -- behind the last part there is what the path reaches
-  pub level_end : (whole : PathTree) (start : Oid) (level : List Oid) → IsLevel labels edges whole (seq none) start level
-      → ListsInOrder (Reaches labels edges whole start) level
-  level_end whole start level here = record {
-    ascending = here.ascending;
-    exact = λ oid. (
-      λ at. (here.exact oid).1 (oid, at, (none_reaches oid oid).1 refl),
-      λ h.
-          let found = (here.exact oid).0 h in
-          Contains-same level found.0 oid ((none_reaches found.0 oid).0 found.2) found.1,
-    );
-  }
+  -- behind the first label there are the children by those that fit
+  pub level_first : (pattern : Pattern) (others : PathTrees) (start : Oid) (old next : List Oid) → old ≡ []
+      → ExtendsBy (ListsInOrder (GoesBy labels (along edges) pattern start)) old next
+      → IsLevel labels edges (seq (more (step pattern) others)) (seq others) start next
+  level_first pattern others start old next none_yet grown =
+      let leads = Reaches labels edges (step pattern) in
+      let goes = GoesBy labels (along edges) pattern start in
+      let is : next ≡ grown.0 = grown.1 ∙ ap (λ (l : List Oid). l ++ grown.0) none_yet in
+      let lists : ListsInOrder goes next = subst (λ (l : List Oid). ListsInOrder goes l) (sym is) grown.2 in
+      level_next (seq (more (step pattern) others)) (step pattern) others start (start ∷ []) next (level_start (seq (more (step pattern) others)) start)
+      (ListsInOrder-same goes (FromSome leads (start ∷ [])) next (λ oid. (
+        λ h. (from_only leads (start ∷ []) start refl oid).0 ((goes_reaches labels edges pattern start oid).0 h),
+        λ h. (goes_reaches labels edges pattern start oid).1 ((from_only leads (start ∷ []) start refl oid).1 h),
+      )) lists)
+
+  -- by the last label those that fit lead to what the path reaches
+  pub level_last : (whole : PathTree) (pattern : Pattern) (start : Oid) (level : List Oid) → IsLevel labels edges whole (seq (more (step pattern) none)) start level
+      → (oid : Oid) → FromSome (GoesBy labels (along edges) pattern) level oid ↔ Reaches labels edges whole start oid
+  level_last whole pattern start level here oid = (
+    λ h. (here.exact oid).1 (
+      h.0,
+      h.1,
+      (then_reaches (step pattern) none h.0 oid).1 (oid, (goes_reaches labels edges pattern h.0 oid).0 h.2, (none_reaches oid oid).1 refl),
+    ),
+    λ h.
+        let found = (here.exact oid).0 h in
+        let parted = (then_reaches (step pattern) none found.0 oid).0 found.2 in
+        let end : parted.0 ≡ oid = (none_reaches parted.0 oid).0 parted.2 in (
+          found.0,
+          found.1,
+          subst (λ (o : Oid). GoesBy labels (along edges) pattern found.0 o) end ((goes_reaches labels edges pattern found.0 parted.0).1 parted.1),
+        ),
+  )
 
   -- no part leads back from the objects themselves
   pub back_start : (to level : List Oid) → ListsInOrder (Contains to) level → ListsInOrder (ReachesInto labels edges (seq none) to) level

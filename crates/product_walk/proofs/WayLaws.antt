@@ -32,7 +32,7 @@ alike_alone path other alike labels word = (
 pub IsWay-alone : (path : PathTree) (way : Way) → IsWay path way → IsWay (seq (more path none)) way
 IsWay-alone path Stay alike = alike_alone path (seq none) alike
 IsWay-alone path (Child pattern) alike = alike_alone path (step pattern.now) alike
-IsWay-alone path (InTurn parts) turn = (alike_alone path (seq (trees_of (map path_tree parts.now))) turn.0, turn.1, turn.2)
+IsWay-alone path (InTurn parts) turn = (alike_alone path (seq (trees_of (map path_tree parts.now))) turn.0, turn.1, turn.2, turn.3)
 IsWay-alone path (Search machine) stands = λ labels word. (
   λ h. (spells_alone labels path word).1 ((stands labels word).0 h),
   λ h. (stands labels word).1 ((spells_alone labels path word).0 h),

@@ -50,6 +50,7 @@ impl<'a, D: Direction, T: LabelTest> LabelStep<'a, D, T> {
         &self,
         alloc: Global,
         from: Oid,
+        edges: &mut EdgeBuf,
         buf: &mut OidBuf,
         steps: &mut Steps<L>,
     ) -> Result<(), NoMemory>
@@ -60,9 +61,31 @@ impl<'a, D: Direction, T: LabelTest> LabelStep<'a, D, T> {
             (steps.new ≡ steps.old + D.reads (D.edges self.now.direction) from) }
         ensures err { OnErr result (Extends buf.old buf.new) }
     {
-        let mut edges = EdgeBuf::new(alloc);
         let first = buf.len();
-        self.push_ends(from, &mut edges, buf, steps)?;
+        self.push_ends(from, edges, buf, steps)?;
+        put_in_order(alloc, buf, first)
+    }
+
+    // Appends the far ends of the objects' arcs, ascending, each once.
+    pub(crate) fn append_ends_of_level<L: Ledger>(
+        &self,
+        alloc: Global,
+        level: &[Oid],
+        edges: &mut EdgeBuf,
+        buf: &mut OidBuf,
+        steps: &mut Steps<L>,
+    ) -> Result<(), NoMemory>
+        ensures objects { OnOk result (ExtendsBy (ListsInOrder (FromSome (GoesBy
+            (T.texts self.now.labels.now) (D.goes (D.edges self.now.direction))
+            self.now.pattern.now) level.now)) buf.old buf.new) }
+        ensures steps { OnOk result (steps.new
+            ≡ steps.old + sum_by (D.reads (D.edges self.now.direction)) level.now) }
+        ensures err { OnErr result (Extends buf.old buf.new) }
+    {
+        let first = buf.len();
+        'oids: for oid in level {
+            self.push_ends(*oid, edges, buf, steps)?;
+        }
         put_in_order(alloc, buf, first)
     }
 
@@ -71,6 +94,7 @@ impl<'a, D: Direction, T: LabelTest> LabelStep<'a, D, T> {
         &self,
         alloc: Global,
         level: &[Oid],
+        edges: &mut EdgeBuf,
         steps: &mut Steps<L>,
     ) -> Result<OidBuf, NoMemory>
         ensures objects { IfOk result (ListsInOrder (FromSome (GoesBy
@@ -79,12 +103,8 @@ impl<'a, D: Direction, T: LabelTest> LabelStep<'a, D, T> {
         ensures steps { OnOk result (steps.new
             ≡ steps.old + sum_by (D.reads (D.edges self.now.direction)) level.now) }
     {
-        let mut edges = EdgeBuf::new(alloc);
         let mut next = OidBuf::new(alloc);
-        'oids: for oid in level {
-            self.push_ends(*oid, &mut edges, &mut next, steps)?;
-        }
-        put_in_order(alloc, &mut next, 0)?;
+        self.append_ends_of_level(alloc, level, edges, &mut next, steps)?;
         Ok(next)
     }
 
@@ -93,6 +113,7 @@ impl<'a, D: Direction, T: LabelTest> LabelStep<'a, D, T> {
         &self,
         alloc: Global,
         oids: &[Oid],
+        edges: &mut EdgeBuf,
         buf: &mut OidBuf,
         steps: &mut Steps<L>,
     ) -> Result<(), NoMemory>
@@ -104,8 +125,7 @@ impl<'a, D: Direction, T: LabelTest> LabelStep<'a, D, T> {
         ensures err { OnErr result (Extends buf.old buf.new) }
     {
         let level = in_order(alloc, oids)?;
-        let ends = self.ends_of(alloc, level.as_slice(), steps)?;
-        buf.append(ends.as_slice())
+        self.append_ends_of_level(alloc, level.as_slice(), edges, buf, steps)
     }
 
     // The same; a single object is read in place.
@@ -123,9 +143,10 @@ impl<'a, D: Direction, T: LabelTest> LabelStep<'a, D, T> {
             (Contains oids.now) steps.old steps.new) }
         ensures err { OnErr result (Extends buf.old buf.new) }
     {
+        let mut edges = EdgeBuf::new(alloc);
         match oids {
-            [oid] => self.append_ends(alloc, *oid, buf, steps),
-            _ => self.append_ends_of_all(alloc, oids, buf, steps),
+            [oid] => self.append_ends(alloc, *oid, &mut edges, buf, steps),
+            _ => self.append_ends_of_all(alloc, oids, &mut edges, buf, steps),
         }
     }
 }

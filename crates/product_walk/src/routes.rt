@@ -1,4 +1,4 @@
-ghost use Rattle.std.specs.Prelude.{◌≡◌, ◌≤◌, map, IfOk, IfSome, OnOk, OnErr};
+ghost use Rattle.std.specs.Prelude.{◌≡◌, ◌≤◌, length, map, IfOk, IfSome, OnOk, OnErr};
 ghost use Rattle.lore_base.specs.Lists.{Extends, ExtendsBy};
 ghost use Rattle.lore_base.specs.Paths.{seq, path_tree, path_trees, trees_of, leaves, leaves_of};
 ghost use Rattle.lore_base.specs.Paths.{Reaches};
@@ -8,11 +8,11 @@ ghost use Rattle.product_walk.specs.ProductWalks.{IsWalked, TakesReads, reads_ou
 ghost use Rattle.product_walk.specs.inside.Ways.{IsWay};
 
 use crate::direction::Along;
-use crate::label_paths::{are_labels, reached_in_turn};
+use crate::label_paths::{are_labels, reach_in_turn};
 use crate::label_step::LabelStep;
 use crate::searches::forward;
 use index_traits::Adjacent;
-use lore_base::{LabelTest, NoMemory, Oid, OidBuf, Path, PathList, Pattern, Steps};
+use lore_base::{EdgeBuf, LabelTest, NoMemory, Oid, OidBuf, Path, PathList, Pattern, Steps};
 use path_expr::Automaton;
 use std::alloc::Global;
 use std::marker::Model;
@@ -90,6 +90,7 @@ impl<'a> Route<'a> {
             (IsWalked (A.edges graph.now) from) steps.old steps.new) }
         ensures err { OnErr result (Extends buf.old buf.new) }
     {
+        let mut edges = EdgeBuf::new(alloc);
         match &self.way {
             Way::Stay => buf.push(from),
             Way::Child(pattern) => {
@@ -98,11 +99,10 @@ impl<'a> Route<'a> {
                     labels,
                     pattern,
                 };
-                step.append_ends(alloc, from, buf, steps)
+                step.append_ends(alloc, from, &mut edges, buf, steps)
             }
             Way::InTurn(parts) => {
-                let found = reached_in_turn(alloc, graph, labels, parts, from, steps)?;
-                buf.append(found.as_slice())
+                reach_in_turn(alloc, graph, labels, parts, from, &mut edges, buf, steps)
             }
             Way::Search(automaton) => forward(alloc, graph, from, automaton, labels, buf, steps),
         }
@@ -134,7 +134,8 @@ fn short_way_in_turn(parts: &PathList) -> Option<Way<'_>>
 
 // The same of more parts.
 fn in_turn(parts: &[Path]) -> Option<Way<'_>>
-    requires { leaves_of (trees_of (map path_tree parts.now)) ≤ LEAVES }
+    requires leaves { leaves_of (trees_of (map path_tree parts.now)) ≤ LEAVES }
+    requires two { 2 ≤ length parts.now }
     ensures { IfSome result (IsWay (seq (trees_of (map path_tree parts.now)))) }
 {
     if are_labels(parts) {

@@ -22,7 +22,7 @@ pub(crate) fn entries_of<V: ValueOf>(
     ensures { IfOk result
         (λ entries. AreSetOf entry_cmp (IsPairEntry (V.objects values.now) pairs.now) entries) }
 {
-    let mut entries = EntryList::new(alloc);
+    let mut entries = EntryList::with_capacity(alloc, pairs.len())?;
     'pairs: for pair in pairs {
         if let Some(value) = atomic_value(values, pair.object) {
             entries.push(ValueEntry {

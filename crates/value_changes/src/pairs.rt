@@ -8,6 +8,7 @@ ghost use Rattle.value_changes.specs.inside.Pairs.{IsPairOf, IsThere, IsMoving};
 
 use crate::bisection::is_among;
 use index_traits::Links;
+use key_sort::{Key, set_by_keys};
 use lore_base::{Edge, EdgeBuf, Label, Listing, NoMemory, Oid, Steps};
 use std::alloc::Global;
 use std::sync::ledger::Ledger;
@@ -18,6 +19,28 @@ use strand_sort::sorted_set;
 pub(crate) struct Pair {
     pub(crate) label: Label,
     pub(crate) object: Oid,
+}
+
+// The key of a pair's object.
+struct ByObject;
+
+impl Key<Pair> for ByObject {
+    ghost key_of = { λ pair. pair.object.0 };
+
+    fn key(pair: &Pair) -> u32 {
+        pair.object.0
+    }
+}
+
+// The key of a pair's label.
+struct ByLabel;
+
+impl Key<Pair> for ByLabel {
+    ghost key_of = { λ pair. pair.label.0 };
+
+    fn key(pair: &Pair) -> u32 {
+        pair.label.0
+    }
 }
 
 pub(crate) type PairList = Listing<Pair>;
@@ -45,7 +68,7 @@ pub(crate) fn pairs_before(alloc: Global, entering: &[Edge]) -> Result<PairList,
 {
     let mut pairs = PairList::with_capacity(alloc, entering.len())?;
     add_pairs(&mut pairs, entering)?;
-    let sorted = sorted_set(alloc, pairs.as_slice())?;
+    let sorted = set_by_keys::<Pair, ByObject, ByLabel>(alloc, pairs)?;
     Ok(sorted)
 }
 
@@ -61,10 +84,11 @@ pub(crate) fn pairs_then(
 {
     let gone = sorted_set(alloc, lost)?;
     let kept = kept_edges(alloc, entering, gone.as_slice())?;
-    let mut pairs = PairList::new(alloc);
+    let room = kept.len().saturating_add(fresh.len());
+    let mut pairs = PairList::with_capacity(alloc, room)?;
     add_pairs(&mut pairs, kept.as_slice())?;
     add_pairs(&mut pairs, fresh)?;
-    let sorted = sorted_set(alloc, pairs.as_slice())?;
+    let sorted = set_by_keys::<Pair, ByObject, ByLabel>(alloc, pairs)?;
     Ok(sorted)
 }
 
@@ -86,7 +110,7 @@ fn kept_edges(alloc: Global, edges: &[Edge], lost: &[Edge]) -> Result<EdgeBuf, N
     requires { Ascends edge_cmp lost.now }
     ensures { IfOk result (λ kept. AreKept edges.now lost.now kept) }
 {
-    let mut kept = EdgeBuf::new(alloc);
+    let mut kept = EdgeBuf::with_capacity(alloc, edges.len())?;
     'edges: for edge in edges {
         if !is_among(lost, edge) {
             kept.push(*edge)?;
@@ -109,7 +133,7 @@ pub(crate) fn moving_pairs(
     ensures { IfOk result
         (λ moving. AreSetOf pair_cmp (IsMoving pairs.now others.now given.now) moving) }
 {
-    let mut moving = PairList::new(alloc);
+    let mut moving = PairList::with_capacity(alloc, pairs.len())?;
     'pairs: for pair in pairs {
         if is_among(given, &pair.object) || !is_among(others, pair) {
             moving.push(*pair)?;

@@ -4,9 +4,20 @@ ghost use Rattle.value_changes.specs.Types.{Edge as TheEdge};
 ghost use Rattle.value_changes.specs.inside.Sets.{AreSetOf};
 ghost use Rattle.value_changes.specs.inside.Touched.{oid_cmp, IsTouched};
 
+use key_sort::{Key, set_by_key};
 use lore_base::{Edge, NoMemory, Oid, OidBuf, Value};
 use std::alloc::Global;
-use strand_sort::sorted_set;
+
+// The key of an object: its number.
+struct ByNumber;
+
+impl Key<Oid> for ByNumber {
+    ghost key_of = { λ oid. oid.0 };
+
+    fn key(oid: &Oid) -> u32 {
+        oid.0
+    }
+}
 
 // The objects that values are given to, ascending, each once.
 pub(crate) fn given_objects(alloc: Global, given: &[(Oid, Value)]) -> Result<OidBuf, NoMemory>
@@ -29,11 +40,12 @@ pub(crate) fn touched_objects(
 ) -> Result<OidBuf, NoMemory>
     ensures { IfOk result (λ oids. AreSetOf oid_cmp (IsTouched lost.now fresh.now given.now) oids) }
 {
-    let mut oids = OidBuf::new(alloc);
+    let edges = lost.len().saturating_add(fresh.len());
+    let mut oids = OidBuf::with_capacity(alloc, edges.saturating_add(given.len()))?;
     oids.append(given)?;
     add_children(&mut oids, lost)?;
     add_children(&mut oids, fresh)?;
-    let sorted = sorted_set(alloc, oids.as_slice())?;
+    let sorted = set_by_key::<Oid, ByNumber>(alloc, oids)?;
     Ok(sorted)
 }
 

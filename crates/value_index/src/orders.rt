@@ -2,6 +2,7 @@ ghost use Rattle.std.specs.Prelude.{◌≡◌, ◌≢◌, ◌↔◌, ℕ, ℤ, F
 ghost use Rattle.std.specs.Prelude.{IfOk, IfSome, IfNone};
 ghost use Rattle.std.specs.Int.{w64};
 ghost use Rattle.std.specs.Ordering.{int_cmp};
+ghost use Rattle.std.specs.List.Sorted.{IsPermutation, IsSorted};
 ghost use Rattle.lore_base.specs.Bytes.{bytes_cmp};
 ghost use Rattle.index_traits.specs.Entries.{AreAscendingEntries};
 ghost use Rattle.sorted_list.specs.SortedLists.{Ascends, IsExact};
@@ -150,14 +151,25 @@ fn reading_of(value: &Value) -> Option<i64>
     }
 }
 
-// The items in ascending order, each once. Takes no memory.
+// The items in ascending order, each once. Takes memory while it sorts, where it can get it.
 fn sorted<T: Ord + Drop>(items: Vec<T>) -> Vec<T>
     requires exact { IsExact T.cmp }
     ensures ascend { Ascends T.cmp result.items }
     ensures members { (item : T) → Contains result.items item ↔ Contains items.items item }
 {
     let mut items = items;
-    items.sort_unstable();
+    put_in_order(&mut items);
     items.dedup();
     items
+}
+
+// Puts the items into ascending order: by the stable sort, which does the values of a load with
+// fewer comparisons, and where that is refused memory by the sort that takes none.
+fn put_in_order<T: Ord>(items: &mut Vec<T>)
+    ensures permutation { IsPermutation items.old.items items.new.items }
+    ensures sorted { IsSorted T.cmp items.new.items }
+{
+    if items.sort().is_err() {
+        items.sort_unstable();
+    }
 }

@@ -27,7 +27,7 @@ IsWay path Stay = SpellAlike path (seq none)
 IsWay path (Child pattern) = SpellAlike path (step pattern.now)
 IsWay path (InTurn parts) =
     SpellAlike path (seq (trees_of (map path_tree parts.now)))
-    × All IsLabel parts.now × (length parts.now ≤ LEAVES)
+    × All IsLabel parts.now × (2 ≤ length parts.now) × (length parts.now ≤ LEAVES)
 IsWay path (Search machine) = StandsFor machine path
 
 -- a path is walked this way against the edges

@@ -9,4 +9,4 @@ returns-clause-ascend c = c.in_ok-sorted.ensures.ascend
 pub returns-clause-members : goal.returns-clause-members
 returns-clause-members c =
     subst (λ (l : List (Label × Oid)). (arc : Label × Oid) → Contains c.in_ok-sorted.sorted arc ↔ Contains l arc)
-    c.as_slice-2.ensures (c.in_ok-sorted.ensures.members arc_same)
+    c.replace-read.ensures.value (c.in_ok-sorted.ensures.members arc_same)

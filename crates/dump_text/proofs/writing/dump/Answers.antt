@@ -1,25 +1,28 @@
 use Rattle.std.proofs.Common.{◌≡◌, ◌∙◌, ℕ, List, [], ◌∷◌, ◌++◌, map, ap, sym}
 use Rattle.std.specs.Prelude.{pos, codes}
 use Rattle.dump_text.specs.Types.{Oid, Edge}
-use Rattle.dump_text.specs.Dumps.{label_line, name_line, object_line, edge_line, spelled_edge, head_lines}
+use Rattle.dump_text.specs.Dumps.{label_line, name_line, object_line, edge_line, spelled_edge, head_lines, lines_text}
 use Rattle.std.proofs.lemmas.Simd.{map-map}
-use Rattle.dump_text.proofs.LineLaws.{all_lines}
+use Rattle.dump_text.proofs.LineLaws.{goes_on}
 use Rattle.dump_text.proofs.writing.dump.Goals as goal
 
 pub returns : goal.returns
 returns c =
     let labels = c.args.labels.now in
     let graph = c.args.graph.now.graph in
+    let all = c.put.new.self in
+    let first = head_lines (pos 1) (pos graph.next) (pos c.args.nodes) c.args.mode in
     let line : Edge → List ℕ = λ (edge : Edge). edge_line (spelled_edge labels edge) in
     let spelled : map line c.as_slice.result.now ≡ map edge_line (map (spelled_edge labels) graph.edges) =
     ap (λ (l : List Edge). map line l) (c.as_slice.ensures ∙ c.requires.edges) ∙ sym (map-map edge_line (spelled_edge labels) graph.edges) in
-    all_lines c.new-lines.result (head_lines (pos 1) (pos graph.next) (pos c.args.nodes) c.args.mode) (map label_line labels)
-    (map name_line graph.names) (map object_line graph.objects) (map edge_line (map (spelled_edge labels) graph.edges))
-    c.put_head.new.lines c.put_labels.new.lines c.put_names.new.lines c.put_objects.new.lines c.put_edges.new.lines c.push.new.self (codes "end")
-    c.new-lines.ensures
-    (c.in_ok-put_head.ensures ∙ ap (λ (n : ℕ). c.new-lines.result ++ head_lines (pos 1) (pos n) (pos c.args.nodes) c.args.mode) c.next.ensures.number)
-    c.in_ok-put_labels.ensures
-    (c.in_ok-put_names.ensures ∙ ap (λ (l : List (List ℕ × Oid)). c.put_labels.new.lines ++ map name_line l) c.names.ensures)
-    c.in_ok-put_objects.ensures
-    (c.in_ok-put_edges.ensures ∙ ap (λ (l : List (List ℕ)). c.put_objects.new.lines ++ l) spelled)
-    (c.in_ok-push.ensures.ok ∙ ap (λ (t : List ℕ). c.put_edges.new.lines ++ t ∷ []) c.in_ok-from_bytes.ensures)
+    let head : c.put_head.new.dump ≡ lines_text first =
+    c.in_ok-put_head.ensures
+    ∙ (λ i. c.new-dump.ensures i ++ lines_text (head_lines (pos 1) (pos (c.next.ensures.number i)) (pos c.args.nodes) c.args.mode)) in
+    let names = c.in_ok-put_names.ensures ∙ ap (λ (l : List (List ℕ × Oid)). c.put_labels.new.dump ++ lines_text (map name_line l)) c.names.ensures in
+    let edges = c.in_ok-put_edges.ensures ∙ ap (λ (l : List (List ℕ)). c.put_objects.new.dump ++ lines_text l) spelled in
+    goes_on [] c.put_head.new.dump all first _ head
+    (goes_on c.put_head.new.dump c.put_labels.new.dump all (map label_line labels) _ c.in_ok-put_labels.ensures
+    (goes_on c.put_labels.new.dump c.put_names.new.dump all (map name_line graph.names) _ names
+    (goes_on c.put_names.new.dump c.put_objects.new.dump all (map object_line graph.objects) _ c.in_ok-put_objects.ensures
+    (goes_on c.put_objects.new.dump c.put_edges.new.dump all (map edge_line (map (spelled_edge labels) graph.edges)) (codes "end" ∷ [])
+    edges c.in_ok-put.ensures.ok))))

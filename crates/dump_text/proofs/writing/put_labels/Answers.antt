@@ -11,6 +11,6 @@ labels-preserved c =
     let count = c.len-place-end.ensures.count in
     let inside = c.labels-test.true in
     let low : place < length labels = omega (arith, count, inside) in
-    let is = c.in_ok-label_line.ensures ∙ ap label_line (c.text_in.ensures ∙ unwrap_or-slice_get labels place []) in
-    lines_more label_line c.args.lines.now c.labels.lines c.push.new.self labels place [] c.in_ok-label_line.field-0
-    low is c.in_ok-push.ensures.ok c.labels.invariant
+    let is = ap label_line (c.text_in.ensures ∙ unwrap_or-slice_get labels place []) in
+    lines_more label_line c.args.dump.now c.labels.dump c.put_label_line.new.dump labels place []
+    (label_line c.text_in.result.now) low is c.in_ok-put_label_line.ensures c.labels.invariant

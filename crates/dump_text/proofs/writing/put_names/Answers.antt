@@ -19,6 +19,6 @@ names-preserved c =
     let size : length items ≡ length names = ap length keys ∙ length-map names (λ entry. entry.0) in
     let inside = c.names-test.true in
     let low : place < length names = omega (arith, size, inside) in
-    lines_more name_line c.args.lines.now c.names.lines c.push.new.self names place (name, oid) c.in_ok-name_line.field-0
-    low (c.in_ok-name_line.ensures ∙ ap name_line (name_here names items oids place name name oid none keys objects low c.name-item.is refl))
-    c.in_ok-push.ensures.ok c.names.invariant
+    let is = name_here names items oids place name name oid none keys objects low c.name-item.is refl in
+    lines_more name_line c.args.dump.now c.names.dump c.put_name_line.new.dump names place (name, oid)
+    (name_line (name, oid)) low (ap name_line is) c.in_ok-put_name_line.ensures c.names.invariant

@@ -1,4 +1,4 @@
-use Rattle.std.proofs.Common.{◌≡◌, ◌<◌, ◌∙◌, length, get_or, map, ap, arith, refl}
+use Rattle.std.proofs.Common.{◌≡◌, ◌<◌, length, get_or, map, ap, arith, refl}
 use Rattle.dump_text.specs.Types.{Complex}
 use Rattle.dump_text.specs.Dumps.{object_line}
 use Rattle.dump_text.proofs.LineLaws.{lines_more, object_at, object_here, object_live}
@@ -28,5 +28,5 @@ places-preserved c =
     let value = c.value_in.ensures at.1 (object_live objects oids place oid oid Complex refl low here) in
     let number = object_here objects oids place oid oid Complex refl low here in
     let is : (oid, c.value_in.result.now) ≡ at = λ k. (number k, value k) in
-    lines_more object_line c.args.lines.now c.places.lines c.push.new.self objects place (oid, Complex) c.in_ok-object_line.field-0
-    low (c.in_ok-object_line.ensures ∙ ap object_line is) c.in_ok-push.ensures.ok c.places.invariant
+    lines_more object_line c.args.dump.now c.places.dump c.put_object_line.new.dump objects place (oid, Complex)
+    (object_line (oid, c.value_in.result.now)) low (ap object_line is) c.in_ok-put_object_line.ensures c.places.invariant

@@ -5,6 +5,6 @@ use Rattle.link_index.proofs.link_lists.sorted_links.Goals as goal
 
 pub returns : goal.returns
 returns c =
-    let found = c.as_slice-2.ensures ∙ c.in_ok-links.ensures ∙ ap (map link_at) c.as_slice.ensures in
+    let found = c.in_ok-links.ensures ∙ ap (map link_at) c.as_slice.ensures in
     let sorted = c.in_ok-sorted.ensures in
     rw c.into_items.ensures (sorted-links _ _ _ found sorted.ascend (sorted.members same_link))

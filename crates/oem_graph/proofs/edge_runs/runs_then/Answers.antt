@@ -8,8 +8,8 @@ use Rattle.oem_graph.specs.inside.Planned.{planned}
 use Rattle.oem_graph.proofs.PartLaws.{AllPairs-back}
 use Rattle.oem_graph.proofs.edge_runs.runs_then.Goals as goal
 
-pub run_of-requires-in-Behind : goal.run_of-requires-in-Behind
-run_of-requires-in-Behind c =
+pub run_in-requires-in-Behind : goal.run_in-requires-in-Behind
+run_in-requires-in-Behind c =
     let kept = c.args.kept.now in
     let plan = ap (λ (p : PlannedItems Edge). list_then kept (planned p)) c.in-Behind.is in
     let edges = ap (λ (l : List Edge). kept ++ l) c.as_slice.ensures.value ∙ sym plan in

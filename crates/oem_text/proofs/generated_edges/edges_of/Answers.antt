@@ -15,9 +15,9 @@ returns c =
     let parent : c.edge.result.parent.0 ≡ next + 0 = omega (arith, c.edge.ensures.parent) in
     let child : c.edge.result.child.0 ≡ next + (4 * count + 11 + 0) = omega (arith, c.edge.ensures.child, links) in
     let ring = edge_own c.edge.result next table (ring_arc count) parent (c.edge.ensures.label ∙ label_at table labels 8 _ same (omega arith)) child in
-    edges_all next count table c.in_ok-edges.edges c.put_persons.new.edges c.put_clubs.new.edges c.put_members.new.edges c.put_leaders.new.edges
-    c.push.new.self c.put_links.new.edges c.edge.result c.in_ok-edges.ensures (c.in_ok-put_persons.ensures table same)
+    edges_all next count table c.in_ok-edges.edges c.put_persons.new.edges c.put_clubs.new.edges c.push.new.self c.put_edges_of_persons.new.edges
+    c.put_edges_of_clubs.new.edges c.put_links.new.edges c.edge.result c.in_ok-edges.ensures
+    (c.in_ok-put_persons.ensures table (label_at table labels 0 _ same (omega arith)))
     (c.in_ok-put_clubs.ensures table count (label_at table labels 5 _ same (omega arith)) clubs)
-    (c.in_ok-put_members.ensures table (label_at table labels 6 _ same (omega arith)))
-    (c.in_ok-put_leaders.ensures table count (label_at table labels 7 _ same (omega arith)) clubs)
-    ring c.in_ok-push.ensures.ok (c.in_ok-put_links.ensures table next count (label_at table labels 9 _ same (omega arith)) links)
+    ring c.in_ok-push.ensures.ok (c.in_ok-put_edges_of_persons.ensures table same) (c.in_ok-put_edges_of_clubs.ensures table same)
+    (c.in_ok-put_links.ensures table next count (label_at table labels 9 _ same (omega arith)) links)

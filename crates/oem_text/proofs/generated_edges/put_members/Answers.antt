@@ -1,17 +1,37 @@
-use Rattle.std.proofs.Common.{◌≡◌, ℕ, ◌+◌, ◌*◌, ◌%◌, ap, ◌∙◌, arith}
-use Rattle.oem_text.specs.Generated.{person_place, member_arc}
-use Rattle.oem_text.proofs.GeneratedEdgeLaws.{edge_more}
+use Rattle.std.proofs.Common.{◌≡◌, ℕ, List, ◌+◌, ◌%◌, ◌≤◌, ◌++◌, map, ap, ◌∙◌, arith}
+use Rattle.oem_text.specs.Layouts.{edge_from}
+use Rattle.oem_text.specs.Generated.{club_place, person_place, member_arc}
+use Rattle.oem_text.proofs.LaidLaws.{edge_own}
+use Rattle.oem_text.proofs.GeneratedClubs.{members_first}
+use Rattle.oem_text.proofs.GeneratedEdgeLaws.{member_more}
 use Rattle.oem_text.proofs.generated_edges.put_members.Goals as goal
+
+pub members-init : goal.members-init
+members-init c =
+    let first = c.first_member-i.ensures in
+    let same = members_first c.args.count c.args.c c.first_member-i.result first.digit first.some first.first in
+    record {
+      digit = first.digit;
+      some = first.some;
+      edges = λ table label.
+          ap (λ (l : List ℕ). c.args.edges.now ++ map (edge_from c.args.next table) (map (member_arc c.args.count c.args.c) l)) same;
+    }
 
 pub members-preserved : goal.members-preserved
 members-preserved c =
-    λ table label.
-    let at = c.members.place in
+    let next = c.args.next in
     let count = c.args.count in
-    let turn : at + 1 ≡ 1 + at = omega arith in
-    let club : c.from-in-members.result ≡ (1 + at) % 10 = c.from-in-members.ensures ∙ ap (λ (i : ℕ). i % 10) turn in
-    let parent : c.edge.result.parent.0 ≡ c.args.next + (4 * count + 1 + (1 + at) % 10) = omega (arith, c.edge.ensures.parent, c.from.ensures, club) in
-    let child : c.edge.result.child.0 ≡ c.args.next + person_place (1 + at) =
-    c.edge.ensures.child ∙ c.person.ensures ∙ ap (λ (i : ℕ). c.args.next + person_place i) turn in
-    edge_more (member_arc count) c.args.next table c.args.edges.now c.members.edges c.push.new.self 1 at c.edge.result (c.members.invariant table label)
-    parent (c.edge.ensures.label ∙ label) child c.in_ok-push.ensures.ok
+    let i = c.members.i in
+    let held = c.members.invariant in
+    let low : i ≤ count = omega (arith, c.members-test.true) in
+    let digit : (i + 10) % 10 ≡ c.args.c = omega (arith, held.digit) in
+    let parent : c.edge.result.parent.0 ≡ next + club_place count c.args.c = c.edge.ensures.parent ∙ c.club-parent.ensures in
+    let child : c.edge.result.child.0 ≡ next + person_place i = c.edge.ensures.child ∙ c.person.ensures in
+    record {
+      digit = digit;
+      some = omega (arith, held.some);
+      edges = λ table label. (
+          let own = edge_own c.edge.result next table (member_arc count c.args.c i) parent (c.edge.ensures.label ∙ label) child in
+          member_more next table c.members.edges c.push.new.self _ count c.args.c i c.edge.result held.digit low (held.edges table label) own
+          c.in_ok-push.ensures.ok);
+    }

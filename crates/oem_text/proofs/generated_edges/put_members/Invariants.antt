@@ -1,9 +1,18 @@
-use Rattle.std.proofs.Common.{◌≡◌, ◌++◌, ℕ, List, map, codes}
+use Rattle.std.proofs.Common.{◌≡◌, ◌+◌, ◌-◌, ◌%◌, ◌≤◌, ◌++◌, ℕ, List, map, codes}
 use Rattle.oem_labels.specs.Labels.{label_in}
 use Rattle.oem_text.specs.Layouts.{edge_from}
-use Rattle.oem_text.specs.Generated.{numbers_from, member_arc}
+use Rattle.oem_text.specs.Generated.{member_arc, members_of}
+use Rattle.oem_text.proofs.GeneratedClubs.{members_from}
 use Rattle.oem_text.proofs.generated_edges.put_members.Given as goal
 
 abbrev pub invariant-members : goal.invariant-members
-invariant-members l = (table : List (List ℕ)) → l.label ≡ label_in table (codes "member")
-    → l.edges ≡ l.fn.edges ++ map (edge_from l.next table) (map (member_arc l.count) (numbers_from 1 l.place))
+invariant-members l = record {
+  digit : l.i % 10 ≡ l.c;
+  some : 1 ≤ l.i;
+  edges : (table : List (List ℕ)) → l.label ≡ label_in table (codes "member")
+      → l.edges ++ map (edge_from l.next table) (map (member_arc l.count l.c) (members_from l.count l.c l.i))
+      ≡ l.fn.edges ++ map (edge_from l.next table) (map (member_arc l.count l.c) (members_of l.count l.c));
+}
+
+abbrev pub decreases-members : goal.decreases-members
+decreases-members l = l.count + 1 - l.i

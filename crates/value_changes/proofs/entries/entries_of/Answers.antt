@@ -10,7 +10,7 @@ use Rattle.value_changes.proofs.entries.entries_of.Goals as goal
 use Rattle.value_changes.proofs.entries.entries_of.Goals.{in-Some+in_ok-try_copy+in_ok-push, in_default}
 
 pub pairs-init : goal.pairs-init
-pairs-init g c = rw c.new-entries.ensures (entries-none _)
+pairs-init g c = rw c.in_ok-entries.ensures (entries-none _)
 
 the_same : (a b : Value) → Some a ≡ Some b → a ≡ b
 the_same a b h = cc

@@ -7,7 +7,7 @@ use Rattle.value_changes.proofs.pairs.kept_edges.Goals as goal
 use Rattle.value_changes.proofs.pairs.kept_edges.Goals.{then-not-is_among+in_ok-push, else-not-is_among}
 
 pub edges-init : goal.edges-init
-edges-init c = rw c.new-kept.ensures (kept-none _)
+edges-init c = rw c.in_ok-kept.ensures (kept-none _)
 
 pub edges-preserved : goal.edges-preserved
 edges-preserved c =

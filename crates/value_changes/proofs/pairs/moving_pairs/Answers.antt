@@ -8,7 +8,7 @@ use Rattle.value_changes.proofs.pairs.moving_pairs.Goals as goal
 use Rattle.value_changes.proofs.pairs.moving_pairs.Goals.{then-is_among+in_ok-push, then-is_among-via-then-is_among, then-is_among-via-else-is_among+then-not-is_among, else-is_among+else-not-is_among}
 
 pub pairs-init : goal.pairs-init
-pairs-init c = rw c.new-moving.ensures (moving-none _ _)
+pairs-init c = rw c.in_ok-moving.ensures (moving-none _ _)
 
 pub pairs-preserved : goal.pairs-preserved
 pairs-preserved c =

@@ -11,5 +11,5 @@ returns c =
     let all = c.in_ok-add_pairs.ensures
     ∙ ap (λ (l : List Pair). l ++ map pair_of c.args.entering.now) c.in_ok-pairs.ensures in
     let sorted = c.in_ok-sorted.ensures in
-    set-sorted pair_cmp Passes c.as_slice.result.now c.in_ok-sorted.sorted sorted.ascend (sorted.members same_pair)
-    (λ pair. subst (λ (l : List Pair). Contains l pair ↔ Passes pair) (sym (c.as_slice.ensures ∙ all)) (paired c.args.entering.now pair))
+    set-sorted pair_cmp Passes c.add_pairs.new.pairs c.in_ok-sorted.sorted sorted.ascend (sorted.members same_pair)
+    (λ pair. subst (λ (l : List Pair). Contains l pair ↔ Passes pair) (sym all) (paired c.args.entering.now pair))

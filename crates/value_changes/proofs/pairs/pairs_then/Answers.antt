@@ -15,9 +15,9 @@ returns c =
     let keeps = kept-sorted c.args.entering.now c.args.lost.now c.in_ok-gone.gone c.in_ok-kept.kept (c.in_ok-gone.ensures.members same_edge)
     (rw c.as_slice.ensures at c.in_ok-kept.ensures) in
     let first = c.in_ok-add_pairs.ensures
-    ∙ ap (λ (l : List Pair). l ++ map pair_of c.as_slice-2.result.now) c.new-pairs.ensures
+    ∙ ap (λ (l : List Pair). l ++ map pair_of c.as_slice-2.result.now) c.in_ok-pairs.ensures
     ∙ ap (map pair_of) c.as_slice-2.ensures in
     let all = c.in_ok-add_pairs-2.ensures ∙ ap (λ (l : List Pair). l ++ of_fresh) first in
-    set-sorted pair_cmp Passes c.as_slice-3.result.now c.in_ok-sorted.sorted sorted.ascend (sorted.members same_pair)
-    (λ pair. subst (λ (l : List Pair). Contains l pair ↔ Passes pair) (sym (c.as_slice-3.ensures ∙ all))
+    set-sorted pair_cmp Passes c.add_pairs-2.new.pairs c.in_ok-sorted.sorted sorted.ascend (sorted.members same_pair)
+    (λ pair. subst (λ (l : List Pair). Contains l pair ↔ Passes pair) (sym all)
     (paired_then c.args.entering.now c.args.lost.now c.args.fresh.now c.in_ok-kept.kept keeps pair))

@@ -1,9 +1,7 @@
-use Rattle.std.proofs.Common.{◌++◌, List, [], length, map, refl, ap, ◌∙◌, subst, arith}
+use Rattle.std.proofs.Common.{[], length, map, refl, subst, arith}
 use Rattle.std.proofs.lemmas.Result.{on_ok_weaker}
 use Rattle.lore_base.specs.Paths.{path_tree, trees_of, seq, Reaches}
 use Rattle.lore_base.specs.declared.paths.Path.{Path}
-use Rattle.lore_base.proofs.TargetLaws.{ListsInOrder-same}
-use Rattle.product_walk.specs.Types.{Oid}
 use Rattle.product_walk.specs.ProductWalks.{IsWalked, IsAcceptedFrom, reads_out}
 use Rattle.product_walk.specs.inside.Arcs.{along}
 use Rattle.product_walk.specs.inside.Ways.{GoesBy, IsWay}
@@ -27,29 +25,39 @@ returns-in-Child-clause-steps g c =
     on_ok_weaker c.append_ends.result
     (one_read (reads_out edges) (IsWalked edges c.args.from) c.args.from c.args.steps.now c.append_ends.new.steps ([], refl)) c.append_ends.ensures.steps
 
-pub returns-in_ok-found-in-InTurn-clause-objects : goal.returns-in_ok-found-in-InTurn-clause-objects
-returns-in_ok-found-in-InTurn-clause-objects g c =
+pub reach_in_turn-requires-clause-labels : goal.reach_in_turn-requires-clause-labels
+reach_in_turn-requires-clause-labels g c =
+    let path = path_tree c.args.self.now in
+    let way = subst (IsWay path) c.in-InTurn.is (subst (λ (p : Path). IsWay (path_tree p) c.self.inside.way) c.self.view_is c.self.invariant) in
+    way.1
+
+pub reach_in_turn-requires-clause-two : goal.reach_in_turn-requires-clause-two
+reach_in_turn-requires-clause-two g c =
+    let path = path_tree c.args.self.now in
+    let way = subst (IsWay path) c.in-InTurn.is (subst (λ (p : Path). IsWay (path_tree p) c.self.inside.way) c.self.view_is c.self.invariant) in
+    way.2
+
+pub returns-in-InTurn-clause-objects : goal.returns-in-InTurn-clause-objects
+returns-in-InTurn-clause-objects g c =
     let labels = g.T.LabelTest.texts c.args.labels.now in
     let edges = g.A.Adjacent.edges c.args.graph.now in
     let path = path_tree c.args.self.now in
     let turn = seq (trees_of (map path_tree c.in-InTurn.parts.now)) in
-    let found = c.in_ok-found-in-InTurn.found in
     let way = subst (IsWay path) c.in-InTurn.is (subst (λ (p : Path). IsWay (path_tree p) c.self.inside.way) c.self.view_is c.self.invariant) in
-    let lists = ListsInOrder-same (Reaches labels edges turn c.args.from) (Reaches labels edges path c.args.from) found
-    (alike_reaches path turn way.0 labels edges c.args.from) c.in_ok-found-in-InTurn.ensures.objects in
-    on_ok_weaker c.append.result (λ is. (found, is ∙ ap (λ (l : List Oid). c.args.buf.now ++ l) c.as_slice.ensures, lists)) c.append.ensures.ok
+    lists_same c.reach_in_turn.result (Reaches labels edges turn c.args.from) (Reaches labels edges path c.args.from) c.args.buf.now c.reach_in_turn.new.buf
+    (alike_reaches path turn way.0 labels edges c.args.from) c.reach_in_turn.ensures.objects
 
-pub returns-in_ok-found-in-InTurn-clause-steps : goal.returns-in_ok-found-in-InTurn-clause-steps
-returns-in_ok-found-in-InTurn-clause-steps g c =
+pub returns-in-InTurn-clause-steps : goal.returns-in-InTurn-clause-steps
+returns-in-InTurn-clause-steps g c =
     let edges = g.A.Adjacent.edges c.args.graph.now in
     let path = path_tree c.args.self.now in
     let way = subst (IsWay path) c.in-InTurn.is (subst (λ (p : Path). IsWay (path_tree p) c.self.inside.way) c.self.view_is c.self.invariant) in
-    on_ok_weaker c.append.result
-    (λ is. few_reads (length c.in-InTurn.parts.now) (reads_out edges) (IsWalked edges c.args.from) c.args.steps.now c.reached_in_turn.new.steps (omega (arith, way.2)) c.in_ok-found-in-InTurn.ensures.steps)
-    c.append.ensures.ok
+    on_ok_weaker c.reach_in_turn.result
+    (few_reads (length c.in-InTurn.parts.now) (reads_out edges) (IsWalked edges c.args.from) c.args.steps.now c.reach_in_turn.new.steps (omega (arith, way.3)))
+    c.reach_in_turn.ensures.steps
 
-pub returns-in-Search-clause-objects : goal.returns-in-Search-clause-objects
-returns-in-Search-clause-objects g c =
+pub returns-clause-objects : goal.returns-clause-objects
+returns-clause-objects g c =
     let labels = g.T.LabelTest.texts c.args.labels.now in
     let edges = g.A.Adjacent.edges c.args.graph.now in
     let path = path_tree c.args.self.now in

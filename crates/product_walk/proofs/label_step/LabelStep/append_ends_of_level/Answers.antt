@@ -1,14 +1,13 @@
-use Rattle.std.proofs.Common.{◌≡◌, ◌↔◌, ◌+◌, List, take, length, get_or, Contains, sym, ap, ◌∙◌, subst, arith}
+use Rattle.std.proofs.Common.{◌≡◌, ◌+◌, List, take, length, get_or, sym, ap, ◌∙◌, subst, arith}
 use Rattle.std.specs.List.{sum_by}
+use Rattle.std.proofs.lemmas.Result.{on_ok_weaker}
 use Rattle.std.proofs.lemmas.List.{take_more}
 use Rattle.std.proofs.lemmas.List.Sums.{sum_by_more}
 use Rattle.std.proofs.Math.Seq.{take-length}
-use Rattle.lore_base.specs.TargetSets.{ListsInOrder}
-use Rattle.lore_base.proofs.TargetLaws.{ListsInOrder-same}
 use Rattle.product_walk.specs.Types.{Oid}
-use Rattle.product_walk.specs.inside.Ways.{GoesBy, FromSome}
-use Rattle.product_walk.proofs.LevelLaws.{from_more}
-use Rattle.product_walk.proofs.label_step.LabelStep.ends_of.Goals as goal
+use Rattle.product_walk.specs.inside.Ways.{GoesBy, FromSome, ExtendsByAll}
+use Rattle.product_walk.proofs.LevelLaws.{some_more, in_order_extends}
+use Rattle.product_walk.proofs.label_step.LabelStep.append_ends_of_level.Goals as goal
 
 pub oids-preserved : goal.oids-preserved
 oids-preserved g c =
@@ -19,9 +18,9 @@ oids-preserved g c =
     let first : Oid = record { 0 = 0 } in
     let oid : Oid = get_or level place first in
     record {
-      found =
-          subst (λ (l : List Oid). (o : Oid) → Contains c.push_ends.new.buf o ↔ FromSome leads l o) (sym (take_more level place first c.oids-test.true))
-          (from_more leads (take place level) oid c.oids.next c.push_ends.new.buf c.oids.invariant.found c.in_ok-push_ends.ensures.ok);
+      grown =
+          subst (λ (l : List Oid). ExtendsByAll (FromSome leads l) c.args.buf.now c.push_ends.new.buf) (sym (take_more level place first c.oids-test.true))
+          (some_more leads (take place level) oid c.args.buf.now c.oids.buf c.push_ends.new.buf c.oids.invariant.grown c.in_ok-push_ends.ensures.ok);
       taken = omega (arith, c.oids.invariant.taken, c.in_ok-push_ends.ensures.steps, sum_by_more (g.D.Direction.reads edges) level place first c.oids-test.true);
     }
 
@@ -32,10 +31,9 @@ returns-clause-objects g c =
     let level = c.args.level.now in
     let done : c.oids.oid-index ≡ length level = omega (arith, c.oids-test.false, c.oids.auto.oid-index-end) in
     let whole : take c.oids.oid-index level ≡ level = ap (λ n. take n level) done ∙ take-length level in
-    let found = subst (λ (l : List Oid). (o : Oid) → Contains c.oids.next o ↔ FromSome leads l o) whole c.oids.invariant.found in
-    let placed = c.in_ok-put_in_order.ensures.ok in
-    ListsInOrder-same (Contains c.oids.next) (FromSome leads level) c.put_in_order.new.buf found
-    (subst (λ (l : List Oid). ListsInOrder (Contains c.oids.next) l) (sym placed.1) placed.2)
+    let grown = subst (λ (l : List Oid). ExtendsByAll (FromSome leads l) c.args.buf.now c.oids.buf) whole c.oids.invariant.grown in
+    in_order_extends c.put_in_order.result (FromSome leads level) c.args.buf.now c.oids.buf c.put_in_order.new.buf
+    c.len-first.result c.len-first.ensures grown c.put_in_order.ensures.ok
 
 pub returns-clause-steps : goal.returns-clause-steps
 returns-clause-steps g c =
@@ -43,4 +41,5 @@ returns-clause-steps g c =
     let level = c.args.level.now in
     let done : c.oids.oid-index ≡ length level = omega (arith, c.oids-test.false, c.oids.auto.oid-index-end) in
     let whole : take c.oids.oid-index level ≡ level = ap (λ n. take n level) done ∙ take-length level in
-    c.oids.invariant.taken ∙ ap (λ (l : List Oid). c.args.steps.now + sum_by (g.D.Direction.reads edges) l) whole
+    on_ok_weaker c.put_in_order.result (λ _. c.oids.invariant.taken ∙ ap (λ (l : List Oid). c.args.steps.now + sum_by (g.D.Direction.reads edges) l) whole)
+    c.put_in_order.ensures.ok

@@ -1,14 +1,13 @@
-use Rattle.std.proofs.Common.{◌≡◌, ◌↔◌, ◌+◌, take, Contains}
+use Rattle.std.proofs.Common.{◌≡◌, ◌+◌, take}
 use Rattle.std.specs.List.{sum_by}
-use Rattle.product_walk.specs.Types.{Oid}
-use Rattle.product_walk.specs.inside.Ways.{GoesBy, FromSome}
-use Rattle.product_walk.proofs.label_step.LabelStep.ends_of.Given as goal
+use Rattle.product_walk.specs.inside.Ways.{GoesBy, FromSome, ExtendsByAll}
+use Rattle.product_walk.proofs.label_step.LabelStep.append_ends_of_level.Given as goal
 
 abbrev pub invariant-oids : goal.invariant-oids
 invariant-oids g l =
     let edges = g.D.Arcs.edges l.self.direction in
     let leads = GoesBy (g.T.LabelTest.texts l.self.labels.now) (g.D.Arcs.goes edges) l.self.pattern.now in
     record {
-      found : (oid : Oid) → Contains l.next oid ↔ FromSome leads (take l.oid-index l.level) oid;
+      grown : ExtendsByAll (FromSome leads (take l.oid-index l.level)) l.initial.buf l.buf;
       taken : l.steps ≡ l.initial.steps + sum_by (g.D.Direction.reads edges) (take l.oid-index l.level);
     }
