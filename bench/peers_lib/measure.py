@@ -6,7 +6,10 @@ import sys
 from typing import NamedTuple
 
 LIMIT = 60
-RUNS = 7
+# All that is measured is gone through in passes, with so many runs of each process in one, so that a bad moment of the machine hits
+# a few runs of many cells and not all runs of one.
+PASSES = 4
+RUNS = 2
 
 
 class Cost(NamedTuple):
@@ -40,16 +43,29 @@ def head(path):
         return source.read(400).decode(errors="replace")
 
 
-def measured(start, runs=RUNS):
-    """The cost of so many runs, or None; `start` makes what a run needs and gives what `once` takes."""
-    found = []
-    for _ in range(runs):
-        one = once(*start())
-        if one is None:
+class Tally:
+    """The runs of one process so far; none counts once one has passed the limit."""
+
+    def __init__(self):
+        self.runs = []
+        self.stopped = False
+
+    def add(self, start, runs=RUNS):
+        """Runs it so often; `start` makes what a run needs and gives what `once` takes."""
+        for _ in range(0 if self.stopped else runs):
+            one = once(*start())
+            if one is None:
+                self.stopped = True
+                return
+            self.runs.append(one)
+
+    def cost(self):
+        """The cost of its runs, or None."""
+        if self.stopped or not self.runs:
             return None
-        found.append(one)
-    times, peaks = (sorted(numbers) for numbers in zip(*found))
-    return Cost(times[0], times[runs // 2] - times[0], peaks[runs // 2])
+        times, peaks = (sorted(numbers) for numbers in zip(*self.runs))
+        middle = len(times) // 2
+        return Cost(times[0], times[middle] - times[0], peaks[middle])
 
 
 def apart(work, *words):

@@ -5,7 +5,7 @@ import sys
 import time
 
 from peers_lib.data import make
-from peers_lib.measure import LIMIT, RUNS, apart, measured, own_peak
+from peers_lib.measure import LIMIT, PASSES, RUNS, Tally, apart, own_peak
 from peers_lib.questions import DUMP, LOAD, NAMES, RESTORE
 
 # The milliseconds that a question has to cost at least, so that its time can be told.
@@ -56,15 +56,22 @@ def compare(tools, work, size):
             )
 
 
-def answered(tool, work, person, runs=RUNS):
-    """The cost of the question, said once, with its answer in a file of its own."""
-    return measured(lambda: tool.start(work, person, 1, f"{work.name}-{tool.name}"), runs)
+def answer(tally, tool, work, person, runs=RUNS):
+    """Says the question once a run, with its answer in a file of its own."""
+    tally.add(lambda: tool.start(work, person, 1, f"{work.name}-{tool.name}"), runs)
+
+
+def is_answered(tool, work, person):
+    """Whether the question is answered within the limit."""
+    tally = Tally()
+    answer(tally, tool, work, person, 1)
+    return tally.cost() is not None
 
 
 def prepare(tools, size):
     """Makes the data, and of each tool what its other questions need: gives the tools that keep the limit there."""
     apart(make, size)
-    return [tool for tool in tools if all(answered(tool, work, person_of(size), 1) for work in (LOAD, DUMP))]
+    return [tool for tool in tools if all(is_answered(tool, work, person_of(size)) for work in (LOAD, DUMP))]
 
 
 def shown(milliseconds):
@@ -78,33 +85,57 @@ def repeats(left, idle):
     return 100 if left < enough / 10 else 10 if left < enough else 1
 
 
-def alone(tool, work, person, idle, whole):
-    """The milliseconds of the question without what its process costs anyway."""
-    times = repeats(whole.time - idle.time, idle.time)
-    cost = whole if times == 1 else measured(lambda: tool.start(work, person, times, "again"))
-    if cost is None:
-        return STOPPED
-    left, spread = cost.time - idle.time, cost.spread + idle.spread
-    return f"< {shown(spread / times)}" if left < spread else shown(left / times)
+def askers(tools, work):
+    return [tool for tool in tools if tool.asks(work) is not None]
 
 
-def cell(tool, work, person, idle, whole):
-    if whole is None:
-        return STOPPED
-    own = "-" if work in (LOAD, RESTORE) else alone(tool, work, person, idle, whole)
-    floor = own_peak()
-    peak = f"{whole.peak:.0f}" if whole.peak > floor else f"≤ {floor:.0f}"
-    return f"{shown(whole.time)} / {own} / {peak}"
+class Measuring:
+    """The runs of each tool with no question, with each question, and with it said often enough."""
 
+    def __init__(self, size):
+        self.size = size
+        self.person = person_of(size)
+        self.idle, self.whole, self.again, self.times = {}, {}, {}, {}
 
-def row(tools, work, size, idle):
-    """The cells of a question by tool, of those that have one. `idle` is what a tool costs without any question."""
-    asked = [tool for tool in tools if tool.asks(work) is not None]
-    person = person_of(size)
-    whole = {tool: answered(tool, work, person) if tool in idle else None for tool in asked}
-    if work.compared:
-        apart(compare, [tool for tool in asked if whole[tool]], work, size)
-    return {tool: cell(tool, work, person, idle.get(tool), whole[tool]) for tool in asked}
+    def go_through(self, tools, works):
+        """One pass over all. Answers are compared in the first."""
+        is_first = not self.idle
+        for tool in tools:
+            self.idle.setdefault(tool, Tally()).add(lambda: tool.start(NAMES, 1, 0, "nothing"))
+        for work in works:
+            for tool in askers(tools, work):
+                answer(self.whole.setdefault((tool, work), Tally()), tool, work, self.person)
+            if is_first and work.compared:
+                apart(compare, [tool for tool in askers(tools, work) if self.whole[tool, work].cost()], work, self.size)
+            for tool in askers(tools, work):
+                self.repeat(tool, work)
+
+    def repeat(self, tool, work):
+        """Says the question so often in a process that its time can be told from that of the process."""
+        idle, whole = self.idle[tool].cost(), self.whole[tool, work].cost()
+        if whole is None or work in (LOAD, RESTORE):
+            return
+        times = self.times.setdefault((tool, work), repeats(whole.time - idle.time, idle.time))
+        if times > 1:
+            self.again.setdefault((tool, work), Tally()).add(lambda: tool.start(work, self.person, times, "again"))
+
+    def alone(self, tool, work):
+        """The milliseconds of the question without what its process costs anyway."""
+        times, idle = self.times[tool, work], self.idle[tool].cost()
+        cost = (self.whole if times == 1 else self.again)[tool, work].cost()
+        if cost is None:
+            return STOPPED
+        left, spread = cost.time - idle.time, cost.spread + idle.spread
+        return f"< {shown(spread / times)}" if left < spread else shown(left / times)
+
+    def cell(self, tool, work):
+        whole = self.whole[tool, work].cost() if (tool, work) in self.whole else None
+        if whole is None:
+            return STOPPED
+        own = "-" if work in (LOAD, RESTORE) else self.alone(tool, work)
+        floor = own_peak()
+        peak = f"{whole.peak:.0f}" if whole.peak > floor else f"≤ {floor:.0f}"
+        return f"{shown(whole.time)} / {own} / {peak}"
 
 
 def line(cells):
@@ -112,13 +143,15 @@ def line(cells):
 
 
 def show(tools, works, size):
+    there = [tool for tool in tools if tool.path]
+    measuring, able = Measuring(size), prepare(there, size)
+    for _ in range(PASSES):
+        measuring.go_through(able, works)
     print()
     line([f"{size:,} persons: whole ms / question ms / peak MiB"] + [tool.name for tool in tools])
     line(["---"] * (len(tools) + 1))
-    there = [tool for tool in tools if tool.path]
-    idle = {tool: measured(lambda: tool.start(NAMES, 1, 0, "nothing")) for tool in prepare(there, size)}
     for work in works:
-        cells = row(there, work, size, idle)
+        cells = {tool: measuring.cell(tool, work) for tool in askers(there, work)}
         line([work.title] + [cells.get(tool, "-" if tool.path else "not installed") for tool in tools])
 
 
@@ -127,7 +160,7 @@ def tables(tools, works, sizes):
     print(f"{time.strftime('%Y-%m-%d')}, {machine()}: {versions}")
     for size in sizes:
         show(tools, works, size)
-    print(LEGEND.format(runs=RUNS), end="")
+    print(LEGEND.format(runs=PASSES * RUNS), end="")
 
 
 def check(tools, works, size):
@@ -136,7 +169,7 @@ def check(tools, works, size):
     compared = [work for work in works if work.compared]
     for work in compared:
         for tool in tools:
-            if answered(tool, work, person_of(size), 1) is None:
+            if not is_answered(tool, work, person_of(size)):
                 sys.exit(f"peers: {work.name} of {size} persons: {tool.name} needs {STOPPED}")
         apart(compare, tools, work, size)
     print(f"peers: {size} persons: {len(compared)} answers of {' and '.join(tool.name for tool in tools)} are alike")
