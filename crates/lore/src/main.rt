@@ -33,6 +33,20 @@ fn run<L: Ledger>(rt: &HostRuntime, words: &[String], blank: Blank) -> Result<St
     Ok(outcome.status)
 }
 
+// The threshold goes up to 32 MiB; a block of just so many bytes is larger by its header.
+const KEPT_BYTES: usize = 31 << 20;
+
+/// Lets the C library keep blocks of up to 31 MiB when they are freed.
+///
+/// glibc gives a block above a threshold, 128 KiB at first, pages of its own, which go back to the
+/// system with it. When such a block is freed the threshold rises to its size (mallopt(3),
+/// M_MMAP_THRESHOLD). So one is asked for and freed unwritten: the lists of the first load then take
+/// over the pages of its tokens, where the system would have to clear new ones. With another C
+/// library, or where the block is refused, nothing changes.
+fn raise_mmap_threshold(rt: &HostRuntime) {
+    drop(Vec::<u8>::with_capacity(rt.alloc(), KEPT_BYTES));
+}
+
 /// The words after the program's name. One that isn't text is a word all the same, and words are a wrong use.
 fn words(rt: &HostRuntime) -> Result<Vec<String>, Status> {
     match env::args(rt) {
@@ -46,6 +60,7 @@ fn words(rt: &HostRuntime) -> Result<Vec<String>, Status> {
 }
 
 fn main(rt: HostRuntime) -> ExitCode {
+    raise_mmap_threshold(&rt);
     let status = match words(&rt) {
         Ok(words) => run::<Brand>(&rt, words.as_slice(), Blank::new(1)).unwrap_or(Status::NoMemory),
         Err(status) => status,

@@ -14,7 +14,6 @@ pub mod KindLaws
 pub mod TokenLaws
 pub mod ShapeLaws
 pub mod OutcomeLaws
-pub mod CountLaws
 pub mod TableLaws
 pub mod WritingLaws
 pub mod ReadBackLaws

@@ -54,9 +54,6 @@ pub digit_first : (bytes : List ℕ) → class_of (get_or bytes 0 0) ≡ Digit �
 digit_first [] e = absurd (let other : class_of 0 ≡ Other = refl in let same : Digit ≡ Other = sym e ∙ other in cc)
 digit_first (byte ∷ bytes) e = (omega arith, class_says byte Digit e)
 
-pub unsigned_some : (bytes : List ℕ) (len : ℕ) → EndsRun is_ascii_digit bytes len → class_of (get_or bytes 0 0) ≡ Digit → 0 < len
-unsigned_some bytes len run class = let (some, digit) = digit_first bytes class in run_some is_ascii_digit bytes len run some digit
-
 pub no_minus : (byte : ℕ) → is_ascii_digit byte ≡ true → byte ≡ 45 → ⊥
 no_minus byte e is = let range = digit_range byte e in omega arith
 

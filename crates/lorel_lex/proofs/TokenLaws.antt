@@ -154,11 +154,6 @@ pub next_shorter : (at : ℕ) (bytes rest : List ℕ) (token : Token) → IsNext
 next_shorter at bytes rest token n =
     omega (arith, ap length n.stands.parts, length-append n.gap n.place, ap length n.first.parts, length-append n.first.text rest, token_length n.first.text rest token.kind n.first.token)
 
--- a chunk has at most one token for each byte
-pub tokens_few : (at : ℕ) (bytes : List ℕ) (tokens : List Token) → AreTokensFrom at bytes tokens → length tokens ≤ length bytes
-tokens_few at bytes [] f = omega arith
-tokens_few at bytes (token ∷ tokens) (rest, n, f) = omega (arith, next_shorter at bytes rest token n, tokens_few token.end rest tokens f)
-
 -- what completes the tokens so far
 pub record GoesOnFrom (at : ℕ) (chunk : List ℕ) (tokens : List Token) : Type 0 where
   pub within : at ≤ length chunk

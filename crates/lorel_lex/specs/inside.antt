@@ -3,4 +3,3 @@ pub mod Reader
 pub mod Scanning
 pub mod Skipping
 pub mod Lexing
-pub mod Counting

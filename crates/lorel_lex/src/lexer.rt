@@ -4,7 +4,6 @@ ghost use Rattle.lorel_lex.specs.Tokens.{AreTokens, HasFault, HasForm};
 ghost use Rattle.lorel_lex.specs.inside.Lexing.{ReadsFirst};
 
 use crate::byte_class::{ByteClass, class_of};
-use crate::counting::token_room;
 use crate::gaps::gap_len;
 use crate::numbers::{digit_follows, local, signed, unsigned};
 use crate::quoted_texts::{label, text};
@@ -51,7 +50,7 @@ fn first_token(alloc: Global, bytes: &[u8]) -> Result<(Kind, usize), LexFault>
 /// counts, and at one place the first of these: BadToken where no token starts there, RealRefused
 /// where a `.` and a digit follow a number, NumberRange where a number lies outside 64 bits or a
 /// local outside 32, TextTooLong where a text has more than 4,096 bytes, or an identifier, a
-/// pattern or a quoted label more than 255. The list is sized before it is filled.
+/// pattern or a quoted label more than 255.
 pub fn tokens(alloc: Global, chunk: &[u8]) -> Result<TokenList, LexFault>
     requires { length chunk.now ≤ CHUNK_BYTES }
     ensures found { IfOk result (AreTokens chunk.now) }
@@ -61,7 +60,7 @@ pub fn tokens(alloc: Global, chunk: &[u8]) -> Result<TokenList, LexFault>
     if !is_utf8(chunk) {
         return Err(LexFault::BadToken);
     }
-    let mut tokens = TokenList::with_capacity(alloc, token_room(chunk))?;
+    let mut tokens = TokenList::new(alloc);
     let mut at = 0;
     'tokens: while at < chunk.len() {
         let start = at + gap_len(&chunk[at..]);

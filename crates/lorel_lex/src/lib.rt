@@ -9,7 +9,6 @@ pub use token_types::{Kind, LexFault, Sign, Token, TokenList};
 
 mod byte_class;
 mod chunk_reader;
-mod counting;
 mod gaps;
 pub mod laws;
 mod lexer;

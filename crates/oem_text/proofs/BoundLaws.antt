@@ -1,9 +1,7 @@
 -- The edges of a literal join places of its objects, also where they lead to a local that marks one.
-use Rattle.std.proofs.Common.{◌≡◌, ℕ, ◌+◌, ◌<◌, ◌≤◌, List, ◌++◌, length, map, All, Contains, Some, refl, arith, length-append}
+use Rattle.std.proofs.Common.{Option, ◌≡◌, ℕ, ◌+◌, ◌<◌, ◌≤◌, List, ◌++◌, length, map, All, Contains, Some, refl, arith, length-append}
 use Rattle.std.proofs.lemmas.Option.{slice_get_within}
 use Rattle.std.proofs.lemmas.List.Elements.{All-nil, All-cons, All-append, All-weaker, All-contains, All-contains_itself, All-map}
-use Rattle.std.specs.Ordering.{nat_cmp}
-use Rattle.std.specs.BTreeMap.{BTreeMap, get}
 use Rattle.lorel_trees.specs.Trees.{LiteralTree, local, atom, node, MemberTrees, none, more}
 use Rattle.oem_text.specs.Literals.{Body, Arc, Target, placed, called, target, bodies, member_bodies, arcs, member_arcs, arcs_of, place_of}
 use Rattle.oem_text.specs.Layouts.{IsBelow, placed_arc}
@@ -38,8 +36,8 @@ mutual
       (All-append (IsArcBelow count) (arcs place literal) (member_arcs parent next others) (arcs_below count place literal own)
       (members_below count parent next others low (omega (arith, sizes, fits))))
 
-place_below : (xs : List Body) (places : BTreeMap ℕ ℕ) (goal : Target) → ArePlaces xs places → ((place : ℕ) → goal ≡ placed place → place < length xs)
-    → ((number : ℕ) → goal ≡ called number → (place : ℕ) × (get nat_cmp places number ≡ Some place)) → place_of xs goal < length xs
+place_below : (xs : List Body) (places : ℕ → Option ℕ) (goal : Target) → ArePlaces xs places → ((place : ℕ) → goal ≡ placed place → place < length xs)
+    → ((number : ℕ) → goal ≡ called number → (place : ℕ) × (places number ≡ Some place)) → place_of xs goal < length xs
 place_below xs places (placed place) are low found = low place refl
 place_below xs places (called number) are low found =
     let there = found number refl in
@@ -49,7 +47,7 @@ place_below xs places (called number) are low found =
     omega (arith, within, same)
 
 -- the edges between places
-pub joined : (literal : LiteralTree) (places : BTreeMap ℕ ℕ) → ArePlaces (bodies literal) places → All (IsFound places) (arcs_of literal)
+pub joined : (literal : LiteralTree) (places : ℕ → Option ℕ) → ArePlaces (bodies literal) places → All (IsFound places) (arcs_of literal)
     → All (IsBelow (length (bodies literal))) (map (placed_arc (bodies literal)) (arcs_of literal))
 joined literal places are found =
     let xs = bodies literal in

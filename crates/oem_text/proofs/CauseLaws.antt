@@ -1,8 +1,7 @@
 -- Why locals are refused, and that none is once each local has its place.
-use Rattle.std.proofs.Common.{◌≡◌, ℕ, List, [], ◌∷◌, map, All, Contains, refl, sym, ap, subst, ◌∙◌, inl, inr}
+use Rattle.std.proofs.Common.{Option, ◌≡◌, ℕ, List, [], ◌∷◌, map, All, Contains, refl, sym, ap, subst, ◌∙◌, inl, inr}
 use Rattle.std.proofs.lemmas.Option.{none-some}
 use Rattle.std.proofs.lemmas.List.Elements.{All-contains}
-use Rattle.std.specs.BTreeMap.{BTreeMap}
 use Rattle.lore_base.specs.Verdicts.{IsFirst, IsClear}
 use Rattle.lore_base.proofs.MemberLaws.{Contains-none, Contains-head, Contains-tail, Contains-cases, Contains-same}
 use Rattle.lorel_trees.specs.Trees.{LiteralTree, local, atom, node}
@@ -29,7 +28,7 @@ unmapped f (first ∷ xs) y at = elim (Contains-cases (f first) (map f xs) y at)
 double_of : (literal : LiteralTree) → AreDouble (bodies literal) → HasDouble literal
 double_of literal h = record { number = h.number; first = h.first; second = h.second; apart = h.apart; one = h.one; other = h.other }
 
-single_of : (literal : LiteralTree) (places : BTreeMap ℕ ℕ) → ArePlaces (bodies literal) places → HasDouble literal → ⊥
+single_of : (literal : LiteralTree) (places : ℕ → Option ℕ) → ArePlaces (bodies literal) places → HasDouble literal → ⊥
 single_of literal places are h =
     places_single (bodies literal) places are (record { number = h.number; first = h.first; second = h.second; apart = h.apart; one = h.one; other = h.other })
 
@@ -54,7 +53,7 @@ told_local literal number is =
     ))
 
 -- an edge leads to a local that marks nothing
-pub told_undefined : (literal : LiteralTree) (places : BTreeMap ℕ ℕ) (number : ℕ) (arc : Arc) → ArePlaces (bodies literal) places → Contains (arcs_of literal) arc → IsLost places number arc
+pub told_undefined : (literal : LiteralTree) (places : ℕ → Option ℕ) (number : ℕ) (arc : Arc) → ArePlaces (bodies literal) places → Contains (arcs_of literal) arc → IsLost places number arc
     → IsFirst (LocalCause literal) local_order refusals.UndefinedLocal
 told_undefined literal places number arc are at lost =
     let targets = map (λ (a : Arc). a.target) (arcs_of literal) in
@@ -72,7 +71,7 @@ told_undefined literal places number arc are at lost =
     )
 
 -- each local has its place
-pub clear_locals : (literal : LiteralTree) (places : BTreeMap ℕ ℕ) → ((number : ℕ) → literal ≡ local number → ⊥) → ArePlaces (bodies literal) places
+pub clear_locals : (literal : LiteralTree) (places : ℕ → Option ℕ) → ((number : ℕ) → literal ≡ local number → ⊥) → ArePlaces (bodies literal) places
     → All (IsFound places) (arcs_of literal) → IsClear (LocalCause literal) local_order
 clear_locals literal places other are found = (single_of literal places are, (defined, tt))
   where

@@ -1,8 +1,7 @@
 -- A literal whose locals have their places, laid out; and its objects and edges as they get their numbers one by one.
-use Rattle.std.proofs.Common.{◌≡◌, ℕ, ◌+◌, ◌<◌, ◌≤◌, List, [], ◌∷◌, ◌++◌, length, map, take, drop, get_or, All, Contains, sym, ap, subst, ◌∙◌, arith, append_assoc, append-nil, length-append}
+use Rattle.std.proofs.Common.{Option, ◌≡◌, ℕ, ◌+◌, ◌<◌, ◌≤◌, List, [], ◌∷◌, ◌++◌, length, map, take, drop, get_or, All, Contains, sym, ap, subst, ◌∙◌, arith, append_assoc, append-nil, length-append}
 use Rattle.std.proofs.lemmas.List.{length-map, drop_more, take_more, take_all, get_or-map, map_push, map-append, take-append-drop}
 use Rattle.std.proofs.lemmas.List.Elements.{All-get_or}
-use Rattle.std.specs.BTreeMap.{BTreeMap}
 use denote.Ref.{Bor}
 use Rattle.oem_text.specs.Types.{Oid, Label, Edge, Value, LABELS}
 use Rattle.lore_base.specs.Walks.{oid_of, edge_of}
@@ -19,11 +18,11 @@ use Rattle.oem_text.proofs.LayoutLaws.{map-map}
 use Rattle.oem_text.proofs.NumberLaws.{label_in-append, table-with, with_texts-append, has_text, count-then, count-front}
 
 -- ---- all locals have places
-placed_all : (literal : LiteralTree) (places : BTreeMap ℕ ℕ) (links placed : List Link) → link_arcs links ≡ arcs_of literal → ArePlaces (bodies literal) places
+placed_all : (literal : LiteralTree) (places : ℕ → Option ℕ) (links placed : List Link) → link_arcs links ≡ arcs_of literal → ArePlaces (bodies literal) places
     → ((xs : List Body) → ArePlaces xs places → map placed_of placed ≡ map (placed_arc xs) (link_arcs links)) → map placed_of placed ≡ map (placed_arc (bodies literal)) (arcs_of literal)
 placed_all literal places links placed arcs are all = all (bodies literal) are ∙ ap (map (placed_arc (bodies literal))) arcs
 
-pub laid_same : (literal : LiteralTree) (places : BTreeMap ℕ ℕ) (literals : List (Bor Literal)) (links placed shown : List Link) → bodies_of literals ≡ bodies literal
+pub laid_same : (literal : LiteralTree) (places : ℕ → Option ℕ) (literals : List (Bor Literal)) (links placed shown : List Link) → bodies_of literals ≡ bodies literal
     → link_arcs links ≡ arcs_of literal → ArePlaces (bodies literal) places
     → ((xs : List Body) → ArePlaces xs places → map placed_of placed ≡ map (placed_arc xs) (link_arcs links)) → shown ≡ placed → laid_out literals shown ≡ layout_of literal
 laid_same literal places literals links placed shown same arcs are all is =
@@ -32,7 +31,7 @@ laid_same literal places literals links placed shown same arcs are all is =
     ∙ ap (λ (l : List PlacedArc). let made : LaidOut = record { values = map (λ (body : Body). body.value) (bodies literal); arcs = l } in made)
     (placed_all literal places links placed arcs are all)
 
-pub laid_joined : (literal : LiteralTree) (places : BTreeMap ℕ ℕ) → ((number : ℕ) → literal ≡ local number → ⊥) → ArePlaces (bodies literal) places
+pub laid_joined : (literal : LiteralTree) (places : ℕ → Option ℕ) → ((number : ℕ) → literal ≡ local number → ⊥) → ArePlaces (bodies literal) places
     → All (IsFound places) (arcs_of literal) → IsJoined (layout_of literal)
 laid_joined literal places other are found =
     let size = length-map (bodies literal) (λ (body : Body). body.value) in

@@ -1,8 +1,7 @@
 -- The edges of a literal as they are placed one after another, and its objects as they are read.
-use Rattle.std.proofs.Common.{◌≡◌, ℕ, ◌+◌, ◌-◌, ◌<◌, List, [], ◌∷◌, ◌++◌, length, map, take, drop, get_or, slice_set, All, Contains, sym, ap, subst, ◌∙◌, arith, length-drop, add-zero}
+use Rattle.std.proofs.Common.{Option, ◌≡◌, ℕ, ◌+◌, ◌-◌, ◌<◌, List, [], ◌∷◌, ◌++◌, length, map, take, drop, get_or, slice_set, All, Contains, sym, ap, subst, ◌∙◌, arith, length-drop, add-zero}
 use Rattle.std.proofs.lemmas.List.{map_push, map_more, take-map, take_more_set, drop-set-lt, drop-drop, get_or-drop, get_or-map, length-map, length-take-le}
 use Rattle.std.proofs.lemmas.List.Elements.{All-push, Contains-get_or}
-use Rattle.std.specs.BTreeMap.{BTreeMap}
 use denote.Ref.{Bor}
 use Rattle.lorel_trees.specs.Trees.{literal_tree}
 use Rattle.lorel_trees.specs.declared.literals.Literal.{Literal}
@@ -41,7 +40,7 @@ placed_more bodies links all i link placed low is rest before here =
     ∙ sym (map_push (placed_arc bodies) (link_arcs (take i all)) (arc_of link))
     ∙ ap (map (placed_arc bodies)) (sym (arcs_more all i link within there))
 
-pub found_more : (places : BTreeMap ℕ ℕ) (links all : List Link) (i : ℕ) (link : Link) → i < length links → link ≡ get_or links i link → drop i links ≡ drop i all
+pub found_more : (places : ℕ → Option ℕ) (links all : List Link) (i : ℕ) (link : Link) → i < length links → link ≡ get_or links i link → drop i links ≡ drop i all
     → All (IsFound places) (link_arcs (take i all)) → IsFound places (arc_of link) → All (IsFound places) (link_arcs (take (i + 1) all))
 found_more places links all i link low is rest before here =
     subst (λ (l : List Arc). All (IsFound places) l) (sym (arcs_more all i link (within_here links all i low rest) (same_here links all i link is rest)))

@@ -1,11 +1,7 @@
--- Where the objects are that locals mark, as a map of their places grows.
-use Rattle.std.proofs.Common.{◌≡◌, ◌≢◌, ◌⊎◌, ℕ, zero, suc, ◌+◌, ◌==◌, Bool, true, false, true≢false, if◌then◌else◌, Option, List, [], ◌∷◌, ◌++◌, length, Some, None, slice_get, refl, sym, ap, subst, ◌∙◌, inl, inr, arith}
-use Rattle.std.proofs.lemmas.Bool.{cases_eq}
+-- Where the objects are that locals mark, as more of their places are known.
+use Rattle.std.proofs.Common.{◌≡◌, ◌⊎◌, ℕ, zero, suc, ◌+◌, ◌==◌, cond, Bool, true, false, true≢false, if◌then◌else◌, Option, List, [], ◌∷◌, ◌++◌, length, Some, None, slice_get, refl, sym, ap, subst, ◌∙◌, inl, inr, arith}
 use Rattle.std.proofs.lemmas.Option.{none-some, same_Some, slice_get_within}
-use Rattle.std.proofs.lemmas.Bool.Decides.{nat_tests}
-use Rattle.std.specs.Ordering.{nat_cmp}
-use Rattle.std.specs.Map.{lookup}
-use Rattle.std.specs.BTreeMap.{BTreeMap, get, Updates, is_at}
+use Rattle.std.proofs.lemmas.Bool.Decides.{eqb_tells, nat_tests}
 use Rattle.oem_labels.proofs.LabelLaws.{either}
 use Rattle.oem_text.specs.Literals.{Body, IsMarkedAt, is_mark, marked_place}
 use Rattle.oem_text.specs.Layouts.{PlacedArc, placed_arc}
@@ -41,18 +37,12 @@ marked_cases xs b number place h =
       | inr last ↦ inr (last.0, ap (λ (x : Body). x.mark) last.1 ∙ h.marked)
     ]
 
--- ---- the map of places
-pub places_none : (places : BTreeMap ℕ ℕ) → places.entries ≡ [] → ArePlaces [] places
-places_none places none = record {
-  marked = λ number place h. absurd (none-some place (sym (nowhere number) ∙ h));
-  known = λ number place h. absurd (none-some h.body h.at);
-}
-  where
-    nowhere : (number : ℕ) → get nat_cmp places number ≡ None
-    nowhere number = ap (λ (es : List (ℕ × ℕ)). lookup (is_at (nat_cmp number)) es) none
+-- ---- the place of each local
+same_number : (number : ℕ) → (number == number) ≡ true
+same_number number = grind (arith, nat_tests)
 
 -- an object that no local marks
-pub places_same : (xs : List Body) (b : Body) (places : BTreeMap ℕ ℕ) → b.mark ≡ None → ArePlaces xs places → ArePlaces (xs ++ b ∷ []) places
+pub places_same : (xs : List Body) (b : Body) (places : ℕ → Option ℕ) → b.mark ≡ None → ArePlaces xs places → ArePlaces (xs ++ b ∷ []) places
 places_same xs b places none are = record {
   marked = λ number place h. marked_left xs (b ∷ []) number place (are.marked number place h);
   known = λ number place h. elim (marked_cases xs b number place h) [
@@ -62,35 +52,38 @@ places_same xs b places none are = record {
 }
 
 -- an object that a local marks, which marks none before
-pub places_more : (xs : List Body) (b : Body) (number place : ℕ) (old new : BTreeMap ℕ ℕ) → b.mark ≡ Some number → place ≡ length xs → get nat_cmp old number ≡ None
-    → Updates nat_cmp old new number (Some place) → ArePlaces xs old → ArePlaces (xs ++ b ∷ []) new
+pub places_more : (xs : List Body) (b : Body) (number place : ℕ) (old new : ℕ → Option ℕ) → b.mark ≡ Some number → place ≡ length xs → old number ≡ None
+    → ((other : ℕ) → new other ≡ cond (number == other) (Some place) (old other)) → ArePlaces xs old → ArePlaces (xs ++ b ∷ []) new
 places_more xs b number place old new marked is_last unknown updates are = record {
-  marked = λ other at h. elim (cases_eq number other) [
+  marked = λ other at h. elim (eqb_tells number other) [
     | inl same ↦ (
-        let here : Some place ≡ Some at = sym updates.1 ∙ ap (λ (q : ℕ). get nat_cmp new q) same ∙ h in
+        let here : Some place ≡ Some at = sym (put other same.0) ∙ h in
         let last : IsMarkedAt (xs ++ b ∷ []) number (length xs) = marked_last xs b number marked in
         let there : length xs ≡ at = sym is_last ∙ same_Some place at here in
-        subst (λ (q : ℕ). IsMarkedAt (xs ++ b ∷ []) q at) same (subst (λ (p : ℕ). IsMarkedAt (xs ++ b ∷ []) number p) there last))
-    | inr apart ↦ marked_left xs (b ∷ []) other at (are.marked other at (sym (updates.2 other (unlike number other apart)) ∙ h))
+        subst (λ (q : ℕ). IsMarkedAt (xs ++ b ∷ []) q at) same.1 (subst (λ (p : ℕ). IsMarkedAt (xs ++ b ∷ []) number p) there last))
+    | inr apart ↦ marked_left xs (b ∷ []) other at (are.marked other at (sym (stays other apart.0) ∙ h))
   ];
   known = λ other at h. elim (marked_cases xs b other at h) [
     | inl left ↦ (
         let was = are.known other at left in
-        elim (cases_eq number other) [
-          | inl same ↦ absurd (none-some at (sym unknown ∙ ap (λ (q : ℕ). get nat_cmp old q) same ∙ was))
-          | inr apart ↦ updates.2 other (unlike number other apart) ∙ was
+        elim (eqb_tells number other) [
+          | inl same ↦ absurd (none-some at (sym unknown ∙ ap old same.1 ∙ was))
+          | inr apart ↦ stays other apart.0 ∙ was
         ])
     | inr last ↦ (
         let same : number ≡ other = same_Some number other (sym marked ∙ last.1) in
-        ap (λ (q : ℕ). get nat_cmp new q) (sym same) ∙ updates.1 ∙ ap (λ (p : ℕ). Some p) (is_last ∙ sym last.0))
+        sym (ap new same) ∙ put number (same_number number) ∙ ap (λ (p : ℕ). Some p) (is_last ∙ sym last.0))
   ];
 }
   where
-    unlike : (a c : ℕ) → a ≢ c → is_at (nat_cmp a) c ≡ false
-    unlike a c apart = grind arith
+    put : (other : ℕ) → (number == other) ≡ true → new other ≡ Some place
+    put other same = updates other ∙ ap (λ (t : Bool). cond t (Some place) (old other)) same
+
+    stays : (other : ℕ) → (number == other) ≡ false → new other ≡ old other
+    stays other apart = updates other ∙ ap (λ (t : Bool). cond t (Some place) (old other)) apart
 
 -- a local that marks an object before
-pub places_double : (xs : List Body) (b : Body) (number first : ℕ) (places : BTreeMap ℕ ℕ) → b.mark ≡ Some number → get nat_cmp places number ≡ Some first → ArePlaces xs places
+pub places_double : (xs : List Body) (b : Body) (number first : ℕ) (places : ℕ → Option ℕ) → b.mark ≡ Some number → places number ≡ Some first → ArePlaces xs places
     → AreDouble (xs ++ b ∷ [])
 places_double xs b number first places marked known are =
     let before = are.marked number first known in
@@ -114,8 +107,8 @@ double_more xs ys h = record {
   other = marked_left xs ys h.number h.second h.other;
 }
 
--- where there is such a map no local marks two objects
-pub places_single : (xs : List Body) (places : BTreeMap ℕ ℕ) → ArePlaces xs places → AreDouble xs → ⊥
+-- where each local has its place no local marks two objects
+pub places_single : (xs : List Body) (places : ℕ → Option ℕ) → ArePlaces xs places → AreDouble xs → ⊥
 places_single xs places are double =
     let one = are.known double.number double.first double.one in
     let other = are.known double.number double.second double.other in
@@ -129,7 +122,7 @@ is_mark-true None number h = absurd (true≢false (sym h))
 is_mark-true (Some own) number h = let same : own ≡ number = grind (arith, nat_tests) in ap (λ (n : ℕ). Some n) same
 
 is_mark-same : (mark : Option ℕ) (number : ℕ) → mark ≡ Some number → is_mark number mark ≡ true
-is_mark-same mark number h = let here : (number == number) ≡ true = grind (arith, nat_tests) in ap (is_mark number) h ∙ here
+is_mark-same mark number h = ap (is_mark number) h ∙ same_number number
 
 first_here : (b : Body) (xs : List Body) (number : ℕ) → b.mark ≡ Some number → IsMarkedAt (b ∷ xs) number (marked_place (b ∷ xs) number)
 first_here b xs number h =
@@ -151,14 +144,14 @@ first_marked (b ∷ xs) number (suc place) h =
           (record { body = rest.body; at = rest.at; marked = rest.marked }))
     ]
 
--- the map has its place
-pub place_found : (xs : List Body) (places : BTreeMap ℕ ℕ) (number place : ℕ) → ArePlaces xs places → get nat_cmp places number ≡ Some place → marked_place xs number ≡ place
+-- the place that a local has is the first that it marks
+pub place_found : (xs : List Body) (places : ℕ → Option ℕ) (number place : ℕ) → ArePlaces xs places → places number ≡ Some place → marked_place xs number ≡ place
 place_found xs places number place are h =
     let first = first_marked xs number place (are.marked number place h) in
     same_Some (marked_place xs number) place (sym (are.known number (marked_place xs number) first) ∙ h)
 
 -- an edge to a local that has its place
-pub placed_local : (xs : List Body) (places : BTreeMap ℕ ℕ) (parent child place : ℕ) (label : List ℕ) (is_local : Bool) → is_local ≡ true → get nat_cmp places child ≡ Some place → ArePlaces xs places
+pub placed_local : (xs : List Body) (places : ℕ → Option ℕ) (parent child place : ℕ) (label : List ℕ) (is_local : Bool) → is_local ≡ true → places child ≡ Some place → ArePlaces xs places
     → ◌≡◌ {A = PlacedArc} (record { parent = parent; label = label; child = place }) (placed_arc xs (record { parent = parent; label = label; target = target_of is_local child }))
 placed_local xs places parent child place label true is h are =
     ap (λ (n : ℕ). let made : PlacedArc = record { parent = parent; label = label; child = n } in made) (sym (place_found xs places child place are h))

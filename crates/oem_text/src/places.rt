@@ -4,23 +4,24 @@ ghost use Rattle.lorel_trees.specs.Trees.{literal_tree, local};
 ghost use Rattle.oem_text.specs.Literals.{Body as TheBody, Arc as TheArc};
 ghost use Rattle.oem_text.specs.Layouts.{placed_arc};
 ghost use Rattle.oem_text.specs.inside.Views.{body_of, bodies_of, arc_of, link_arcs, placed_of};
-ghost use Rattle.oem_text.specs.inside.Places.{AreDouble, ArePlaces, IsLost, IsFound};
+ghost use Rattle.oem_text.specs.inside.Places.{place_in, AreDouble, ArePlaces, IsLost, IsFound};
 
 use crate::flat::Link;
+use indexmap::IndexMap;
 use lore_base::NoMemory;
 use lorel_trees::Literal;
 use std::alloc::Global;
-use std::collections::BTreeMap;
 
 // The place of the object that each local marks; None exactly where a local marks two.
 pub(crate) fn marked_places(
     alloc: Global,
     literals: &[&Literal],
-) -> Result<Option<BTreeMap<u32, u32>>, NoMemory>
-    ensures some { IfOk result (λ found. IfSome found (ArePlaces (bodies_of literals.now))) }
+) -> Result<Option<IndexMap<u32, u32>>, NoMemory>
+    ensures some { IfOk result (λ found. IfSome found (λ places.
+        ArePlaces (bodies_of literals.now) (place_in places))) }
     ensures none { IfOk result (λ found. IfNone found (AreDouble (bodies_of literals.now))) }
 {
-    let mut places = BTreeMap::new(alloc);
+    let mut places = IndexMap::new(alloc);
     'literals: for (place, literal) in literals.iter().enumerate() {
         if !mark_place(&mut places, place, literal)? {
             return Ok(None);
@@ -31,15 +32,15 @@ pub(crate) fn marked_places(
 
 // Gives the local that marks the object, if any, its place. False exactly where it has one.
 fn mark_place(
-    places: &mut BTreeMap<u32, u32>,
+    places: &mut IndexMap<u32, u32>,
     place: usize,
     literal: &Literal,
 ) -> Result<bool, NoMemory>
-    ensures marked { IfOk result (λ single. (bodies : List TheBody) → ArePlaces bodies places.old
-        → length bodies ≡ place → single ≡ true
-        → ArePlaces (bodies ++ body_of (literal_tree literal.now) ∷ []) places.new) }
-    ensures double { IfOk result (λ single. (bodies : List TheBody) → ArePlaces bodies places.old
-        → length bodies ≡ place → single ≡ false
+    ensures marked { IfOk result (λ single. (bodies : List TheBody)
+        → ArePlaces bodies (place_in places.old) → length bodies ≡ place → single ≡ true
+        → ArePlaces (bodies ++ body_of (literal_tree literal.now) ∷ []) (place_in places.new)) }
+    ensures double { IfOk result (λ single. (bodies : List TheBody)
+        → ArePlaces bodies (place_in places.old) → length bodies ≡ place → single ≡ false
         → AreDouble (bodies ++ body_of (literal_tree literal.now) ∷ [])) }
 {
     let Some(number) = mark_of(literal) else {
@@ -77,12 +78,14 @@ fn mark_of(literal: &Literal) -> Option<u32>
 }
 
 // Lets the edges that lead to locals lead to their places. Answers the first local that has none.
-pub(crate) fn place_links(links: &mut [Link], places: &BTreeMap<u32, u32>) -> Option<u32>
-    ensures placed { IfNone result ((bodies : List TheBody) → ArePlaces bodies places.now
+pub(crate) fn place_links(links: &mut [Link], places: &IndexMap<u32, u32>) -> Option<u32>
+    ensures placed { IfNone result ((bodies : List TheBody)
+        → ArePlaces bodies (place_in places.now)
         → map placed_of links.new ≡ map (placed_arc bodies) (link_arcs links.old)) }
-    ensures found { IfNone result (All (IsFound places.now) (link_arcs links.old)) }
+    ensures found { IfNone result (All (IsFound (place_in places.now)) (link_arcs links.old)) }
     ensures lost { IfSome result (λ number.
-        (arc : TheArc) × Contains (link_arcs links.old) arc × IsLost places.now number arc) }
+        (arc : TheArc) × Contains (link_arcs links.old) arc
+        × IsLost (place_in places.now) number arc) }
 {
     'links: for link in links.iter_mut() {
         match placed_link(*link, places) {
@@ -94,11 +97,13 @@ pub(crate) fn place_links(links: &mut [Link], places: &BTreeMap<u32, u32>) -> Op
 }
 
 // The edge to the place of its local; None exactly where that has none.
-fn placed_link<'a>(link: Link<'a>, places: &BTreeMap<u32, u32>) -> Option<Link<'a>>
-    ensures placed { IfSome result (λ placed. (bodies : List TheBody) → ArePlaces bodies places.now
+fn placed_link<'a>(link: Link<'a>, places: &IndexMap<u32, u32>) -> Option<Link<'a>>
+    ensures placed { IfSome result (λ placed. (bodies : List TheBody)
+        → ArePlaces bodies (place_in places.now)
         → placed_of placed ≡ placed_arc bodies (arc_of link.entry)) }
-    ensures found { IfSome result (λ _. IsFound places.now (arc_of link.entry)) }
-    ensures lost { IfNone result (IsLost places.now link.entry.child (arc_of link.entry)) }
+    ensures found { IfSome result (λ _. IsFound (place_in places.now) (arc_of link.entry)) }
+    ensures lost { IfNone result
+        (IsLost (place_in places.now) link.entry.child (arc_of link.entry)) }
 {
     if !link.is_local {
         return Some(link);

@@ -5,7 +5,8 @@ use Rattle.std.proofs.lemmas.Bool.{cases_lt}
 use Rattle.std.proofs.lemmas.Bool.Decides.{eqb_tells}
 use Rattle.path_expr.specs.Machines.{Machine, IsIn, Follows, IsStep}
 use Rattle.path_expr.specs.Types.{Label, States}
-use Rattle.path_expr.specs.inside.Movers.{FollowsSome, AreReaders, Remembers, same_label}
+use Rattle.path_expr.specs.inside.Movers.{FollowsSome, AreReaders, IsMove, Remembers, same_label}
+use Rattle.path_expr.specs.declared.mover.Move.{Move}
 
 -- those that follow one state more
 pub followers_more : (machine : Machine) (states after follow more : States) (from state : ℕ)
@@ -42,17 +43,17 @@ followers_all machine states after from exact none next = (
   λ h. (exact next).1 (h.0, h.1, elim (cases_lt h.0 from) [ inl below ↦ below | inr later ↦ absurd (none h.0 later h.1) ], h.2),
 )
 
--- one label more is remembered
-pub Remembers-more : (labels : List (List ℕ)) (machine : Machine) (before after : Label → Option States) (label : Label) (readers : States)
-    → Remembers labels machine before → AreReaders labels machine label readers
-    → ((other : Label) → after other ≡ cond (same_label label other) (Some readers) (before other)) → Remembers labels machine after
-Remembers-more labels machine before after label readers earlier now updates other = elim (eqb_tells label.0 other.0) [
+-- the last move on a label is remembered
+pub Remembers-more : (labels : List (List ℕ)) (machine : Machine) (before after : Label → Option Move) (label : Label) (move : Move)
+    → Remembers labels machine before → IsMove labels machine label move
+    → ((other : Label) → after other ≡ cond (same_label label other) (Some move) (before other)) → Remembers labels machine after
+Remembers-more labels machine before after label move earlier now updates other = elim (eqb_tells label.0 other.0) [
   | inl here ↦
       let same : label ≡ other = λ i. record { 0 = here.1 i } in
-      subst (λ r. IfSome r (AreReaders labels machine other)) (sym (updates other ∙ ap (λ b. cond b (Some readers) (before other)) here.0))
-      (subst (λ l. AreReaders labels machine l readers) same now)
+      subst (λ r. IfSome r (IsMove labels machine other)) (sym (updates other ∙ ap (λ b. cond b (Some move) (before other)) here.0))
+      (subst (λ l. IsMove labels machine l move) same now)
   | inr apart ↦
-      subst (λ r. IfSome r (AreReaders labels machine other)) (sym (updates other ∙ ap (λ b. cond b (Some readers) (before other)) apart.0)) (earlier other)
+      subst (λ r. IfSome r (IsMove labels machine other)) (sym (updates other ∙ ap (λ b. cond b (Some move) (before other)) apart.0)) (earlier other)
 ]
 
 -- the followers of those states that read a label
@@ -68,9 +69,8 @@ IsStep-followers labels machine states readers both after label reads meet follo
 )
 
 -- the same move again
-pub IsStep-again : (labels : List (List ℕ)) (machine : Machine) (states others after : States) (label other : Label)
-    → IsStep labels machine others other after → other.0 ≡ label.0 → others.0 ≡ states.0 → IsStep labels machine states label after
-IsStep-again labels machine states others after label other step same_label same_states =
-    let labelled : other ≡ label = λ i. record { 0 = same_label i } in
+pub IsStep-again : (labels : List (List ℕ)) (machine : Machine) (states others after : States) (label : Label)
+    → IsStep labels machine others label after → others.0 ≡ states.0 → IsStep labels machine states label after
+IsStep-again labels machine states others after label step same_states =
     let stated : others ≡ states = λ i. record { 0 = same_states i } in
-    subst (λ s. IsStep labels machine s label after) stated (subst (λ l. IsStep labels machine others l after) labelled step)
+    subst (λ s. IsStep labels machine s label after) stated step

@@ -1,7 +1,7 @@
-ghost use Rattle.std.specs.Prelude.{◌≡◌, ◌↔◌, ℕ, IfOk};
+ghost use Rattle.std.specs.Prelude.{◌≡◌, ◌↔◌, ℕ, IfOk, IfSome};
 ghost use Rattle.indexmap.specs.IndexMap.{get};
 ghost use Rattle.path_expr.specs.Machines.{IsIn, IsStep, IsBounded, reads_on};
-ghost use Rattle.path_expr.specs.inside.Movers.{FollowsSome, AreReaders, same_label};
+ghost use Rattle.path_expr.specs.inside.Movers.{FollowsSome, AreReaders, IsMove, same_label};
 
 use crate::automata::Automaton;
 use crate::state_sets::States;
@@ -10,27 +10,26 @@ use lore_base::{Label, LabelTest, NoMemory};
 use std::alloc::Global;
 use std::marker::Model;
 
-/// An automaton that moves on labels, and remembers which of its states read a label: so the text
-/// of each label is compared once in a search. Contracts see the machine and the texts of the
-/// labels, which no move changes.
+/// An automaton that moves on labels, and remembers its last move on each: so the text of a label
+/// is compared once in a search, and a move from the same states as the last one is looked up.
+/// Contracts see the machine and the texts of the labels, which no move changes.
 #[derive(Drop)]
 pub struct Mover<'a, T: LabelTest> {
     automaton: &'a Automaton,
     labels: &'a T,
-    readers: IndexMap<Label, States>,
-    last: Option<Move>,
+    moves: IndexMap<Label, Move>,
 }
 
-// Where a label led from some states.
+// The states that read a label, and where it led from some states.
 #[derive(Clone, Copy)]
 struct Move {
-    states: States,
-    label: Label,
+    readers: States,
+    from: States,
     after: States,
 }
 
 impl<'a, T: LabelTest> Model for Mover<'a, T> {
-    ghost use Rattle.path_expr.specs.inside.Movers.{Remembers, IsMove, same_label};
+    ghost use Rattle.path_expr.specs.inside.Movers.{Remembers, same_label};
     ghost use Rattle.path_expr.specs.Machines.{Moving, IsBounded};
     ghost use Rattle.indexmap.specs.IndexMap.{get};
 
@@ -42,8 +41,7 @@ impl<'a, T: LabelTest> Model for Mover<'a, T> {
     } };
 
     ghost invariant = { λ mover.
-        Remembers (T.texts mover.labels.now) mover.automaton.now (get same_label mover.readers)
-        × IsMove (T.texts mover.labels.now) mover.automaton.now mover.last
+        Remembers (T.texts mover.labels.now) mover.automaton.now (get same_label mover.moves)
         × IsBounded mover.automaton.now };
 }
 
@@ -61,10 +59,27 @@ fn followers(automaton: &Automaton, states: States) -> States
 }
 
 // What is remembered of the label.
-fn remembered(readers: &IndexMap<Label, States>, label: Label) -> Option<States>
-    ensures { result ≡ get same_label readers.now label }
+fn remembered(moves: &IndexMap<Label, Move>, label: Label) -> Option<Move>
+    ensures { result ≡ get same_label moves.now label }
 {
-    readers.get(&label).copied()
+    moves.get(&label).copied()
+}
+
+// The states whose leaf takes the label. Where a move on it is known they are told without a look
+// at its text.
+fn readers_of<T: LabelTest>(
+    automaton: &Automaton,
+    labels: &T,
+    label: Label,
+    known: Option<Move>,
+) -> States
+    requires { IfSome known (IsMove (T.texts labels.now) automaton.now label) }
+    ensures { AreReaders (T.texts labels.now) automaton.now label result }
+{
+    match known {
+        Some(known) => known.readers,
+        None => automaton.readers(label, labels),
+    }
 }
 
 impl<'a, T: LabelTest> Mover<'a, T> {
@@ -77,8 +92,7 @@ impl<'a, T: LabelTest> Mover<'a, T> {
         Mover {
             automaton,
             labels,
-            readers: IndexMap::new(alloc),
-            last: None,
+            moves: IndexMap::new(alloc),
         }
     }
 
@@ -91,19 +105,6 @@ impl<'a, T: LabelTest> Mover<'a, T> {
         states.reads_on()
     }
 
-    // The states whose leaf takes the label.
-    fn readers_of(&mut self, label: Label) -> Result<States, NoMemory>
-        ensures readers { IfOk result (AreReaders self.old.labels self.old.machine label) }
-        ensures same { self.new ≡ self.old }
-    {
-        if let Some(known) = remembered(&self.readers, label) {
-            return Ok(known);
-        }
-        let readers = self.automaton.readers(label, self.labels);
-        self.readers.insert(label, readers)?;
-        Ok(readers)
-    }
-
     /// The states that the label leads to from some state of the set. Takes memory only where the
     /// label is new to it.
     pub fn after(&mut self, states: States, label: Label) -> Result<States, NoMemory>
@@ -111,18 +112,22 @@ impl<'a, T: LabelTest> Mover<'a, T> {
             (λ after. IsStep self.old.labels self.old.machine states label after) }
         ensures same { self.new ≡ self.old }
     {
-        if let Some(last) = self.last {
-            if last.label.0 == label.0 && last.states.0 == states.0 {
-                return Ok(last.after);
+        let known = remembered(&self.moves, label);
+        if let Some(known) = known {
+            if known.from.0 == states.0 {
+                return Ok(known.after);
             }
         }
-        let readers = self.readers_of(label)?;
+        let readers = readers_of(self.automaton, self.labels, label, known);
         let after = followers(self.automaton, states.meet(readers));
-        self.last = Some(Move {
-            states,
+        self.moves.insert(
             label,
-            after,
-        });
+            Move {
+                readers,
+                from: states,
+                after,
+            },
+        )?;
         Ok(after)
     }
 }

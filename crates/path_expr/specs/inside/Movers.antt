@@ -16,10 +16,11 @@ same_label a b = a.0 == b.0
 abbrev pub AreReaders : List (List ℕ) → Machine → Label → States → Type 0
 AreReaders labels machine label readers = (state : ℕ) → IsIn readers state ↔ Reads labels machine state label
 
--- what is remembered of a label are the states that read it
-abbrev pub Remembers : List (List ℕ) → Machine → (Label → Option States) → Type 0
-Remembers labels machine readers = (label : Label) → IfSome (readers label) (AreReaders labels machine label)
+-- a move on a label: the states that read it, and where it leads from some states
+pub record IsMove (labels : List (List ℕ)) (machine : Machine) (label : Label) (move : Move) : Type 0 where
+  pub readers : AreReaders labels machine label move.readers
+  pub step : IsStep labels machine move.from label move.after
 
--- a label leads from the states to those after, if there is such a move
-abbrev pub IsMove : List (List ℕ) → Machine → Option Move → Type 0
-IsMove labels machine move = IfSome move (λ m. IsStep labels machine m.states m.label m.after)
+-- what is remembered of a label is a move on it
+abbrev pub Remembers : List (List ℕ) → Machine → (Label → Option Move) → Type 0
+Remembers labels machine moves = (label : Label) → IfSome (moves label) (IsMove labels machine label)
