@@ -33,16 +33,15 @@ fn run<L: Ledger>(rt: &HostRuntime, words: &[String], blank: Blank) -> Result<St
     Ok(outcome.status)
 }
 
-// The threshold goes up to 32 MiB; a block of just so many bytes is larger by its header.
+// The threshold goes up to 32 MiB, and a block of 32 MiB would be above that with its header.
 const KEPT_BYTES: usize = 31 << 20;
 
 /// Lets the C library keep blocks of up to 31 MiB when they are freed.
 ///
 /// glibc gives a block above a threshold, 128 KiB at first, pages of its own, which go back to the
-/// system with it. When such a block is freed the threshold rises to its size (mallopt(3),
-/// M_MMAP_THRESHOLD). So one is asked for and freed unwritten: the lists of the first load then take
-/// over the pages of its tokens, where the system would have to clear new ones. With another C
-/// library, or where the block is refused, nothing changes.
+/// system with it, and raises the threshold to its size when it is freed (mallopt(3),
+/// M_MMAP_THRESHOLD). So one is asked for and freed unwritten: the lists of a first load then take
+/// over pages that were freed. With another C library, or where it is refused, nothing changes.
 fn raise_mmap_threshold(rt: &HostRuntime) {
     drop(Vec::<u8>::with_capacity(rt.alloc(), KEPT_BYTES));
 }
