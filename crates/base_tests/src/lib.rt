@@ -1,12 +1,12 @@
-//! Tests of the lowest crates: each public call once with ample memory, with values from outside
-//! the program.
+//! Tests of sources and sinks in memory, of how values and labels are printed, and of probes of a
+//! plain list of values.
+//!
+//! Values are from outside the program. Whole scripts test lists, texts, names and comparisons.
 #![tactic(auto)]
 
 #[cfg(test)]
-mod base;
-#[cfg(test)]
 mod ends;
 #[cfg(test)]
-mod graphs;
+mod prints;
 #[cfg(test)]
-mod sets;
+mod values;

@@ -1,238 +1,86 @@
-use crate::lists::{numbers_of, set_of};
-use crate::shapes::{
-    ALL_SUBSETS, EQUAL_HASHES, NAMELESS, RESTAURANTS, RING, Shape, TWO_NAMES, TWO_PATHS, TWO_TREES,
-    guide_of, guide_within,
-};
+ghost use Rattle.std.specs.Prelude.{◌≡◌, ◌<◌};
+
+use crate::sets::set_of;
 use dataguide::{Guide, GuideFault, Node};
-use lore_base::{Label, NoMemory, OemText};
+use index_traits::NaiveEdges;
+use lore_base::{Edge, EdgeBuf, Label, Names, NoMemory, OemText, Oid, Steps};
 use std::alloc::Global;
+use std::marker::Brand;
+use std::sync::ledger::{Blank, Ledger};
 use std::test::Fail;
 
-// A shape, the members of its guide's sets, each behind its node's number, and the guide's edges,
-// as node, label and next node.
-#[derive(Clone, Copy)]
-struct Case {
-    shape: Shape,
-    members: &'static [[u32; 2]],
-    edges: &'static [[u32; 3]],
+// Names, each with the digit of its object, and edges as the digits of parent, label and child.
+type Shape = (&'static str, &'static str);
+
+// Two restaurants (0), each with a name (1) and a price (2). Objects are numbered otherwise than
+// paths are ordered.
+const RESTAURANTS: Shape = ("Guide8", "809 803 917 922 316 325");
+
+// A ring of two objects, and a third one that hangs on it.
+const RING: Shape = ("Guide1", "102 201 213");
+
+// Two names of one object, and an edge that no path reaches.
+const TWO_NAMES: Shape = ("Home4 Guide4", "104 414");
+
+// Short paths from two names come before longer ones, and those of a lower name before others.
+const TWO_TREES: Shape = ("Movies1 Guide2", "103 214 205 506");
+
+// Each set of the first object with some of the two others is led to.
+const ALL_SUBSETS: Shape = ("Q1", "101 111 102 203 213");
+
+// Two sets have equal hashes.
+const EQUAL_HASHES: Shape = ("Guide1", "105 110 115");
+
+// Edges without a name.
+const NAMELESS: Shape = ("", "102 201");
+
+fn number(digit: u8) -> u32 {
+    u32::from(digit.saturating_sub(b'0'))
 }
 
-const CASES: [Case; 8] = [
-    Case {
-        shape: RESTAURANTS,
-        members: &[[0, 8], [1, 3], [1, 9], [2, 6], [2, 7], [3, 2], [3, 5]],
-        edges: &[[0, 0, 1], [1, 1, 2], [1, 2, 3]],
-    },
-    Case {
-        shape: RING,
-        members: &[[0, 1], [1, 2], [2, 3]],
-        edges: &[[0, 0, 1], [1, 0, 0], [1, 1, 2]],
-    },
-    Case {
-        shape: TWO_PATHS,
-        members: &[[0, 1], [1, 2], [1, 3], [2, 4]],
-        edges: &[[0, 0, 1], [0, 1, 1], [1, 2, 2]],
-    },
-    Case {
-        shape: TWO_NAMES,
-        members: &[[0, 4]],
-        edges: &[[0, 1, 0]],
-    },
-    Case {
-        shape: TWO_TREES,
-        members: &[[0, 2], [1, 1], [2, 5], [3, 4], [4, 3], [5, 6]],
-        edges: &[[0, 0, 2], [0, 1, 3], [1, 0, 4], [2, 0, 5]],
-    },
-    Case {
-        shape: ALL_SUBSETS,
-        members: &[
-            [0, 1],
-            [1, 1],
-            [1, 2],
-            [2, 1],
-            [2, 2],
-            [2, 3],
-            [3, 1],
-            [3, 3],
-        ],
-        edges: &[
-            [0, 0, 1],
-            [0, 1, 0],
-            [1, 0, 2],
-            [1, 1, 3],
-            [2, 0, 2],
-            [2, 1, 3],
-            [3, 0, 1],
-            [3, 1, 0],
-        ],
-    },
-    Case {
-        shape: EQUAL_HASHES,
-        members: &[[0, 1], [1, 5], [2, 0], [2, 5]],
-        edges: &[[0, 0, 1], [0, 1, 2]],
-    },
-    Case {
-        shape: NAMELESS,
-        members: &[],
-        edges: &[],
-    },
-];
+fn names_of(alloc: Global, words: &str) -> Result<Names, NoMemory> {
+    let mut names = Names::new(alloc);
+    for word in words.as_bytes().split(|byte| *byte == b' ') {
+        if let Some((digit, name)) = word.split_last() {
+            names.put(OemText::from_bytes(alloc, name)?, Oid(number(*digit)))?;
+        }
+    }
+    Ok(names)
+}
 
-// Puts the members of the node's set behind its number.
-fn put_members(
+fn graph_of(alloc: Global, words: &str) -> Result<NaiveEdges, NoMemory> {
+    let mut edges = EdgeBuf::new(alloc);
+    for word in words.as_bytes().split(|byte| *byte == b' ') {
+        if let [parent, label, child] = word {
+            edges.push(Edge {
+                parent: Oid(number(*parent)),
+                label: Label(number(*label)),
+                child: Oid(number(*child)),
+            })?;
+        }
+    }
+    edges.sort_set();
+    Ok(NaiveEdges::new(edges))
+}
+
+fn built<L: Ledger>(
     alloc: Global,
-    guide: &Guide,
-    node: u32,
-    members: &mut Vec<[u32; 2]>,
-) -> Result<(), NoMemory> {
-    if let Some(set) = guide.set(Node(node)) {
-        for oid in numbers_of(alloc, set)?.as_slice() {
-            members.push([node, *oid])?;
-        }
-    }
-    Ok(())
+    shape: Shape,
+    limit: u32,
+    blank: Blank,
+) -> Result<Guide, GuideFault>
+    requires name { blank.name ≡ L.name }
+    requires parts { blank.parts ≡ L.parts }
+    requires some { 0 < blank.parts }
+{
+    let graph = graph_of(alloc, shape.1)?;
+    let names = names_of(alloc, shape.0)?;
+    Guide::build(alloc, &graph, &names, limit, &mut Steps::<L>::new(blank))
 }
 
-// The members of the first ten nodes' sets.
-fn members_of(alloc: Global, guide: &Guide) -> Result<Vec<[u32; 2]>, NoMemory> {
-    let mut members = Vec::new(alloc);
-    for node in 0..10 {
-        put_members(alloc, guide, node, &mut members)?;
-    }
-    Ok(members)
-}
-
-// The edges of the first ten nodes by their first four places.
-fn edges_by_place(alloc: Global, guide: &Guide) -> Result<Vec<[u32; 3]>, NoMemory> {
-    let mut edges = Vec::new(alloc);
-    for at in 0..40 {
-        if let Some((label, next)) = guide.labels_of(Node(at / 4), at % 4) {
-            edges.push([at / 4, label.0, next.0])?;
-        }
-    }
-    Ok(edges)
-}
-
-// The same by the first four labels.
-fn edges_by_label(alloc: Global, guide: &Guide) -> Result<Vec<[u32; 3]>, NoMemory> {
-    let mut edges = Vec::new(alloc);
-    for at in 0..40 {
-        if let Some(next) = guide.child(Node(at / 4), Label(at % 4)) {
-            edges.push([at / 4, at % 4, next.0])?;
-        }
-    }
-    Ok(edges)
-}
-
-// The members of the sets of the shape's guide.
-fn members_in(alloc: Global, shape: Shape) -> Result<Vec<[u32; 2]>, GuideFault> {
-    Ok(members_of(alloc, &guide_of(alloc, shape)?)?)
-}
-
-#[test]
-fn nodes_have_these_sets(rt: HostRuntime) -> Result<(), Fail> {
-    for case in CASES {
-        let found = members_in(rt.alloc(), case.shape)?;
-        assert_eq!(rt; found.as_slice(), case.members);
-    }
-    Ok(())
-}
-
-// The edges of the shape's guide by place.
-fn edges_in(alloc: Global, shape: Shape) -> Result<Vec<[u32; 3]>, GuideFault> {
-    Ok(edges_by_place(alloc, &guide_of(alloc, shape)?)?)
-}
-
-#[test]
-fn nodes_have_these_edges_in_order(rt: HostRuntime) -> Result<(), Fail> {
-    for case in CASES {
-        let found = edges_in(rt.alloc(), case.shape)?;
-        assert_eq!(rt; found.as_slice(), case.edges);
-    }
-    Ok(())
-}
-
-// The edges of the shape's guide by label.
-fn children_in(alloc: Global, shape: Shape) -> Result<Vec<[u32; 3]>, GuideFault> {
-    Ok(edges_by_label(alloc, &guide_of(alloc, shape)?)?)
-}
-
-#[test]
-fn labels_lead_to_these_nodes(rt: HostRuntime) -> Result<(), Fail> {
-    for case in CASES {
-        let found = children_in(rt.alloc(), case.shape)?;
-        assert_eq!(rt; found.as_slice(), case.edges);
-    }
-    Ok(())
-}
-
-// The number of the name's node.
-fn entry_of(alloc: Global, guide: &Guide, name: &str) -> Result<Option<u32>, NoMemory> {
-    let name = OemText::from_bytes(alloc, name.as_bytes())?;
-    Ok(guide.entry(&name).map(|node| node.0))
-}
-
-// The same in the shape's guide.
-fn entry_in(alloc: Global, shape: Shape, name: &str) -> Result<Option<u32>, GuideFault> {
-    Ok(entry_of(alloc, &guide_of(alloc, shape)?, name)?)
-}
-
-#[test]
-fn names_lead_to_these_nodes(rt: HostRuntime) -> Result<(), Fail> {
-    let table = [
-        (RESTAURANTS, "Guide", Some(0)),
-        (RESTAURANTS, "Guid", None),
-        (RESTAURANTS, "", None),
-        (TWO_NAMES, "Guide", Some(0)),
-        (TWO_NAMES, "Home", Some(0)),
-        (TWO_TREES, "Guide", Some(0)),
-        (TWO_TREES, "Movies", Some(1)),
-        (TWO_TREES, "Home", None),
-        (NAMELESS, "Guide", None),
-    ];
-    for (shape, name, wanted) in table {
-        assert_eq!(rt; entry_in(rt.alloc(), shape, name)?, wanted, "at {name}");
-    }
-    Ok(())
-}
-
-// The number of the node with the set.
-fn node_with(alloc: Global, guide: &Guide, numbers: &[u32]) -> Result<Option<u32>, NoMemory> {
-    let set = set_of(alloc, numbers)?;
-    Ok(guide.find_set(&set).map(|node| node.0))
-}
-
-// The same in the shape's guide.
-fn node_in(alloc: Global, shape: Shape, numbers: &[u32]) -> Result<Option<u32>, GuideFault> {
-    Ok(node_with(alloc, &guide_of(alloc, shape)?, numbers)?)
-}
-
-#[test]
-fn sets_are_those_of_these_nodes(rt: HostRuntime) -> Result<(), Fail> {
-    let table: [(Shape, &[u32], Option<u32>); 14] = [
-        (RESTAURANTS, &[8], Some(0)),
-        (RESTAURANTS, &[9, 3], Some(1)),
-        (RESTAURANTS, &[7, 6], Some(2)),
-        (RESTAURANTS, &[2, 5], Some(3)),
-        (RESTAURANTS, &[9], None),
-        (RESTAURANTS, &[3, 8, 9], None),
-        (RESTAURANTS, &[], None),
-        (TWO_NAMES, &[1], None),
-        (ALL_SUBSETS, &[3, 1], Some(3)),
-        (ALL_SUBSETS, &[2, 3], None),
-        (EQUAL_HASHES, &[5], Some(1)),
-        (EQUAL_HASHES, &[0, 5], Some(2)),
-        (EQUAL_HASHES, &[0], None),
-        (NAMELESS, &[], None),
-    ];
-    for (shape, numbers, wanted) in table {
-        assert_eq!(rt;
-            node_in(rt.alloc(), shape, numbers)?,
-            wanted,
-            "at {numbers:?}"
-        );
-    }
-    Ok(())
+// The guide of the shape, with at most so many nodes.
+fn guide_within(alloc: Global, shape: Shape, limit: u32) -> Result<Guide, GuideFault> {
+    built::<Brand>(alloc, shape, limit, Blank::new(1))
 }
 
 // The number of nodes, or why there is no guide.
@@ -250,7 +98,6 @@ fn more_sets_than_the_limit_are_refused(rt: HostRuntime) -> Result<(), Fail> {
         (RESTAURANTS, 3, Err(GuideFault::Nodes)),
         (RESTAURANTS, 0, Err(GuideFault::Nodes)),
         (RING, 9, Ok(3)),
-        (TWO_PATHS, 9, Ok(3)),
         (TWO_NAMES, 1, Ok(1)),
         (TWO_TREES, 9, Ok(6)),
         (TWO_TREES, 1, Err(GuideFault::Nodes)),
@@ -258,35 +105,75 @@ fn more_sets_than_the_limit_are_refused(rt: HostRuntime) -> Result<(), Fail> {
         (NAMELESS, 0, Ok(0)),
     ];
     for (shape, limit, wanted) in table {
-        let found = count_within(rt.alloc(), shape, limit);
-        assert_eq!(rt; found, wanted, "at {limit} {shape:?}");
+        assert_eq!(rt; count_within(rt.alloc(), shape, limit), wanted);
     }
     Ok(())
 }
 
-// How much a new guide has: nodes, members of sets, edges by place and by label.
-fn new_counts(alloc: Global) -> Result<[usize; 4], NoMemory> {
-    let guide = Guide::new(alloc);
-    Ok([
-        guide.len() as usize,
-        members_of(alloc, &guide)?.len(),
-        edges_by_place(alloc, &guide)?.len(),
-        edges_by_label(alloc, &guide)?.len(),
-    ])
+// The number of the node with the set of these objects.
+fn node_with(alloc: Global, guide: &Guide, digits: &str) -> Result<Option<u32>, NoMemory> {
+    let set = set_of(alloc, digits)?;
+    Ok(guide.find_set(&set).map(|node| node.0))
 }
 
-// The nodes of a name and of the empty set in a new guide.
-fn new_nodes(alloc: Global) -> Result<[Option<u32>; 2], NoMemory> {
-    let guide = Guide::new(alloc);
-    Ok([
-        entry_of(alloc, &guide, "Guide")?,
-        node_with(alloc, &guide, &[])?,
-    ])
+// The same in the shape's guide.
+fn node_in(alloc: Global, shape: Shape, digits: &str) -> Result<Option<u32>, GuideFault> {
+    Ok(node_with(alloc, &guide_within(alloc, shape, 9)?, digits)?)
 }
 
 #[test]
-fn a_new_guide_has_no_node(rt: HostRuntime) -> Result<(), Fail> {
-    assert_eq!(rt; new_counts(rt.alloc())?, [0, 0, 0, 0]);
-    assert_eq!(rt; new_nodes(rt.alloc())?, [None, None]);
+fn sets_are_those_of_these_nodes(rt: HostRuntime) -> Result<(), Fail> {
+    let table = [
+        (RESTAURANTS, "8", Some(0)),
+        (RESTAURANTS, "93", Some(1)),
+        (RESTAURANTS, "76", Some(2)),
+        (RESTAURANTS, "25", Some(3)),
+        (RESTAURANTS, "9", None),
+        (RESTAURANTS, "389", None),
+        (RESTAURANTS, "", None),
+        (TWO_NAMES, "1", None),
+        (ALL_SUBSETS, "31", Some(3)),
+        (ALL_SUBSETS, "23", None),
+        (EQUAL_HASHES, "5", Some(1)),
+        (EQUAL_HASHES, "05", Some(2)),
+        (EQUAL_HASHES, "0", None),
+        (NAMELESS, "", None),
+    ];
+    for (shape, digits, wanted) in table {
+        assert_eq!(rt; node_in(rt.alloc(), shape, digits)?, wanted);
+    }
+    Ok(())
+}
+
+// The edges of the first ten nodes by their first four places: the digits of node, label and next
+// node, behind a 1.
+fn edges_by_place(guide: &Guide) -> u64 {
+    let mut edges = 1_u64;
+    for at in 0..40 {
+        if let Some((label, next)) = guide.labels_of(Node(at / 4), at % 4) {
+            let edge = u64::from(at / 4) * 100 + u64::from(label.0) * 10 + u64::from(next.0);
+            edges = edges.wrapping_mul(1_000).wrapping_add(edge);
+        }
+    }
+    edges
+}
+
+// The same in the shape's guide.
+fn edges_in(alloc: Global, shape: Shape) -> Result<u64, GuideFault> {
+    Ok(edges_by_place(&guide_within(alloc, shape, 9)?))
+}
+
+#[test]
+fn nodes_have_these_edges_in_order(rt: HostRuntime) -> Result<(), Fail> {
+    let table = [
+        (RESTAURANTS, 1_001_112_123),
+        (RING, 1_001_100_112),
+        (TWO_NAMES, 1_010),
+        (TWO_TREES, 1_002_013_104_205),
+        (NAMELESS, 1),
+    ];
+    for (shape, wanted) in table {
+        assert_eq!(rt; edges_in(rt.alloc(), shape)?, wanted);
+    }
     Ok(())
 }

@@ -1,22 +1,10 @@
-//! Tests of sets of objects, of guides, of their lines and of the paths that they tell: each public
-//! call with ample memory, with values from outside the program.
+//! Tests of sets of objects, and of guides of small graphs: where they pass a limit, which node
+//! has a set, and their edges in order.
+//!
+//! Values are from outside the program. Whole scripts test what a guide tells of paths.
 #![tactic(auto)]
 
 #[cfg(test)]
-mod bits;
-#[cfg(test)]
 mod guides;
 #[cfg(test)]
-mod lines;
-#[cfg(test)]
-mod lists;
-#[cfg(test)]
-mod path_lines;
-#[cfg(test)]
-mod paths;
-#[cfg(test)]
 mod sets;
-#[cfg(test)]
-mod shapes;
-#[cfg(test)]
-mod values;

@@ -22,7 +22,7 @@ use Rattle.lore_db.specs.Types.{Oid, Edge, Value, Cell, Changes, Refusal, LABELS
 use Rattle.lore_db.specs.Types.refusals
 use Rattle.lore_db.specs.Forms.{reads, path_select, MakesChanges}
 use Rattle.lore_db.specs.Effects.{object_cells, pair_of, AreRowsOf, loading, naming, effects}
-use Rattle.lore_db.specs.Statements.{IsUnbound, IsOutOfRange, IsNotFresh, IsNoDump, ChangesCause, Cause, order}
+use Rattle.lore_db.specs.Statements.{IsUnbound, IsOutOfRange, IsNotFresh, IsNoDump, ChangesCause, Cause, cause_order}
 use Rattle.lore_db.specs.inside.Stages.{bind_order, found_order, fit_order}
 use Rattle.lore_db.proofs.ObjectRowLaws.{one_lists}
 use Rattle.lore_db.proofs.LiteralLaws.{length-objects_of}
@@ -82,17 +82,37 @@ module _ (db : Database) (statement : StatementTree) (rows : List (List Oid)) (a
 
     -- how large the database gets is tried last, where the statement is a change
     pub sizes_told : (told : Option Refusal) → IsClear (Cause db statement) fit_order → IsToldBy (DatabaseCause db changes) sizes told
-        → IsToldBy (Cause db statement) order told
+        → IsToldBy (Cause db statement) cause_order told
     sizes_told told clear h =
         told_right (Cause db statement) fit_order (sizes ++ late) told clear
         (told_left (Cause db statement) sizes late told (told_alike (DatabaseCause db changes) (Cause db statement) sizes told sizes_alike h))
 
     -- which has no number out of range
     pub sizes_clear : IsClear (Cause db statement) late → IsClear (Cause db statement) fit_order → IsClear (DatabaseCause db changes) sizes
-        → IsClear (Cause db statement) order
+        → IsClear (Cause db statement) cause_order
     sizes_clear within clear h =
         clear_both (Cause db statement) fit_order (sizes ++ late) clear
         (clear_both (Cause db statement) sizes late (clear_alike (DatabaseCause db changes) (Cause db statement) sizes sizes_alike h) within)
+
+-- ---- statements that make changes
+-- they have no number out of range, and restore nothing
+changing_within : (db : Database) (statement : StatementTree) → MakesChanges statement → IsOutOfRange db statement → ⊥
+changing_within db (t.set_nodes nodes) changing outside = changing
+changing_within db (t.sample start labels count) changing outside = changing
+changing_within db (t.generate seed count) changing outside = outside changing
+changing_within db _ changing outside = outside
+
+changing_fresh : (db : Database) (statement : StatementTree) → MakesChanges statement → IsNotFresh db statement → ⊥
+changing_fresh db (t.restore text) changing stale = changing
+changing_fresh db _ changing stale = stale
+
+changing_dumped : (statement : StatementTree) → MakesChanges statement → IsNoDump statement → ⊥
+changing_dumped (t.restore text) changing none = changing
+changing_dumped _ changing none = none
+
+pub changing_late : (db : Database) (statement : StatementTree) → MakesChanges statement → IsClear (Cause db statement) late
+changing_late db statement changing =
+    (changing_within db statement changing, (changing_fresh db statement changing, (changing_dumped statement changing, tt)))
 
 -- ---- loads
 module _ (db : Database) (valid : IsValid db) (name : List ℕ) (literal : LiteralTree) where
@@ -131,7 +151,7 @@ module _ (db : Database) (valid : IsValid db) (name : List ℕ) (literal : Liter
         ),
       )
 
-  pub load_told : (told : Option Refusal) → IsToldBy (text.Cause db.labels db.graph.next literal) text.order told → IsToldBy (Cause db load_tree) order told
+  pub load_told : (told : Option Refusal) → IsToldBy (text.Cause db.labels db.graph.next literal) text.order told → IsToldBy (Cause db load_tree) cause_order told
   load_told told h =
       let back = refusals.OidsSpent ∷ refusals.TooManyLabels ∷ [] in
       let middle = refusals.TooManyRows ∷ refusals.NotOne ∷ refusals.AtomicParent ∷ refusals.HasChildren ∷ [] in
@@ -199,7 +219,7 @@ module _ (db : Database) (valid : IsValid db) where
       ) in
       clear_both (Cause db (t.unname name)) (found_order ++ refusals.NotOne ∷ []) early first (unnamed_early name)
 
-  pub unname_told : (name : List ℕ) → IsUnbound db (t.unname name) → IsToldBy (Cause db (t.unname name)) order (Some refusals.UnknownName)
+  pub unname_told : (name : List ℕ) → IsUnbound db (t.unname name) → IsToldBy (Cause db (t.unname name)) cause_order (Some refusals.UnknownName)
   unname_told name unbound = inl (inl unbound, refl)
 
   -- the path has one object, or not
@@ -211,7 +231,7 @@ module _ (db : Database) (valid : IsValid db) where
       clear_both (Cause db (t.bind name path)) found_order (refusals.NotOne ∷ early) clear (single, name_early name path)
 
   pub name_told : (name : List ℕ) (path : RootedTree) (rows : List (List Cell)) → IsAnswer db (path_select path) rows → length rows ≢ 1
-      → IsClear (Cause db (t.bind name path)) found_order → IsToldBy (Cause db (t.bind name path)) order (Some refusals.NotOne)
+      → IsClear (Cause db (t.bind name path)) found_order → IsToldBy (Cause db (t.bind name path)) cause_order (Some refusals.NotOne)
   name_told name path rows answer several clear =
       told_right (Cause db (t.bind name path)) found_order (refusals.NotOne ∷ (early ++ (sizes ++ late))) (Some refusals.NotOne) clear
       (inl ((rows, answer, several), refl))
@@ -230,24 +250,6 @@ update_names db (t.unname name) update unbound = update refl
 update_names db (t.browse start labels) update unbound = update refl
 update_names db (t.sample start labels count) update unbound = update refl
 update_names db _ update unbound = unbound
-
--- it has no number of its own, and restores nothing
-update_within : (db : Database) (statement : StatementTree) → IsUpdate statement → IsOutOfRange db statement → ⊥
-update_within db (t.set_nodes nodes) update outside = update refl
-update_within db (t.sample start labels count) update outside = update refl
-update_within db (t.generate seed count) update outside = update refl
-update_within db _ update outside = outside
-
-update_fresh : (db : Database) (statement : StatementTree) → IsUpdate statement → IsNotFresh db statement → ⊥
-update_fresh db (t.restore text) update stale = update refl
-update_fresh db _ update stale = stale
-
-update_dumped : (statement : StatementTree) → IsUpdate statement → IsNoDump statement → ⊥
-update_dumped (t.restore text) update none = update refl
-update_dumped _ update none = none
-
-pub update_late : (db : Database) (statement : StatementTree) → IsUpdate statement → IsClear (Cause db statement) late
-update_late db statement update = (update_within db statement update, (update_fresh db statement update, (update_dumped statement update, tt)))
 
 pub update_single : (db : Database) (statement : StatementTree) → IsUpdate statement → Cause db statement refusals.NotOne → ⊥
 update_single db (t.bind name path) update h = update refl

@@ -18,7 +18,7 @@ use Rattle.dump_text.proofs.RuleLaws.{one_database}
 use Rattle.dump_text.proofs.ToldLaws.{dump_or_bad}
 use Rattle.lore_db.specs.Types.{NODES, Reply, Changed}
 use Rattle.lore_db.specs.Types.refusals
-use Rattle.lore_db.specs.Statements.{IsNoDump, Dumps, Restores, Cause, order, Counts, Executes}
+use Rattle.lore_db.specs.Statements.{IsNoDump, Dumps, Restores, Cause, cause_order, Counts, Executes}
 use Rattle.lore_store.specs.declared.faults.RestoreFault.{RestoreFault}
 use Rattle.lore_store.specs.declared.faults.RestoreFault.TheVariants as faults
 use Rattle.lore_store.specs.Faults.{restore_refusal}
@@ -162,7 +162,7 @@ told_new db =
 
 -- ---- what refuses them
 module _ (db : Database) where
-  pub dump_clear : IsClear (Cause db t.dump) order
+  pub dump_clear : IsClear (Cause db t.dump) cause_order
   dump_clear =
       clear_both (Cause db t.dump) (fit_order ++ sizes) late (nothing_before db t.dump (λ h. h) (λ h. h) refl refl)
       (λ h. h, (λ h. h, (λ h. h, tt)))
@@ -172,19 +172,19 @@ module _ (db : Database) where
   dumped (Err stop) h = tt
 
   pub dumped_told : (done : Result Reply Stop) → IfErr done (λ stop. told stop ≡ None)
-      → IfErr done (λ stop. IsToldBy (Cause db t.dump) order (told stop))
+      → IfErr done (λ stop. IsToldBy (Cause db t.dump) cause_order (told stop))
   dumped_told (Ok reply) h = tt
-  dumped_told (Err stop) h = subst (IsToldBy (Cause db t.dump) order) (sym h) tt
+  dumped_told (Err stop) h = subst (IsToldBy (Cause db t.dump) cause_order) (sym h) tt
 
   module _ (text : DumpTree) where
     restore_before : IsClear (Cause db (t.restore text)) (fit_order ++ sizes)
     restore_before = nothing_before db (t.restore text) (λ h. h) (λ h. h) refl refl
 
-    pub restore_clear : db ≡ new_database → (IsNoDump (t.restore text) → ⊥) → IsClear (Cause db (t.restore text)) order
+    pub restore_clear : db ≡ new_database → (IsNoDump (t.restore text) → ⊥) → IsClear (Cause db (t.restore text)) cause_order
     restore_clear new dumped =
         clear_both (Cause db (t.restore text)) (fit_order ++ sizes) late restore_before (λ h. h, (λ stale. stale new, (dumped, tt)))
 
-    pub no_dump_told : db ≡ new_database → IsNoDump (t.restore text) → IsToldBy (Cause db (t.restore text)) order (Some refusals.BadRestore)
+    pub no_dump_told : db ≡ new_database → IsNoDump (t.restore text) → IsToldBy (Cause db (t.restore text)) cause_order (Some refusals.BadRestore)
     no_dump_told new none =
         told_right (Cause db (t.restore text)) (fit_order ++ sizes) late (Some refusals.BadRestore) restore_before
         (inr (λ h. h, inr (λ stale. stale new, inl (none, refl))))
@@ -193,7 +193,7 @@ module _ (db : Database) where
     module _ (new : db ≡ new_database) (restored : Restored) (is : IsRestored text restored) where
       -- a text whose label paths lead to too many sets
       pub restore_told : (fault : RestoreFault) → (fault ≡ faults.GuideNodes → HasTooManySets (database_from restored))
-          → IsToldBy (Cause db (t.restore text)) order (restore_refusal fault)
+          → IsToldBy (Cause db (t.restore text)) cause_order (restore_refusal fault)
       restore_told faults.GuideNodes more = no_dump_told new (crowded_no_dump text (database_from restored) is.dumped is.whole.sound (more refl))
       restore_told faults.NoMemory more = tt
 

@@ -12,19 +12,20 @@ use Rattle.lorel_trees.specs.Trees as t
 use Rattle.lorel_trees.specs.Trees.{SelectTree, StatementTree}
 use Rattle.lorel_trees.specs.Formed.{IsFormedStatement}
 use Rattle.lorel_bind.specs.Answers.{IsAnswer}
-use Rattle.updates.specs.Causes.{IsUpdate}
-use Rattle.lore_db.specs.Types.{Oid, Cell, Changes, Refusal, Reply, Rows}
+use Rattle.lore_db.specs.Types.{Cell, Changes, Refusal, Reply, Rows}
 use Rattle.lore_db.specs.Types.refusals
 use Rattle.lore_db.specs.Forms.{MakesChanges}
-use Rattle.lore_db.specs.Effects.{AreRowsOf, effects}
-use Rattle.lore_db.specs.Statements.{Cause, order, Counts, LeadsOn, Performs, Executes}
-use Rattle.lore_db.specs.inside.Stages.{ReadCause, read_order, found_order, change_order, fit_order}
-use Rattle.lore_db.specs.inside.Stops.{told, IsRepliedTo}
+use Rattle.lore_db.specs.Effects.{effects}
+use Rattle.lore_db.specs.Statements.{Cause, cause_order, Counts, MakesItsChanges, Performs, Executes}
+use Rattle.lore_db.specs.Uncounted.{ReadsNoEdge}
+use Rattle.lore_db.specs.inside.Listed.{IsChanging, ListsChanges}
+use Rattle.lore_db.specs.inside.Stages.{ReadCause, read_order, found_order, change_order}
+use Rattle.lore_db.specs.inside.Stops.{told, OnReply, IsRepliedTo}
 use Rattle.lore_db.specs.declared.stops.Stop.{Stop}
 use Rattle.lore_db.specs.declared.stops.Stop.TheVariants as stop
 use Rattle.lore_db.proofs.OrderLaws.{told_left}
 use Rattle.lore_db.proofs.ReadLaws.{read_found, read_clear}
-use Rattle.lore_db.proofs.CauseLaws.{early, sizes, late, sizes_told, sizes_clear}
+use Rattle.lore_db.proofs.CauseLaws.{early, sizes, late, sizes_told, sizes_clear, changing_late}
 use Rattle.lore_db.proofs.QuietLaws.{no_locals, no_changes}
 use Rattle.lore_db.proofs.EffectLaws.{effects_fit}
 
@@ -44,7 +45,7 @@ module _ (db : Database) (query : SelectTree) where
         (refl, (rows, refl, answer)),
       )
 
-  pub select_told : (told : Option Refusal) → IsToldBy (ReadCause db query) read_order told → IsToldBy (Cause db (t.select query)) order told
+  pub select_told : (told : Option Refusal) → IsToldBy (ReadCause db query) read_order told → IsToldBy (Cause db (t.select query)) cause_order told
   select_told told h =
       told_left (Cause db (t.select query)) found_order change_order told
       (read_found db (t.select query) query refl (λ h. h) refl (no_locals db (t.select query) (λ h. h)) told h)
@@ -62,32 +63,50 @@ same_as a b is = subst (λ (c : Changes). AreSame a c) (sym is) (record {
   labels = refl;
 })
 
-module _ (db : Database) (statement : StatementTree) (rows : List (List Oid)) (are : AreRowsOf db statement rows) (changes : Changes)
-    (same : AreSame (effects db statement rows) changes) (clear : IsClear (Cause db statement) fit_order) where
-  module _ (changing : MakesChanges statement) where
-    pub changes_fit : IsValid db → IsFormedStatement statement → Fits db changes
-    changes_fit valid formed =
-        Fits-same (effects db statement rows) changes same db (effects_fit db valid statement formed rows are changing clear)
+-- what a statement does where it makes changes
+changing_performs : (db : Database) (statement : StatementTree) → MakesChanges statement → (reply : Reply) (after : Database)
+    → MakesItsChanges db statement reply after → Performs db statement reply after
+changing_performs db (t.load name literal) changing reply after h = h
+changing_performs db (t.bind name path) changing reply after h = h
+changing_performs db (t.unname name) changing reply after h = h
+changing_performs db (t.assign target value tail) changing reply after h = h
+changing_performs db (t.add_new target label literal tail) changing reply after h = h
+changing_performs db (t.add_link target label right tail) changing reply after h = h
+changing_performs db (t.remove target label right tail) changing reply after h = h
+changing_performs db (t.generate seed count) changing reply after h = h
+changing_performs db _ changing reply after h = absurd changing
 
-    -- what refuses the changes refuses the statement
-    pub changes_told : (told : Option Refusal) → IsToldBy (DatabaseCause db changes) sizes told → IsToldBy (Cause db statement) order told
-    changes_told told h = sizes_told db statement rows are changes same changing told clear h
+module _ (db : Database) (statement : StatementTree) (changes : Changes) (lists : ListsChanges db statement changes) where
+  pub changes_fit : IsValid db → IsFormedStatement statement → Fits db changes
+  changes_fit valid formed =
+      Fits-same (effects db statement lists.rows) changes lists.same db
+      (effects_fit db valid statement formed lists.rows lists.are lists.changing lists.clear)
 
-    pub changes_lead : IsClear (Cause db statement) late → (after : Database) (reply : Reply) → IsClear (DatabaseCause db changes) sizes
-        → IsAfter db changes after → Counts after reply → IsClear (Cause db statement) order × LeadsOn db statement reply after
-    changes_lead within after reply left is counts = (
-      sizes_clear db statement rows are changes same changing within clear left,
-      ((rows, are, IsAfter-same changes (effects db statement rows) (same-back (effects db statement rows) changes same) db after is), counts),
-    )
+  -- what refuses the changes refuses the statement
+  pub changes_told : (told : Option Refusal) → IsToldBy (DatabaseCause db changes) sizes told → IsToldBy (Cause db statement) cause_order told
+  changes_told told h = sizes_told db statement lists.rows lists.are changes lists.same lists.changing told lists.clear h
 
--- an update performs what its changes lead to
-pub update_performs : (db : Database) (statement : StatementTree) → IsUpdate statement → (reply : Reply) (after : Database) → LeadsOn db statement reply after
-    → Performs db statement reply after
-update_performs db (t.assign target value tail) update reply after h = h
-update_performs db (t.add_new target label literal tail) update reply after h = h
-update_performs db (t.add_link target label right tail) update reply after h = h
-update_performs db (t.remove target label right tail) update reply after h = h
-update_performs db _ update reply after h = absurd (update refl)
+  pub changes_executed : (after : Database) (reply : Reply) → IsClear (DatabaseCause db changes) sizes → IsAfter db changes after → Counts after reply
+      → Executes db statement reply after
+  changes_executed after reply left is counts =
+      let same = same-back (effects db statement lists.rows) changes lists.same in
+      inl (
+        sizes_clear db statement lists.rows lists.are changes lists.same lists.changing (changing_late db statement lists.changing) lists.clear left,
+        changing_performs db statement lists.changing reply after
+            ((lists.rows, lists.are, IsAfter-same changes (effects db statement lists.rows) same db after is), counts),
+      )
+
+-- one of such a form for which no step is counted makes none
+pub uncounted_change : (db : Database) (statement : StatementTree) → IsChanging statement → ReadsNoEdge db statement → MakesChanges statement → ⊥
+uncounted_change db (t.select query) form quiet changing = form
+uncounted_change db (t.explain query) form quiet changing = form
+uncounted_change db t.guide form quiet changing = form
+uncounted_change db (t.browse start labels) form quiet changing = form
+uncounted_change db (t.sample start labels count) form quiet changing = form
+uncounted_change db (t.set_nodes nodes) form quiet changing = form
+uncounted_change db (t.set_plan mode) form quiet changing = form
+uncounted_change db (t.generate seed count) form quiet changing = quiet changing
+uncounted_change db _ form quiet changing = quiet
 
 -- ---- replies
 -- what stays is the same, whatever the answer
@@ -98,13 +117,27 @@ unchanged (Err stop) db = refl
 -- what is replied where work on a statement ends is an execution
 pub replied : (before after : Database) (statement : StatementTree) (done : Result Reply Stop) (result : Result Reply NoMemory) → IsRepliedTo done result
     → IfOk done (λ reply. Executes before statement reply after) → OnErr done (after ≡ before)
-    → IfErr done (λ stop. IsToldBy (Cause before statement) order (told stop)) → IfOk result (λ reply. Executes before statement reply after)
+    → IfErr done (λ stop. IsToldBy (Cause before statement) cause_order (told stop)) → IfOk result (λ reply. Executes before statement reply after)
 replied before after statement (Ok reply) result is executed same refused =
     subst (λ (r : Result Reply NoMemory). IfOk r (λ answer. Executes before statement answer after)) (sym is) executed
 replied before after statement (Err (stop.Refused refusal)) result is executed same refused =
     subst (λ (r : Result Reply NoMemory). IfOk r (λ answer. Executes before statement answer after)) (sym is) (inr (refusal, refused, (refl, same)))
 replied before after statement (Err stop.NoMemory) result is executed same refused =
     subst (λ (r : Result Reply NoMemory). IfOk r (λ answer. Executes before statement answer after)) (sym is.1) tt
+
+-- of a statement that only reads, where the database and the statement are the same in other words
+pub read_reply : (db : Database) (statement : StatementTree) (other : Database) (tree : StatementTree) → other ≡ db → statement ≡ tree
+    → (result : Result Reply NoMemory) → IfOk result (λ reply. Executes other tree reply other) → IfOk result (λ reply. Executes db statement reply db)
+read_reply db statement other tree same is result h =
+    subst (λ (s : StatementTree). IfOk result (λ reply. Executes db s reply db)) (sym is)
+    (subst (λ (d : Database). IfOk result (λ reply. Executes d tree reply d)) same h)
+
+-- what holds where work ends with a reply or a refusal holds where it is replied
+pub replied_on : (done : Result Reply Stop) (result : Result Reply NoMemory) → IsRepliedTo done result → (Holds : Type 0) → OnReply done Holds
+    → OnOk result Holds
+replied_on (Ok reply) result is Holds h = subst (λ (r : Result Reply NoMemory). OnOk r Holds) (sym is) h
+replied_on (Err (stop.Refused refusal)) result is Holds h = subst (λ (r : Result Reply NoMemory). OnOk r Holds) (sym is) h
+replied_on (Err stop.NoMemory) result is Holds h = subst (λ (r : Result Reply NoMemory). OnOk r Holds) (sym is.1) tt
 
 -- what holds in each case holds where there is a reply
 pub on_any : {T E : Type 0} (result : Result T E) (Holds : Type 0) → Holds → OnOk result Holds

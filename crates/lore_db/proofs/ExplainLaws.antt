@@ -15,7 +15,7 @@ use Rattle.lore_base.specs.Paths.{Reaches}
 use Rattle.lore_db.specs.Types.{ValueEntry, PlanKind, Refusal, Reply, PlanShown}
 use Rattle.lore_db.specs.Types.refusals
 use Rattle.lore_db.specs.Plans.{AreCountsOver, IsKindOver, ShowsPlan}
-use Rattle.lore_db.specs.Statements.{Cause, order, Explains, Executes}
+use Rattle.lore_db.specs.Statements.{Cause, cause_order, Explains, Executes}
 use Rattle.lore_db.specs.inside.Stages.{ReadCause, bind_order}
 use Rattle.lore_db.proofs.CauseLaws.{locals, early, sizes, late}
 use Rattle.lore_db.proofs.QuietLaws.{behind_binding}
@@ -29,7 +29,7 @@ module _ (db : Database) (query : SelectTree) where
   abbrev tree : StatementTree
   tree = t.explain query
 
-  explain_clear : IsClear (ReadCause db query) bind_order → IsClear (Cause db tree) order
+  explain_clear : IsClear (ReadCause db query) bind_order → IsClear (Cause db tree) cause_order
   explain_clear clear =
       clear_both (Cause db tree) bind_order (behind ++ late) (read_bound db tree query refl (λ h. h) clear)
       (clear_both (Cause db tree) behind late (behind_binding db tree (λ h. h) refl) (λ h. h, (λ h. h, (λ h. h, tt))))

@@ -1,8 +1,7 @@
 -- Generated objects as a load: what refuses them, and what they change.
 use Rattle.std.proofs.Common.{◌≡◌, inl, inr, ℕ, ◌+◌, ◌<◌, ◌≤◌, List, [], ◌∷◌, ◌++◌, Option, refl, ap, subst, ◌∙◌, arith}
-use Rattle.std.specs.Prelude.{pos, codes}
+use Rattle.std.specs.Prelude.{ℤ, pos, ◌^◌, codes}
 use Rattle.std.proofs.lemmas.List.Elements.{All-contains}
-use Rattle.lore_base.specs.Walks.{oid_of}
 use Rattle.lore_base.specs.Databases.{Database, IsValid}
 use Rattle.lore_base.specs.ChangeCauses.{AddsToAtom, HidesChildren}
 use Rattle.lore_base.specs.Verdicts.{IsClear, IsToldBy}
@@ -11,21 +10,24 @@ use Rattle.lore_base.proofs.VerdictLaws.{clear_both}
 use Rattle.lorel_trees.specs.Trees as t
 use Rattle.lorel_trees.specs.Trees.{StatementTree}
 use Rattle.oem_labels.specs.Labels.{first_uses}
-use Rattle.oem_text.specs.Literals.{numbered}
 use Rattle.oem_text.specs.Layouts.{edge_from, edges_from}
 use Rattle.oem_text.specs.Generated.{generated_values, generated_arcs, generated_labels, generated_layout, IsGenerated, GeneratedCause, generated_order}
 use Rattle.oem_text.specs.declared.parts.Part.{Part}
 use Rattle.oem_text.proofs.GeneratedPlaces.{generated_length}
 use Rattle.updates.proofs.RowLaws.{map_found}
-use Rattle.lore_db.specs.Types.{Oid, Edge, Value, Refusal}
+use Rattle.lore_db.specs.Types.{Oid, Edge, Value, Changes, Refusal}
 use Rattle.lore_db.specs.Types.refusals
 use Rattle.lore_db.specs.Forms.{AreGenerable}
 use Rattle.lore_db.specs.Effects.{generating}
-use Rattle.lore_db.specs.Statements.{Cause, order}
+use Rattle.lore_db.specs.Statements.{Cause, cause_order}
+use Rattle.lore_db.specs.inside.Listed.{ListsChanges}
 use Rattle.lore_db.specs.inside.Stages.{loading_part, bind_order, fit_order}
 use Rattle.lore_db.proofs.LiteralLaws.{length-numbered}
 use Rattle.lore_db.proofs.OrderLaws.{AreAlike, told_left, told_right, clear_alike, told_alike}
 use Rattle.lore_db.proofs.CauseLaws.{sizes, late}
+use Rattle.lore_db.proofs.RangeLaws.{generable}
+use Rattle.lore_db.proofs.ExecutionLaws.{same_as}
+use Rattle.lore_db.proofs.LoadLaws.{part_makes}
 
 -- ---- in range
 module _ (db : Database) (valid : IsValid db) (seed count : ℕ) (within : AreGenerable (pos seed) (pos count)) where
@@ -64,7 +66,7 @@ module _ (db : Database) (valid : IsValid db) (seed count : ℕ) (within : AreGe
       )
 
   generate_told : (told : Option Refusal) → IsToldBy (GeneratedCause db.labels db.graph.next count) generated_order told
-      → IsToldBy (Cause db tree) order told
+      → IsToldBy (Cause db tree) cause_order told
   generate_told told h =
       told_left (Cause db tree) fit_order (sizes ++ late) told
       (told_right (Cause db tree) bind_order (middle ++ generated_order) told binds
@@ -79,36 +81,40 @@ module _ (db : Database) (valid : IsValid db) (seed count : ℕ) (within : AreGe
 
   -- over labels and a number that are the database's
   module _ (labels : List (List ℕ)) (next : ℕ) (table : labels ≡ db.labels) (number : next ≡ db.graph.next) where
-    pub made_told : (told : Option Refusal) → IsToldBy (GeneratedCause labels next count) generated_order told → IsToldBy (Cause db tree) order told
+    made_told : (told : Option Refusal) → IsToldBy (GeneratedCause labels next count) generated_order told → IsToldBy (Cause db tree) cause_order told
     made_told told h =
         generate_told told
         (subst (λ (n : ℕ). IsToldBy (GeneratedCause db.labels n count) generated_order told) number
         (subst (λ (l : List (List ℕ)). IsToldBy (GeneratedCause l next count) generated_order told) table h))
 
-    pub made_clear : IsClear (GeneratedCause labels next count) generated_order → IsClear (Cause db tree) fit_order
+    made_clear : IsClear (GeneratedCause labels next count) generated_order → IsClear (Cause db tree) fit_order
     made_clear h =
         generate_clear
         (subst (λ (n : ℕ). IsClear (GeneratedCause db.labels n count) generated_order) number
         (subst (λ (l : List (List ℕ)). IsClear (GeneratedCause l next count) generated_order) table h))
 
-    pub part_generates : (part : Part) → IsGenerated labels next seed count part → loading_part (codes "People") part ≡ generating db seed count
-    part_generates part is =
-        let made : part.made ≡ numbered db.graph.next (generated_values seed count) =
-        is.made ∙ ap (λ (n : ℕ). numbered n (generated_values seed count)) number in
-        let new : part.labels ≡ first_uses db.labels generated_labels =
-        is.labels ∙ ap (λ (l : List (List ℕ)). first_uses l generated_labels) table in
-        let added : part.added ≡ edges_from db.graph.next (db.labels ++ first_uses db.labels generated_labels) (generated_layout seed count) =
-        is.added
-        ∙ ap (λ (n : ℕ). edges_from n (labels ++ part.labels) (generated_layout seed count)) number
-        ∙ ap (λ (l : List (List ℕ)). edges_from db.graph.next (l ++ part.labels) (generated_layout seed count)) table
-        ∙ ap (λ (l : List (List ℕ)). edges_from db.graph.next (db.labels ++ l) (generated_layout seed count)) new in
-        let root : part.root ≡ oid_of db.graph.next = is.root ∙ ap oid_of number in
-        λ i. record {
-          made = made i;
-          values = [];
-          added = added i;
-          removed = [];
-          named = (codes "People", root i) ∷ [];
-          unnamed = [];
-          labels = new i;
-        }
+-- ---- by a seed and a number that were tested
+module _ (db : Database) (valid : IsValid db) (seed count : ℤ) (own size : ℕ) (is_seed : seed ≡ pos own) (is_count : count ≡ pos size)
+    (low : own < 2 ^ 31) (few : 20 ≤ size) (many : size ≤ 10000)
+    (labels : List (List ℕ)) (next : ℕ) (table : labels ≡ db.labels) (number : next ≡ db.graph.next) where
+  within : AreGenerable (pos own) (pos size)
+  within = generable own size low few many
+
+  pub numbers_told : (told : Option Refusal) → IsToldBy (GeneratedCause labels next size) generated_order told
+      → IsToldBy (Cause db (t.generate seed count)) cause_order told
+  numbers_told told h = rw (is_seed, is_count) (made_told db valid own size within labels next table number told h)
+
+  pub numbers_list : (part : Part) → IsGenerated labels next own size part → IsClear (GeneratedCause labels next size) generated_order
+      → (name : List ℕ) → name ≡ codes "People" → (changes : Changes) → changes ≡ loading_part name part
+      → ListsChanges db (t.generate seed count) changes
+  numbers_list part is clear name named changes made =
+      let all = made ∙ ap (λ (n : List ℕ). loading_part n part) named
+      ∙ part_makes db (codes "People") labels next table number (generated_values own size) generated_labels
+      (λ n l. edges_from n l (generated_layout own size)) part is.made is.added is.labels is.root in
+      rw (is_seed, is_count) (record {
+        changing = within;
+        rows = [];
+        are = refl;
+        same = same_as (generating db own size) changes all;
+        clear = made_clear db valid own size within labels next table number clear;
+      })

@@ -16,7 +16,7 @@ use Rattle.guide_query.specs.GuideLines.{IsLabelledGuide, AreGuideLines}
 use Rattle.lore_store.specs.Stores.{IsGuided, IsLimit}
 use Rattle.lore_db.specs.Types.{Oid, Edge, NODES, Reply, Changed}
 use Rattle.lore_db.specs.Types.refusals
-use Rattle.lore_db.specs.Statements.{IsNoLimit, Cause, order, Counts, Shows, Limits, Executes}
+use Rattle.lore_db.specs.Statements.{IsNoLimit, Cause, cause_order, Counts, Shows, Limits, Executes}
 use Rattle.lore_db.specs.inside.Stages.{fit_order}
 use Rattle.lore_db.specs.inside.Stops.{told}
 use Rattle.lore_db.specs.declared.stops.Stop.{Stop}
@@ -27,17 +27,17 @@ use Rattle.lore_db.proofs.RangeLaws.{no_count}
 
 -- ---- what refuses them
 module _ (db : Database) where
-  pub guide_clear : IsClear (Cause db t.guide) order
+  pub guide_clear : IsClear (Cause db t.guide) cause_order
   guide_clear = clear_both (Cause db t.guide) (fit_order ++ sizes) late (nothing_before db t.guide (λ h. h) (λ h. h) refl refl) (λ h. h, (λ h. h, (λ h. h, tt)))
 
 module _ (db : Database) (nodes : ℤ) where
   nodes_before : IsClear (Cause db (t.set_nodes nodes)) (fit_order ++ sizes)
   nodes_before = nothing_before db (t.set_nodes nodes) (λ h. h) (λ h. h) refl refl
 
-  pub nodes_clear : (IsNoLimit db nodes → ⊥) → IsClear (Cause db (t.set_nodes nodes)) order
+  pub nodes_clear : (IsNoLimit db nodes → ⊥) → IsClear (Cause db (t.set_nodes nodes)) cause_order
   nodes_clear limit = clear_both (Cause db (t.set_nodes nodes)) (fit_order ++ sizes) late nodes_before (limit, (λ h. h, (λ h. h, tt)))
 
-  pub nodes_told : IsNoLimit db nodes → IsToldBy (Cause db (t.set_nodes nodes)) order (Some refusals.LimitRange)
+  pub nodes_told : IsNoLimit db nodes → IsToldBy (Cause db (t.set_nodes nodes)) cause_order (Some refusals.LimitRange)
   nodes_told none =
       told_right (Cause db (t.set_nodes nodes)) (fit_order ++ sizes) late (Some refusals.LimitRange) nodes_before (inl (none, refl))
 
@@ -47,9 +47,9 @@ shown db (Ok reply) h = inl (guide_clear db, h)
 shown db (Err stop) h = tt
 
 pub shown_told : (db : Database) (done : Result Reply Stop) → IfErr done (λ stop. told stop ≡ None)
-    → IfErr done (λ stop. IsToldBy (Cause db t.guide) order (told stop))
+    → IfErr done (λ stop. IsToldBy (Cause db t.guide) cause_order (told stop))
 shown_told db (Ok reply) h = tt
-shown_told db (Err stop) h = subst (IsToldBy (Cause db t.guide) order) (sym h) tt
+shown_told db (Err stop) h = subst (IsToldBy (Cause db t.guide) cause_order) (sym h) tt
 
 module _ (before after : Database) (nodes : ℤ) where
   pub limited : (done : Result Reply Stop) → IfOk done (λ reply. Limits before nodes reply after) → OnOk done (IsNoLimit before nodes → ⊥)
@@ -59,10 +59,10 @@ module _ (before after : Database) (nodes : ℤ) where
 
   pub limited_told : (done : Result Reply Stop)
       → IfErr done (λ stop. (told stop ≡ Some refusals.LimitRange) × IsNoLimit before nodes)
-      → IfErr done (λ stop. IsToldBy (Cause before (t.set_nodes nodes)) order (told stop))
+      → IfErr done (λ stop. IsToldBy (Cause before (t.set_nodes nodes)) cause_order (told stop))
   limited_told (Ok reply) h = tt
   limited_told (Err stop) h =
-      subst (IsToldBy (Cause before (t.set_nodes nodes)) order) (sym h.0) (nodes_told before nodes h.1)
+      subst (IsToldBy (Cause before (t.set_nodes nodes)) cause_order) (sym h.0) (nodes_told before nodes h.1)
 
 -- ---- what a store's guide tells
 -- its nodes are counted

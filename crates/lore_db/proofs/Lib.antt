@@ -32,6 +32,7 @@ pub mod LocalToldLaws
 pub mod PlanLaws
 pub mod ExplainLaws
 pub mod QuietPlanLaws
+pub mod ViewLaws
 pub mod BottomLaws
 pub mod SomePlanLaws
 pub mod OneReplyLaws

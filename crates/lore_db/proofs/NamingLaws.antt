@@ -1,32 +1,28 @@
 -- Names: what refuses one that is bound to a path, and what binds it or takes it away.
-use Rattle.std.proofs.Common.{◌≡◌, inl, ℕ, List, [], ◌∷◌, length, map, Bool, true, false, true≢false, not, is_some, Option, Some, None, All, refl, sym, ap, subst, ◌∙◌}
-use Rattle.std.specs.List.{Contains}
-use Rattle.lore_base.specs.Names.{IsName, IsNameTable, object_of}
+use Rattle.std.proofs.Common.{◌≡◌, ℕ, List, [], ◌∷◌, length, Bool, true, false, true≢false, not, is_some, Option, Some, None, All, refl, sym, ap, subst, ◌∙◌}
+use Rattle.lore_base.specs.Names.{IsNameTable, object_of}
 use Rattle.lore_base.specs.Databases.{Database, IsValid}
-use Rattle.lore_base.specs.ChangeSets.{IsBound, Fits, IsAfter}
-use Rattle.lore_base.specs.ChangeCauses.{DatabaseCause}
+use Rattle.lore_base.specs.ChangeSets.{IsBound}
 use Rattle.lore_base.specs.Verdicts.{IsClear, IsToldBy}
 use Rattle.lore_base.proofs.NameLaws.{found_bound, bound_found}
 use Rattle.oem_changes.proofs.RootedLaws.{All-of_members}
 use Rattle.lorel_trees.specs.Trees.{RootedTree, SelectTree, StatementTree, bind, unname}
 use Rattle.lorel_ranges.specs.Places.{place_of}
 use Rattle.lorel_bind.specs.Answers.{IsAnswer}
-use Rattle.updates.proofs.RowLaws.{map_holds}
-use Rattle.lore_db.specs.Types.{Oid, Cell, Changes, Refusal, Reply}
+use Rattle.lore_db.specs.Types.{Oid, Cell, Changes, Refusal}
 use Rattle.lore_db.specs.Types.refusals
 use Rattle.lore_db.specs.Forms.{path_select}
-use Rattle.lore_db.specs.Effects.{object_cells, pair_of, AreRowsOf, naming, unnaming, effects}
-use Rattle.lore_db.specs.Statements.{Cause, order, Counts, Executes}
+use Rattle.lore_db.specs.Effects.{naming, unnaming}
+use Rattle.lore_db.specs.Statements.{Cause, cause_order}
 use Rattle.lore_db.specs.inside.Stops.{told}
-use Rattle.lore_db.specs.inside.Stages.{ReadCause, read_order, found_order, change_order, fit_order, IsOneObject, IsOnly, IsNotOnly}
+use Rattle.lore_db.specs.inside.Listed.{ListsChanges}
+use Rattle.lore_db.specs.inside.Stages.{ReadCause, read_order, found_order, change_order, IsOneObject, IsOnly, IsNotOnly}
 use Rattle.lore_db.specs.declared.stops.Stop.{Stop}
 use Rattle.lore_db.proofs.OrderLaws.{told_left}
-use Rattle.lore_db.proofs.FitLaws.{name_fits, unname_fits}
 use Rattle.lore_db.proofs.ObjectRowLaws.{shown_objects}
-use Rattle.lore_db.proofs.LiveRowLaws.{starts_somewhere, IsOneCell, one_cell, one_targets}
 use Rattle.lore_db.proofs.ReadLaws.{read_found, read_clear}
-use Rattle.lore_db.proofs.CauseLaws.{sizes, name_locals, name_clear, name_told, unname_clear, unname_told}
-use Rattle.lore_db.proofs.ExecutionLaws.{same_as, changes_told, changes_lead}
+use Rattle.lore_db.proofs.CauseLaws.{name_locals, name_clear, name_told, unname_clear, unname_told}
+use Rattle.lore_db.proofs.ExecutionLaws.{same_as}
 
 -- ---- bound names
 some_none : (oid : Oid) → Some oid ≡ None → ⊥
@@ -52,7 +48,7 @@ module _ (db : Database) (valid : IsValid db) (name : List ℕ) (path : RootedTr
   query = path_select path
 
   -- what refuses the select refuses the statement
-  pub path_stops : (told : Option Refusal) → IsToldBy (ReadCause db query) read_order told → IsToldBy (Cause db naming_tree) order told
+  pub path_stops : (told : Option Refusal) → IsToldBy (ReadCause db query) read_order told → IsToldBy (Cause db naming_tree) cause_order told
   path_stops told h =
       told_left (Cause db naming_tree) found_order change_order told
       (read_found db naming_tree query refl (λ unbound. unbound) refl (name_locals db valid name path) told h)
@@ -68,62 +64,33 @@ module _ (db : Database) (valid : IsValid db) (name : List ℕ) (path : RootedTr
     found_clear : IsClear (Cause db naming_tree) found_order
     found_clear = read_clear db naming_tree query refl (λ unbound. unbound) refl (name_locals db valid name path) clear
 
-    pub several_stop : (stop : Stop) → IsNotOnly rows stop → IsToldBy (Cause db naming_tree) order (told stop)
+    pub several_stop : (stop : Stop) → IsNotOnly rows stop → IsToldBy (Cause db naming_tree) cause_order (told stop)
     several_stop stop h =
-        subst (IsToldBy (Cause db naming_tree) order) (sym h.0) (name_told db valid name path rows answer h.1 found_clear)
+        subst (IsToldBy (Cause db naming_tree) cause_order) (sym h.0) (name_told db valid name path rows answer h.1 found_clear)
 
-    module _ (formed : IsName name) (oid : Oid) (only : IsOnly rows oid) (changes : Changes) (is : changes ≡ naming name ((oid, None) ∷ [])) where
-      -- the only row, as objects
-      abbrev objects : List (List Oid)
-      objects = (oid ∷ []) ∷ []
-
-      are : AreRowsOf db naming_tree objects
-      are = subst (IsAnswer db query) only answer
-
-      each : (row : List Oid) → Contains objects row → IsOneCell db row
-      each row there =
-          one_cell db valid path (record { ranges = []; cond = None }) (starts_somewhere db.graph.names query clear.0 clear.1.0) row
-          ((are.exact (object_cells row)).0 (map_holds object_cells objects row there))
-
-      lists : changes ≡ effects db naming_tree objects
-      lists = is
-
-      fit_clear : IsClear (Cause db naming_tree) fit_order
-      fit_clear = name_clear db valid name path rows answer (ap length only) found_clear
-
-      pub named_fit : Fits db changes
-      named_fit = subst (λ (c : Changes). Fits db c) (sym lists) (name_fits db valid name (map pair_of objects) formed (one_targets db objects each))
-
-      pub named_stop : (told : Option Refusal) → IsToldBy (DatabaseCause db changes) sizes told → IsToldBy (Cause db naming_tree) order told
-      named_stop told h =
-          changes_told db naming_tree objects are changes (same_as (effects db naming_tree objects) changes lists) fit_clear tt told h
-
-      pub named_executes : (after : Database) (reply : Reply) → IsClear (DatabaseCause db changes) sizes → IsAfter db changes after
-          → Counts after reply → Executes db naming_tree reply after
-      named_executes after reply left leads counts =
-          inl (changes_lead db naming_tree objects are changes (same_as (effects db naming_tree objects) changes lists) fit_clear tt
-          (λ h. h, (λ h. h, (λ h. h, tt))) after reply left leads counts)
+    -- the only row, as objects
+    pub named_lists : (oid : Oid) → IsOnly rows oid → (changes : Changes) → changes ≡ naming name ((oid, None) ∷ []) → ListsChanges db naming_tree changes
+    named_lists oid only changes is = record {
+      changing = tt;
+      rows = (oid ∷ []) ∷ [];
+      are = subst (IsAnswer db query) only answer;
+      same = same_as (naming name ((oid, None) ∷ [])) changes is;
+      clear = name_clear db valid name path rows answer (ap length only) found_clear;
+    }
 
 -- ---- a name taken away
 module _ (db : Database) (valid : IsValid db) (name : List ℕ) where
   abbrev unnaming_tree : StatementTree
   unnaming_tree = unname name
 
-  pub unbound_stop : (IsBound db.graph.names name → ⊥) → IsToldBy (Cause db unnaming_tree) order (Some refusals.UnknownName)
+  pub unbound_stop : (IsBound db.graph.names name → ⊥) → IsToldBy (Cause db unnaming_tree) cause_order (Some refusals.UnknownName)
   unbound_stop unbound = unname_told db valid name unbound
 
-  module _ (bound : IsBound db.graph.names name) (changes : Changes) (is : changes ≡ unnaming name) where
-    bound_clear : IsClear (Cause db unnaming_tree) fit_order
-    bound_clear = unname_clear db valid name (λ unbound. unbound bound)
-
-    pub unnamed_fit : Fits db changes
-    unnamed_fit = subst (λ (c : Changes). Fits db c) (sym is) (unname_fits db valid name bound)
-
-    pub unnamed_stop : (told : Option Refusal) → IsToldBy (DatabaseCause db changes) sizes told → IsToldBy (Cause db unnaming_tree) order told
-    unnamed_stop told h = changes_told db unnaming_tree [] refl changes (same_as (unnaming name) changes is) bound_clear tt told h
-
-    pub unnamed_executes : (after : Database) (reply : Reply) → IsClear (DatabaseCause db changes) sizes → IsAfter db changes after
-        → Counts after reply → Executes db unnaming_tree reply after
-    unnamed_executes after reply left leads counts =
-        inl (changes_lead db unnaming_tree [] refl changes (same_as (unnaming name) changes is) bound_clear tt (λ h. h, (λ h. h, (λ h. h, tt)))
-        after reply left leads counts)
+  pub unnamed_lists : IsBound db.graph.names name → (changes : Changes) → changes ≡ unnaming name → ListsChanges db unnaming_tree changes
+  unnamed_lists bound changes is = record {
+    changing = tt;
+    rows = [];
+    are = refl;
+    same = same_as (unnaming name) changes is;
+    clear = unname_clear db valid name (λ unbound. unbound bound);
+  }

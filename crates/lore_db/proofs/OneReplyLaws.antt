@@ -15,7 +15,7 @@ use Rattle.lorel_trees.specs.Trees.{StatementTree, select, explain, guide, brows
 use Rattle.lorel_bind.proofs.AnswerLaws.{has_one_answer}
 use Rattle.lore_db.specs.Types.{Oid, Cell, Mode, Refusal, Reply, Changed, Rows, Lines, Refused}
 use Rattle.lore_db.specs.Effects.{effects}
-use Rattle.lore_db.specs.Statements.{Cause, order, Counts, LeadsOn, Shows, Browses, Samples, Limits, ChoosesBy, Dumps, Restores, Performs, Refuses}
+use Rattle.lore_db.specs.Statements.{Cause, cause_order, Counts, MakesItsChanges, Shows, Browses, Samples, Limits, ChoosesBy, Dumps, Restores, Performs, Refuses}
 use Rattle.lore_db.specs.StatementLaws.{ExecutesOnce}
 use Rattle.lore_db.proofs.CauseLaws.{one_rows}
 use Rattle.lore_db.proofs.ExplainLaws.{one_explained}
@@ -34,8 +34,8 @@ same_counted after later reply other same h k =
     one_counted later reply other (subst (λ (db : Database). Counts db reply) same h) k
 
 one_led : (before : Database) (statement : StatementTree) (reply other : Reply) (after later : Database)
-    → LeadsOn before statement reply after
-    → LeadsOn before statement other later → (reply ≡ other) × (after ≡ later)
+    → MakesItsChanges before statement reply after
+    → MakesItsChanges before statement other later → (reply ≡ other) × (after ≡ later)
 one_led before statement reply other after later h k =
     let rows = one_rows before statement h.0.0 k.0.0 h.0.1 k.0.1 in
     let there = subst (λ (l : List (List Oid)). IsAfter before (effects before statement l) after) rows h.0.2 in
@@ -115,9 +115,9 @@ pub one_execution : ExecutesOnce
 one_execution before statement reply other after later (inl h) (inl k) =
     one_performed before statement reply other after later h.1 k.1
 one_execution before statement reply other after later (inl h) (inr k) =
-    absurd (first_unclear (Cause before statement) order k.0 k.1 h.0)
+    absurd (first_unclear (Cause before statement) cause_order k.0 k.1 h.0)
 one_execution before statement reply other after later (inr h) (inl k) =
-    absurd (first_unclear (Cause before statement) order h.0 h.1 k.0)
+    absurd (first_unclear (Cause before statement) cause_order h.0 h.1 k.0)
 one_execution before statement reply other after later (inr h) (inr k) =
-    let same = one_first (Cause before statement) order h.0 k.0 h.1 k.1 in
+    let same = one_first (Cause before statement) cause_order h.0 k.0 h.1 k.1 in
     one_refused h.0 k.0 before reply other after later same h.2 k.2

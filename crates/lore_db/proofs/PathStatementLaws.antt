@@ -1,5 +1,5 @@
 -- Label paths as statements: what refuses them, and what the guide of a store tells of a path.
-use Rattle.std.proofs.Common.{◌≡◌, ◌≢◌, inl, inr, ℕ, List, ◌++◌, Some, AllPairs, refl, subst}
+use Rattle.std.proofs.Common.{◌≡◌, ◌≢◌, inl, ℕ, List, ◌++◌, Some, AllPairs, refl, subst}
 use Rattle.std.specs.Prelude.{ℤ}
 use Rattle.lore_base.specs.Databases.{Database, IsValid}
 use Rattle.lore_base.specs.ChangeSets.{IsBound}
@@ -13,7 +13,7 @@ use Rattle.lore_store.specs.Stores.{IsGuided}
 use Rattle.lore_db.specs.Types.{Oid, Edge, Value}
 use Rattle.lore_db.specs.Types.refusals
 use Rattle.lore_db.specs.Forms.{IsBetween}
-use Rattle.lore_db.specs.Statements.{Cause, order}
+use Rattle.lore_db.specs.Statements.{Cause, cause_order}
 use Rattle.lore_db.specs.inside.Stages.{fit_order}
 use Rattle.lore_db.proofs.OrderLaws.{told_right}
 use Rattle.lore_db.proofs.CauseLaws.{sizes, late}
@@ -22,12 +22,12 @@ use Rattle.lore_db.proofs.GuideStatementLaws.{shown_guide}
 
 module _ (db : Database) (start : List ℕ) (labels : List (List ℕ)) where
   -- ---- where it leads
-  pub browse_clear : IsBound db.graph.names start → IsClear (Cause db (t.browse start labels)) order
+  pub browse_clear : IsBound db.graph.names start → IsClear (Cause db (t.browse start labels)) cause_order
   browse_clear bound =
       clear_both (Cause db (t.browse start labels)) (fit_order ++ sizes) late
       (nothing_before db (t.browse start labels) (λ h. h) (λ unbound. unbound bound) refl refl) (λ h. h, (λ h. h, (λ h. h, tt)))
 
-  pub browse_told : (IsBound db.graph.names start → ⊥) → IsToldBy (Cause db (t.browse start labels)) order (Some refusals.UnknownName)
+  pub browse_told : (IsBound db.graph.names start → ⊥) → IsToldBy (Cause db (t.browse start labels)) cause_order (Some refusals.UnknownName)
   browse_told unbound = inl (inl unbound, refl)
 
   -- ---- its first objects
@@ -35,16 +35,16 @@ module _ (db : Database) (start : List ℕ) (labels : List (List ℕ)) where
     sample_before : IsBound db.graph.names start → IsClear (Cause db (t.sample start labels count)) (fit_order ++ sizes)
     sample_before bound = nothing_before db (t.sample start labels count) (λ h. h) (λ unbound. unbound bound) refl refl
 
-    pub sample_clear : IsBound db.graph.names start → IsBetween 1 100000 count → IsClear (Cause db (t.sample start labels count)) order
+    pub sample_clear : IsBound db.graph.names start → IsBetween 1 100000 count → IsClear (Cause db (t.sample start labels count)) cause_order
     sample_clear bound within =
         clear_both (Cause db (t.sample start labels count)) (fit_order ++ sizes) late (sample_before bound)
         (λ outside. outside within, (λ h. h, (λ h. h, tt)))
 
-    pub sample_unbound : (IsBound db.graph.names start → ⊥) → IsToldBy (Cause db (t.sample start labels count)) order (Some refusals.UnknownName)
+    pub sample_unbound : (IsBound db.graph.names start → ⊥) → IsToldBy (Cause db (t.sample start labels count)) cause_order (Some refusals.UnknownName)
     sample_unbound unbound = inl (inl unbound, refl)
 
     pub sample_outside : IsBound db.graph.names start → (IsBetween 1 100000 count → ⊥)
-        → IsToldBy (Cause db (t.sample start labels count)) order (Some refusals.LimitRange)
+        → IsToldBy (Cause db (t.sample start labels count)) cause_order (Some refusals.LimitRange)
     sample_outside bound outside =
         told_right (Cause db (t.sample start labels count)) (fit_order ++ sizes) late (Some refusals.LimitRange) (sample_before bound)
         (inl (outside, refl))

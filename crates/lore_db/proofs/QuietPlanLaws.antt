@@ -1,6 +1,6 @@
 -- Plans that read no edge: whatever plan was made of a quiet select, the guide tells all of it, or it begins from values
 -- that no object has.
-use Rattle.std.proofs.Common.{◌≡◌, ◌≢◌, ◌↔◌, ◌⊎◌, ℕ, ◌≤◌, inl, inr, List, [], ◌∷◌, length, Option, Some, None, All, AllPairs, refl, sym, subst, ◌∙◌, arith}
+use Rattle.std.proofs.Common.{◌≡◌, ◌≢◌, ◌⊎◌, ℕ, ◌≤◌, inl, inr, List, [], ◌∷◌, length, Option, Some, None, All, AllPairs, refl, sym, subst, ◌∙◌, arith}
 use Rattle.std.proofs.lemmas.List.Elements.{All-nil, All-cons, All-head}
 use Rattle.std.proofs.lemmas.Option.{same_Some}
 use Rattle.lore_base.specs.Databases.{Database}
@@ -8,28 +8,27 @@ use Rattle.lore_base.specs.Paths.{PathTree, Reaches}
 use Rattle.lore_base.specs.TargetSets.{ListsInOrder}
 use Rattle.lore_base.proofs.MemberLaws.{Contains-none}
 use Rattle.lorel_trees.specs.Trees.{SelectTree}
-use Rattle.index_traits.specs.Entries.{AreLinks, AreValueEntries}
+use Rattle.index_traits.specs.Entries.{AreValueEntries}
 use Rattle.index_laws.proofs.SortedEntries.{entries_are_determined}
 use Rattle.lorel_ranges.specs.Conditions.{CondOf}
 use Rattle.lorel_bind.specs.Bound.{RangeTree, BoundPathTree, BoundTree}
 use Rattle.lorel_bind.specs.Bindings.{IsBinding, IsWithin, AreInOrder, IsRunnable}
-use Rattle.lorel_bind.specs.SlotRows.{HoldsOver, ShowsObjects}
+use Rattle.lorel_bind.specs.SlotRows.{ShowsObjects}
 use Rattle.lorel_bind.specs.Plans.{Probe, StepTree, from_value, steps_of, IsChain, IsCandidate, tests, along, guided_step, bottom_steps, AreBottomSteps, AreStepsOf, IsPlanOf}
 use Rattle.lorel_bind.proofs.BindingLaws.{has_one_binding}
 use Rattle.planner.specs.Choices.{IsGivenCount, AreCounted}
 use Rattle.planner.proofs.OneLaws.{has_one_plan}
-use Rattle.plan_ops.specs.Steps.{StepsOver, steps_over, Meets, Finishes, in_eight, IsSought, Agrees}
+use Rattle.plan_ops.specs.Steps.{StepsOver, Meets, Finishes, in_eight, IsSought, Agrees}
 use Rattle.plan_ops.specs.Types.{Plan}
-use Rattle.plan_ops.specs.Rows.{RowsLeft, IsToCome, AreSame, IsGuided, FindsNothing, AreQuiet, ReadNothing}
+use Rattle.plan_ops.specs.Rows.{IsGuided, FindsNothing, AreQuiet}
 use Rattle.plan_ops.proofs.DescribeLaws.{plan_describes}
-use Rattle.lore_db.specs.Types.{Oid, Label, Edge, Value, Start, ValueEntry, PlanKind}
+use Rattle.lore_db.specs.Types.{Oid, Label, Value, Start, ValueEntry, PlanKind}
 use Rattle.lore_db.specs.Types.starts
 use Rattle.lore_db.specs.Types.plan_kinds
 use Rattle.lore_db.specs.Plans.{AreCountsOver, IsKindOver}
 use Rattle.lore_db.specs.Uncounted.{IsQuietPlan, IsQuietBound, IsQuietSelect}
-use Rattle.lore_db.specs.inside.Starts.{HasNamedStarts}
+use Rattle.lore_db.specs.inside.Views.{ReadsNone}
 use Rattle.lore_db.proofs.ExplainLaws.{one_counts, one_kind}
-use Rattle.lore_db.proofs.StageLaws.{Tells, agrees_over, over_of, AreLeft, along_parts}
 
 -- ---- by the guide: one range at most, which starts at a name, and no condition
 guided_start : (start : Start) (path : PathTree) → IsWithin 0 start → IsGuided (guided_step start path 0)
@@ -134,53 +133,18 @@ module _ (db : Database) (bound : BoundTree) (runnable : IsRunnable bound) (over
       (subst (λ (l : List (List ℕ)). AreStepsOf l bound plan_kinds.Bottom steps) (sym labelled) are) agrees
       (bottom_steps_quiet candidates found steps counts quiet are))
 
+  -- so it reads no edge
+  pub quiet_reads : Agrees over db.graph.objects bound → (plan : Plan) → AreCountsOver db bound plan.candidates plan.found
+      → IsKindOver db plan.candidates plan.found plan.kind → IsPlanOf db.labels bound plan → over.labels ≡ db.labels → IsQuietBound db bound
+      → ReadsNone over bound (steps_of plan)
+  quiet_reads agrees plan counts kind_is planned labelled quiet =
+      let own = own_quiet plan.kind plan.candidates plan.found counts kind_is quiet in (
+        steps_quiet plan.kind plan.candidates plan.found (steps_of plan) counts own planned,
+        cells_quiet plan.kind plan.candidates plan.found (steps_of plan) counts own labelled planned agrees,
+      )
+
 -- what is quiet as a select is quiet as it is bound, since it is bound in one way
 pub bound_quiet : (db : Database) (query : SelectTree) (bound : BoundTree) → IsBinding db.graph.names query bound → IsQuietSelect db query
     → IsQuietBound db bound
 bound_quiet db query bound binding quiet =
     subst (IsQuietBound db) (has_one_binding db.graph.names query quiet.0 bound quiet.1 binding) quiet.2
-
--- ---- rows that are made of such parts, and keep them
-module _ {A K V P T : Type 0} (rows : RowsLeft A K V P T) (labels : List (List ℕ)) (graph : A) (links : K) (values : V) (paths : P) (test : T) (plan : Plan)
-    (made : (rows.graph ≡ graph) × (rows.links ≡ links) × (rows.values ≡ values) × (rows.paths ≡ paths) × (rows.test ≡ test) × (rows.labels ≡ labels)
-    × (rows.plan ≡ plan))
-    (edges_of : A → List Edge) (links_of : K → List Edge) (entries_of : V → List ValueEntry) (reaches_of : P → PathTree → Oid → Oid → Type 0)
-    (passes_of : T → List Oid → Type 0) where
-  abbrev over : StepsOver
-  over = steps_over labels (edges_of graph) (links_of links) (entries_of values) (reaches_of paths) (passes_of test)
-
-  abbrev Left : List Oid → Type 0
-  Left = AreLeft edges_of links_of entries_of reaches_of passes_of rows
-
-  module _ (db : Database) (bound : BoundTree) (runnable : IsRunnable bound)
-      (are_entries : AreValueEntries db.graph.objects db.graph.edges (entries_of values))
-      (counts : AreCountsOver db bound plan.candidates plan.found) (kind_is : IsKindOver db plan.candidates plan.found plan.kind)
-      (planned : IsPlanOf db.labels bound plan) (quiet : IsQuietBound db bound) where
-    its_quiet : IsQuietPlan bound plan.kind plan.candidates
-    its_quiet = own_quiet db bound runnable over are_entries plan.kind plan.candidates plan.found counts kind_is quiet
-
-    -- no edge is read for the rows of a quiet select
-    pub quiet_rows : (AreQuiet over (steps_of rows.plan) → ReadNothing over (steps_of rows.plan) rows.partials)
-        → ReadNothing (over_of edges_of links_of entries_of reaches_of passes_of rows) (steps_of rows.plan) rows.partials
-    quiet_rows read =
-        let steps = steps_quiet db bound runnable over are_entries plan.kind plan.candidates plan.found (steps_of plan) counts its_quiet planned in
-        let nothing = read (subst (λ (p : Plan). AreQuiet over (steps_of p)) (sym made.6) steps) in
-        along_parts rows labels graph links values paths test plan made edges_of links_of entries_of reaches_of passes_of
-        (λ kept. ReadNothing kept (steps_of rows.plan) rows.partials) nothing
-
-    -- nor for their cells: they show no word, or no row comes
-    pub quiet_cells : HasNamedStarts db.graph.names bound → labels ≡ db.labels → edges_of graph ≡ db.graph.edges
-        → AreLinks db.graph.edges (links_of links) → Tells db (reaches_of paths)
-        → ((slots : List Oid) → passes_of test slots ↔ HoldsOver db.labels db.graph.edges db.graph.objects slots bound.cond)
-        → ((objects : List (Oid × Value)) → Agrees over objects bound
-        → AreSame (IsSought labels over.edges over.passes bound) (IsToCome over (steps_of rows.plan) rows.partials))
-        → ShowsObjects bound ⊎ ((slots : List Oid) → Left slots → ⊥)
-    quiet_cells starts_named l e are_links tells passes to_come =
-        let agrees = agrees_over db bound over l e passes are_links are_entries starts_named tells in
-        let same = along_parts rows labels graph links values paths test plan made edges_of links_of entries_of reaches_of passes_of
-        (λ kept. AreSame (IsSought labels over.edges over.passes bound) (IsToCome kept (steps_of rows.plan) rows.partials))
-        (to_come db.graph.objects agrees) in
-        elim (cells_quiet db bound runnable over are_entries plan.kind plan.candidates plan.found (steps_of plan) counts its_quiet l planned agrees) [
-          | inl objects ↦ inl objects
-          | inr none ↦ inr (λ slots left. none slots ((same slots).0 left))
-        ]

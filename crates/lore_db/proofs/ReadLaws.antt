@@ -1,5 +1,5 @@
 -- A statement that is executed over a select is refused for what the select is refused for.
-use Rattle.std.proofs.Common.{◌≡◌, ◌≢◌, ◌↔◌, inl, inr, List, [], ◌∷◌, Option, Some, None, AllPairs, All, sym, subst, ◌∙◌, arith}
+use Rattle.std.proofs.Common.{◌≡◌, ◌≢◌, ◌↔◌, inl, inr, List, [], ◌∷◌, Option, Some, None, AllPairs, All, sym, subst, arith}
 use Rattle.std.specs.Prelude.{MatchOption}
 use Rattle.std.specs.List.{Contains}
 use Rattle.graph_search.proofs.SumLaws.{sum_by-within, length-within}

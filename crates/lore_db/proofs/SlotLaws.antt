@@ -6,14 +6,13 @@ use Rattle.std.proofs.lemmas.List.Elements.{All-head, All-tail, All-contains}
 use Rattle.std.proofs.lemmas.Option.{same_Some, slice_get_within}
 use Rattle.lore_base.specs.Walks.{oid_of}
 use Rattle.lore_base.specs.Comparisons.{Compares}
-use Rattle.lore_base.specs.Databases.{Database}
 use Rattle.lore_base.specs.Paths.{Reaches}
 use Rattle.lorel_bind.specs.declared.bound.BoundStart.{BoundStart}
 use Rattle.lorel_bind.specs.declared.bound.BoundStart.TheVariants as bound_starts
 use Rattle.lorel_bind.specs.Bound.{RangeTree, BoundPathTree, BoundTree}
 use Rattle.lorel_ranges.specs.Conditions.{CondOf, paths_of, paths_in}
 use Rattle.lorel_bind.specs.Bindings.{IsWithin, IsCellWithin, AreInOrder, IsBoundWithin, IsRunnable}
-use Rattle.lorel_bind.specs.SlotRows.{StartsAt, BoundStartsAt, MeetsBy, HoldsOver, AreFilled, IsSlotWord, ShowsSlot, IsSlotRow}
+use Rattle.lorel_bind.specs.SlotRows.{StartsAt, BoundStartsAt, MeetsBy, HoldsOver, AreFilled, IsSlotWord, ShowsSlot}
 use Rattle.lorel_bind.proofs.ConditionLaws.{ReachAlike, holds_like, like_itself}
 use Rattle.lorel_ranges.proofs.ListLaws.{AllZip-length}
 use Rattle.plan_ops.specs.Steps.{in_eight, IsSought}
@@ -23,6 +22,7 @@ use Rattle.answers.specs.Types.shown
 use Rattle.lore_db.specs.Types.{Oid, Label, Edge, Value, Start, Cell, RANGES}
 use Rattle.lore_db.specs.Types.starts
 use Rattle.lore_db.specs.Types.cells
+use Rattle.lore_db.specs.inside.Views.{IsRowOf}
 
 -- ---- more slots behind
 slice_get-front : {X : Type 0} (xs ys : List X) (k : ℕ) → k < length xs → slice_get (xs ++ ys) k ≡ slice_get xs k
@@ -134,20 +134,20 @@ passed_holds (Some own) Passes Has same = same
 
 -- ---- the rows that are sought
 -- what the cells show of them are the rows of the bound select
-pub sought_rows : (db : Database) (bound : BoundTree) (passes : List Oid → Type 0) → IsRunnable bound
-    → ((slots : List Oid) → passes slots ↔ HoldsOver db.labels db.graph.edges db.graph.objects slots bound.cond)
+pub sought_rows : (labels : List (List ℕ)) (edges : List Edge) (objects : List (Oid × Value)) (bound : BoundTree) (passes : List Oid → Type 0) → IsRunnable bound
+    → ((slots : List Oid) → passes slots ↔ HoldsOver labels edges objects slots bound.cond)
     → (row : List Cell)
-    → ShowsAsked db.labels db.graph.edges bound (IsSought db.labels db.graph.edges passes bound) row ↔ IsSlotRow db bound row
-sought_rows db bound passes runnable same row =
-    let Holds : List Oid → Type 0 = λ slots. HoldsOver db.labels db.graph.edges db.graph.objects slots bound.cond in
+    → ShowsAsked labels edges bound (IsSought labels edges passes bound) row ↔ IsRowOf labels edges objects bound row
+sought_rows labels edges objects bound passes runnable same row =
+    let Holds : List Oid → Type 0 = λ slots. HoldsOver labels edges objects slots bound.cond in
     let behind : List Oid → List Oid = λ slots. replicate (RANGES - length slots) (oid_of 0) in
-    let long = λ (slots : List Oid) (filled : AreFilled db.labels db.graph.edges bound.ranges slots).
-    AllZip-length (λ range oid. (start : Oid) × StartsAt slots range.start start × Reaches db.labels db.graph.edges range.path start oid) bound.ranges slots filled in
-    let alike = λ (slots : List Oid) (filled : AreFilled db.labels db.graph.edges bound.ranges slots).
-    holds_in_front db.labels db.graph.edges db.graph.objects slots (behind slots) bound.cond
+    let long = λ (slots : List Oid) (filled : AreFilled labels edges bound.ranges slots).
+    AllZip-length (λ range oid. (start : Oid) × StartsAt slots range.start start × Reaches labels edges range.path start oid) bound.ranges slots filled in
+    let alike = λ (slots : List Oid) (filled : AreFilled labels edges bound.ranges slots).
+    holds_in_front labels edges objects slots (behind slots) bound.cond
     (subst (λ (n : ℕ). All (λ path. IsBoundWithin n path.start) (paths_in bound.cond)) (sym (long slots filled)) runnable.condition_within) in
-    let show = λ (slots : List Oid) (filled : AreFilled db.labels db.graph.edges bound.ranges slots).
-    shown_in_front db.labels db.graph.edges bound.ranges slots (behind slots) (long slots filled) runnable.in_order bound.cells row
+    let show = λ (slots : List Oid) (filled : AreFilled labels edges bound.ranges slots).
+    shown_in_front labels edges bound.ranges slots (behind slots) (long slots filled) runnable.in_order bound.cells row
     runnable.cells_within in
     let passed = λ (slots : List Oid). passed_holds bound.cond (passes slots) _ (same slots) in (
       λ h.
@@ -157,7 +157,7 @@ sought_rows db bound passes runnable same row =
             filled = sought.filled;
             holds = (alike sought.slots sought.filled).0 (subst Holds sought.is ((passed h.0).0 sought.passed));
             shown = (show sought.slots sought.filled).0
-                (subst (λ (s : List Oid). ShowsRow db.labels db.graph.edges bound s row) sought.is h.2);
+                (subst (λ (s : List Oid). ShowsRow labels edges bound s row) sought.is h.2);
           },
       λ h. (
         in_eight h.slots,

@@ -1,7 +1,7 @@
 -- From each valid database a sound statement has a reply, and leaves a valid one.
 use Rattle.std.proofs.Common.{◌≡◌, ◌≢◌, ℕ, ◌+◌, ◌<◌, ◌≤◌, inl, inr, List, [], ◌∷◌, ◌++◌}
 use Rattle.std.proofs.Common.{length, map, sum_by, Option, Some, None, refl, sym, subst}
-use Rattle.std.specs.Prelude.{ℤ, pos, MatchOption}
+use Rattle.std.specs.Prelude.{ℤ, MatchOption}
 use Rattle.std.proofs.lemmas.Bool.{cases_eq, cases_lt}
 use Rattle.lore_base.specs.Databases.{OemGraph, Database, IsValid, new_database}
 use Rattle.lore_base.specs.TargetSets.{AreMoreThan}
@@ -37,11 +37,11 @@ use Rattle.answers.specs.Answers.{row_labels, IsTooMuch}
 use Rattle.lore_db.specs.Types.{Oid, Cell, Mode, Changes, Refusal, LABELS, NAMES, OBJECTS, EDGES, NEXT_NUMBER, Reply, Changed}
 use Rattle.lore_db.specs.Types.{Rows, Lines, Dump, Refused}
 use Rattle.lore_db.specs.Types.refusals
-use Rattle.lore_db.specs.Forms.{reads, binds, makes, path_select, MakesChanges, IsBetween, AreGenerable}
+use Rattle.lore_db.specs.Forms.{reads, binds, makes, path_select, MakesChanges}
 use Rattle.lore_db.specs.Effects.{object_cells, AreRowsOf, effects}
 use Rattle.lore_db.specs.Statements.{IsUnbound, HasTooManyRows, IsNotOne, IsOutOfRange, IsNotFresh, IsNoDump, ChangesCause}
 use Rattle.lore_db.specs.Statements.{OfBinds, OfReads}
-use Rattle.lore_db.specs.Statements.{Cause, order, LeadsOn, Performs, Executes}
+use Rattle.lore_db.specs.Statements.{Cause, cause_order, MakesItsChanges, Performs, Executes}
 use Rattle.lorel_trees.specs.Sound.{IsSound}
 use Rattle.lore_db.specs.StatementLaws.{ExecutesAlways}
 use Rattle.lore_db.specs.inside.Stages.{fit_order}
@@ -265,7 +265,7 @@ module _ (db : Database) (valid : IsValid db) (statement : StatementTree) (forme
             )),
       )
 
-  told_order : AreTold (Cause db statement) order
+  told_order : AreTold (Cause db statement) cause_order
   told_order = told_append (Cause db statement) text_order (row_order ++ limit_order) told_text (λ clear.
       elim (told_changing statement) [
         | inl changing ↦ (let found = some_rows db statement changing clear.0 clear.1.0 in told_behind found.0 found.1 changing clear)
@@ -281,7 +281,7 @@ module _ (db : Database) (valid : IsValid db) (statement : StatementTree) (forme
       → (Outgrows db.graph (effects db statement rows) (λ after. length after.objects) OBJECTS → ⊥)
       → (Outgrows db.graph (effects db statement rows) (λ after. length after.edges) EDGES → ⊥)
       → (LeadsToMore db.graph (effects db statement rows) db.nodes → ⊥)
-      → (reply : Reply) × (after : Database) × LeadsOn db statement reply after × IsValid after
+      → (reply : Reply) × (after : Database) × MakesItsChanges db statement reply after × IsValid after
   some_led rows are fits names objects edges sets =
       let made = effects db statement rows in
       let left = some_database_after db made valid.well_formed.ordered fits.graph in
@@ -327,8 +327,8 @@ some_chosen db valid mode =
 
 -- changes are made
 some_changed : (db : Database) → IsValid db → (statement : StatementTree) → IsFormedStatement statement
-    → MakesChanges statement → IsClear (Cause db statement) order
-    → (reply : Reply) × (after : Database) × LeadsOn db statement reply after × IsValid after
+    → MakesChanges statement → IsClear (Cause db statement) cause_order
+    → (reply : Reply) × (after : Database) × MakesItsChanges db statement reply after × IsValid after
 some_changed db valid statement formed changing clear =
     let found = some_rows db statement changing clear.0 clear.1.0 in
     let limits = clear_right (Cause db statement) fit_order limit_order clear in
@@ -340,7 +340,7 @@ some_changed db valid statement formed changing clear =
     (λ many. limits.1.1.1.0 (changing, (found.0, found.1, many)))
 
 some_performed : (db : Database) → IsValid db → (statement : StatementTree) → IsFormedStatement statement
-    → IsClear (Cause db statement) order
+    → IsClear (Cause db statement) cause_order
     → (reply : Reply) × (after : Database) × Performs db statement reply after × IsValid after
 some_performed db valid (select query) formed clear =
     let found = some_read db (select query) clear.0 clear.1.0 query refl in
@@ -385,7 +385,7 @@ some_performed db valid (restore text) formed clear =
 pub executes_always : ExecutesAlways
 executes_always db statement valid sound =
     let formed = sound_statement statement sound in
-    elim (some_verdict (Cause db statement) order (told_order db valid statement formed)) [
+    elim (some_verdict (Cause db statement) cause_order (told_order db valid statement formed)) [
       | inl clear ↦ (
           let done = some_performed db valid statement formed clear in
           record { reply = done.0; after = done.1; executed = inl (clear, done.2); valid = done.3 })

@@ -21,7 +21,7 @@ use Rattle.lore_db.specs.Types.{Oid, Cell, Changes, Refusal}
 use Rattle.lore_db.specs.Types.refusals
 use Rattle.lore_db.specs.Forms.{reads, binds, makes}
 use Rattle.lore_db.specs.Effects.{pair_of, AreRowsOf}
-use Rattle.lore_db.specs.Statements.{OfMakes, ChangesCause, Cause, order}
+use Rattle.lore_db.specs.Statements.{OfMakes, ChangesCause, Cause, cause_order}
 use Rattle.lore_db.specs.inside.Stages.{ReadCause, bind_order, found_order, fit_order}
 use Rattle.lore_db.proofs.OrderLaws.{AreAlike, told_left, told_right, told_between, told_behind, clear_alike, told_alike}
 use Rattle.lore_db.proofs.ChangedCauseLaws.{few_names}
@@ -149,14 +149,14 @@ module _ (db : Database) (valid : IsValid db) (statement : StatementTree) (updat
       let kept = update_named db.labels db statement pairs in
       (λ h. few_names db.graph given kept.0 kept.1 valid.well_formed.ordered.names_ascend valid.few_names ((its refusals.TooManyNames).1 h), tt)
 
-  plain_told : (told : Option Refusal) → IsToldBy Told (locals ++ early) told → IsToldBy (Cause db statement) order told
+  plain_told : (told : Option Refusal) → IsToldBy Told (locals ++ early) told → IsToldBy (Cause db statement) cause_order told
   plain_told told h =
       told_right (Cause db statement) found_order (refusals.NotOne ∷ (early ++ (sizes ++ late))) told clear
       (told_right (Cause db statement) (refusals.NotOne ∷ []) (early ++ (sizes ++ late)) told single
       (told_left (Cause db statement) early (sizes ++ late) told
       (told_alike Told (Cause db statement) early told early_alike (told_behind Told locals early told sound_locals h))))
 
-  copy_told : (told : Option Refusal) → IsToldBy Told (locals ++ (early ++ large)) told → IsToldBy (Cause db statement) order told
+  copy_told : (told : Option Refusal) → IsToldBy Told (locals ++ (early ++ large)) told → IsToldBy (Cause db statement) cause_order told
   copy_told told h =
       told_right (Cause db statement) found_order (refusals.NotOne ∷ (early ++ (sizes ++ late))) told clear
       (told_right (Cause db statement) (refusals.NotOne ∷ []) (early ++ (sizes ++ late)) told single
@@ -172,7 +172,7 @@ module _ (db : Database) (valid : IsValid db) (statement : StatementTree) (updat
 -- what refuses the changes of an update, over its rows
 pub update_told : (db : Database) → IsValid db → (statement : StatementTree) → IsUpdate statement → (rows : List (List Oid)) → AreRowsOf db statement rows
     → IsClear (Cause db statement) found_order → (told : Option Refusal)
-    → IsToldBy (updating.Cause db.labels db.graph statement (map pair_of rows)) (updating.order statement) told → IsToldBy (Cause db statement) order told
+    → IsToldBy (updating.Cause db.labels db.graph statement (map pair_of rows)) (updating.order statement) told → IsToldBy (Cause db statement) cause_order told
 update_told db valid (t.assign target value tail) update rows are clear told h = plain_told db valid (t.assign target value tail) update rows are clear told h
 update_told db valid (t.add_new target label literal tail) update rows are clear told h =
     copy_told db valid (t.add_new target label literal tail) update rows are clear told h

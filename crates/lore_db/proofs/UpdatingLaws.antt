@@ -1,14 +1,11 @@
--- Updates over their rows as pairs: what the targets are, what refuses the changes, and what is performed.
+-- Updates over their rows as pairs: what the targets are, what refuses the changes, and which they are.
 use Rattle.std.proofs.Common.{◌≡◌, inl, inr, ℕ, List, [], map, Option, Some, sym, subst, ◌∙◌}
 use Rattle.std.specs.Prelude.{MatchOption}
 use Rattle.lore_base.specs.Databases.{OemGraph, Database, IsValid}
-use Rattle.lore_base.specs.ChangeSets.{AreSame, Fits, IsAfter}
-use Rattle.lore_base.specs.ChangeCauses.{DatabaseCause}
+use Rattle.lore_base.specs.ChangeSets.{AreSame}
 use Rattle.lore_base.specs.Verdicts.{IsClear, IsToldBy}
 use Rattle.lorel_trees.specs.Trees.{SelectTree, StatementTree}
-use Rattle.lorel_trees.specs.Sound.{IsSound}
 use Rattle.lorel_trees.specs.UpdateRows.{rows_of}
-use Rattle.lorel_trees.proofs.FormLaws.{sound_statement}
 use Rattle.lorel_bind.specs.Answers.{IsAnswer}
 use Rattle.lorel_bind.specs.Bound.{BoundTree}
 use Rattle.lorel_bind.specs.Bindings.{IsBinding}
@@ -17,16 +14,16 @@ use Rattle.updates.specs.Effects.{Pair, changes_by}
 use Rattle.updates.specs.Causes.{IsUpdate, HasTargets}
 use Rattle.updates.specs.Causes as updating
 use Rattle.answers.specs.Asked.{AreRows}
-use Rattle.lore_db.specs.Types.{Oid, Cell, Changes, Refusal, Reply}
+use Rattle.lore_db.specs.Types.{Oid, Cell, Changes, Refusal}
 use Rattle.lore_db.specs.Forms.{reads}
-use Rattle.lore_db.specs.Effects.{object_cells, pair_of, AreRowsOf, effects}
-use Rattle.lore_db.specs.Statements.{Cause, order, Counts, Executes}
+use Rattle.lore_db.specs.Effects.{object_cells, pair_of, AreRowsOf}
+use Rattle.lore_db.specs.Statements.{Cause, cause_order}
+use Rattle.lore_db.specs.inside.Listed.{ListsChanges}
 use Rattle.lore_db.specs.inside.Locals.{StopsRows}
-use Rattle.lore_db.specs.inside.Stages.{ReadCause, bind_order, found_order, fit_order}
+use Rattle.lore_db.specs.inside.Stages.{ReadCause, bind_order, found_order}
 use Rattle.lore_db.proofs.ObjectRowLaws.{answer_objects, changing_shows}
-use Rattle.lore_db.proofs.CauseLaws.{sizes, update_changes, update_effects, update_late}
+use Rattle.lore_db.proofs.CauseLaws.{update_changes, update_effects}
 use Rattle.lore_db.proofs.EffectLaws.{rows_targets}
-use Rattle.lore_db.proofs.ExecutionLaws.{changes_fit, changes_told, changes_lead, update_performs}
 use Rattle.lore_db.proofs.SelectLaws.{rows_answer}
 use Rattle.lore_db.proofs.UpdateLaws.{update_form, literal_stops, rows_stop, update_told, update_clear}
 
@@ -70,34 +67,21 @@ module _ (db : Database) (valid : IsValid db) (statement : StatementTree) (updat
 
   -- what refuses the changes before they are made
   pub pairs_told : (told : Option Refusal) → IsToldBy (updating.Cause table graph statement pairs) (updating.order statement) told
-      → IsToldBy (Cause db statement) order told
+      → IsToldBy (Cause db statement) cause_order told
   pairs_told told h =
       update_told db valid statement update rows are clear told
       (moved (λ l g p. IsToldBy (updating.Cause l g statement p) (updating.order statement) told) h)
 
-  module _ (changes : Changes) (same : AreSame (changes_by table graph statement pairs) changes)
-      (left : IsClear (updating.Cause table graph statement pairs) (updating.order statement)) where
-    same_effects : AreSame (effects db statement rows) changes
-    same_effects =
+  pub pairs_list : (changes : Changes) → AreSame (changes_by table graph statement pairs) changes
+      → IsClear (updating.Cause table graph statement pairs) (updating.order statement) → ListsChanges db statement changes
+  pairs_list changes same left = record {
+    changing = update_changes statement update;
+    rows = rows;
+    are = are;
+    same =
         subst (λ (all : Changes). AreSame all changes) (update_effects db statement update rows)
-        (moved (λ l g p. AreSame (changes_by l g statement p) changes) same)
-
-    fit_clear : IsClear (Cause db statement) fit_order
-    fit_clear =
+        (moved (λ l g p. AreSame (changes_by l g statement p) changes) same);
+    clear =
         update_clear db valid statement update rows are clear
-        (moved (λ l g p. IsClear (updating.Cause l g statement p) (updating.order statement)) left)
-
-    pub pairs_fit : IsSound statement → Fits db changes
-    pairs_fit sound =
-        changes_fit db statement rows are changes same_effects fit_clear (update_changes statement update) valid (sound_statement statement sound)
-
-    -- how large the database gets
-    pub pairs_grown : (told : Option Refusal) → IsToldBy (DatabaseCause db changes) sizes told → IsToldBy (Cause db statement) order told
-    pairs_grown told h = changes_told db statement rows are changes same_effects fit_clear (update_changes statement update) told h
-
-    pub pairs_performed : (after : Database) (reply : Reply) → IsClear (DatabaseCause db changes) sizes → IsAfter db changes after
-        → Counts after reply → Executes db statement reply after
-    pairs_performed after reply few made counts =
-        let led = changes_lead db statement rows are changes same_effects fit_clear (update_changes statement update) (update_late db statement update)
-        after reply few made counts in
-        inl (led.0, update_performs db statement update reply after led.1)
+        (moved (λ l g p. IsClear (updating.Cause l g statement p) (updating.order statement)) left);
+  }

@@ -83,7 +83,7 @@ OfReads statement Has = MatchOption (reads statement) ⊥ Has
 abbrev pub OfMakes : StatementTree → (LiteralTree → Type 0) → Type 0
 OfMakes statement Has = MatchOption (makes statement) ⊥ Has
 
--- the cause of each refusal of a statement
+-- the cause of each refusal of a statement; no other refusal has one
 abbrev pub Cause : Database → StatementTree → Refusal → Type 0
 Cause db statement refusals.UnknownName =
     IsUnbound db statement
@@ -98,14 +98,22 @@ Cause db statement refusals.DuplicateLocal = OfMakes statement HasDouble
 Cause db statement refusals.UndefinedLocal = OfMakes statement HasUndefined
 Cause db statement refusals.TooManyRows = OfReads statement (HasTooManyRows db)
 Cause db statement refusals.NotOne = IsNotOne db statement
+Cause db statement refusals.AtomicParent = ChangesCause db statement refusals.AtomicParent
+Cause db statement refusals.HasChildren = ChangesCause db statement refusals.HasChildren
+Cause db statement refusals.OidsSpent = ChangesCause db statement refusals.OidsSpent
+Cause db statement refusals.TooManyLabels = ChangesCause db statement refusals.TooManyLabels
+Cause db statement refusals.TooManyNames = ChangesCause db statement refusals.TooManyNames
+Cause db statement refusals.TooManyObjects = ChangesCause db statement refusals.TooManyObjects
+Cause db statement refusals.TooManyEdges = ChangesCause db statement refusals.TooManyEdges
+Cause db statement refusals.GuideNodes = ChangesCause db statement refusals.GuideNodes
 Cause db statement refusals.LimitRange = IsOutOfRange db statement
 Cause db statement refusals.NotFresh = IsNotFresh db statement
 Cause db statement refusals.BadRestore = IsNoDump statement
-Cause db statement refusal = ChangesCause db statement refusal
+Cause db statement _ = ⊥
 
 -- the order in which causes are tried: that of their numbers
-abbrev pub order : List Refusal
-order =
+abbrev pub cause_order : List Refusal
+cause_order =
     refusals.UnknownName ∷ refusals.UnknownVariable ∷ refusals.DuplicateVariable ∷ refusals.TooManyRanges
     ∷ refusals.DuplicateLocal ∷ refusals.UndefinedLocal ∷ refusals.TooManyRows ∷ refusals.NotOne
     ∷ refusals.AtomicParent ∷ refusals.HasChildren ∷ refusals.OidsSpent ∷ refusals.TooManyLabels
@@ -121,8 +129,8 @@ Counts db reply =
     × (reply ≡ Changed (length db.graph.objects) (length db.graph.edges) (length sets))
 
 -- the database after the changes that a statement makes, and the reply that counts what it holds
-abbrev pub LeadsOn : Database → StatementTree → Reply → Database → Type 0
-LeadsOn before statement reply after =
+abbrev pub MakesItsChanges : Database → StatementTree → Reply → Database → Type 0
+MakesItsChanges before statement reply after =
     ((rows : List (List Oid)) × AreRowsOf before statement rows × IsAfter before (effects before statement rows) after)
     × Counts after reply
 
@@ -180,7 +188,7 @@ Performs before (set_nodes nodes) reply after = Limits before nodes reply after
 Performs before (set_plan mode) reply after = ChoosesBy before mode reply after
 Performs before dump reply after = Dumps before reply after
 Performs before (restore text) reply after = Restores text reply after
-Performs before statement reply after = LeadsOn before statement reply after
+Performs before statement reply after = MakesItsChanges before statement reply after
 
 -- a refusal changes nothing
 abbrev pub Refuses : Refusal → Database → Reply → Database → Type 0
@@ -190,5 +198,5 @@ Refuses refusal before reply after = (reply ≡ Refused refusal) × (after ≡ b
 -- first that applies refuses it
 abbrev pub Executes : Database → StatementTree → Reply → Database → Type 0
 Executes before statement reply after =
-    (IsClear (Cause before statement) order × Performs before statement reply after)
-    ⊎ ((refusal : Refusal) × IsFirst (Cause before statement) order refusal × Refuses refusal before reply after)
+    (IsClear (Cause before statement) cause_order × Performs before statement reply after)
+    ⊎ ((refusal : Refusal) × IsFirst (Cause before statement) cause_order refusal × Refuses refusal before reply after)

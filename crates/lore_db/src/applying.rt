@@ -1,23 +1,53 @@
-ghost use Rattle.std.specs.Prelude.{◌≡◌, IfErr, OnOk, OnErr};
+ghost use Rattle.std.specs.Prelude.{◌≡◌, IfOk, IfErr, OnOk, OnErr};
 ghost use Rattle.lore_base.specs.ChangeSets.{Fits, IsAfter};
 ghost use Rattle.lore_base.specs.ChangeCauses.{DatabaseCause};
 ghost use Rattle.lore_base.specs.Verdicts.{IsClear, IsToldBy};
 ghost use Rattle.lore_store.specs.Stores.{order};
-ghost use Rattle.lore_db.specs.Statements.{Counts};
+ghost use Rattle.lorel_trees.specs.Trees.{statement_tree};
+ghost use Rattle.lorel_trees.specs.Sound.{IsSound};
+ghost use Rattle.lore_db.specs.Statements.{Cause, cause_order, Counts, Executes};
+ghost use Rattle.lore_db.specs.Uncounted.{ReadsNoEdge};
+ghost use Rattle.lore_db.specs.inside.Listed.{IsChanging};
 ghost use Rattle.lore_db.specs.inside.Stops.{told};
 
+use crate::changing::listed;
 use crate::db::Db;
 use crate::replies::Reply;
 use crate::stops::Stop;
 use lore_base::{Changes, Steps};
+use lorel_trees::Statement;
 use std::alloc::Global;
 use std::sync::ledger::Ledger;
 
 impl Db {
-    /// Makes changes that fit the database, and takes away what no name walks to then. Refused are
-    /// changes that leave more names, objects or edges than a database holds, or more nodes of the
-    /// guide than its limit.
-    pub(crate) fn apply<L: Ledger>(
+    /// Makes the changes that a statement lists over the database before it, and answers how many
+    /// objects, edges and nodes of the guide there are then. No step is counted for one that makes
+    /// none.
+    pub(crate) fn change<L: Ledger>(
+        &mut self,
+        alloc: Global,
+        statement: &Statement,
+        steps: &mut Steps<L>,
+    ) -> Result<Reply, Stop>
+        requires sound { IsSound (statement_tree statement.now) }
+        requires changing { IsChanging (statement_tree statement.now) }
+        ensures ok { IfOk result (λ reply.
+            Executes self.old (statement_tree statement.now) reply self.new) }
+        ensures same { OnErr result (self.new ≡ self.old) }
+        ensures refused { IfErr result (λ stop.
+            IsToldBy (Cause self.old (statement_tree statement.now)) cause_order (told stop)) }
+        ensures uncounted { ReadsNoEdge self.old (statement_tree statement.now)
+            → steps.new ≡ steps.old }
+    {
+        let changes = listed(alloc, &self.store, statement, steps)?;
+        self.apply(alloc, &changes, steps)?;
+        Ok(self.counts())
+    }
+
+    // Makes changes that fit the database, and takes away what no name walks to then. Refused are
+    // changes that leave more names, objects or edges than a database holds, or more nodes of the
+    // guide than its limit.
+    fn apply<L: Ledger>(
         &mut self,
         alloc: Global,
         changes: &Changes,

@@ -7,7 +7,9 @@ ghost use Rattle.lorel_trees.specs.Sound.{IsSound};
 ghost use Rattle.lore_db.specs.Statements.{Executes};
 ghost use Rattle.lore_db.specs.Uncounted.{ReadsNoEdge};
 
+use crate::explain::plan_shown;
 use crate::replies::Reply;
+use crate::selects::select;
 use crate::stops::reply_of;
 use index_traits::ValueOf;
 use lore_base::{Label, NoMemory, OemText, Oid, Steps, Value};
@@ -87,15 +89,8 @@ impl Db {
             → steps.new ≡ steps.old) }
     {
         match statement {
-            Statement::Load { name, literal } => reply_of(self.load(alloc, name, literal, steps)),
-            Statement::Name { name, path } => reply_of(self.name(alloc, name, path, steps)),
-            Statement::Unname { name } => reply_of(self.unname(alloc, name, steps)),
-            Statement::Assign { .. }
-            | Statement::AddNew { .. }
-            | Statement::AddLink { .. }
-            | Statement::Remove { .. } => reply_of(self.update(alloc, statement, steps)),
-            Statement::Select(query) => reply_of(self.select(alloc, query, steps)),
-            Statement::Explain(query) => reply_of(self.explain(alloc, query)),
+            Statement::Select(query) => reply_of(select(alloc, &self.store, query, steps)),
+            Statement::Explain(query) => reply_of(plan_shown(alloc, &self.store, query)),
             Statement::Guide => reply_of(self.show_guide()),
             Statement::Browse(path) => reply_of(self.browse(path)),
             Statement::Sample(path, count) => reply_of(self.sample(path, *count)),
@@ -103,9 +98,7 @@ impl Db {
             Statement::SetPlan(mode) => Ok(self.set_plan(*mode)),
             Statement::Dump => reply_of(self.dump(alloc, steps)),
             Statement::Restore(text) => reply_of(self.restore(alloc, text, steps)),
-            Statement::Generate(seed, count) => {
-                reply_of(self.generate(alloc, *seed, *count, steps))
-            }
+            changing => reply_of(self.change(alloc, changing, steps)),
         }
     }
 }

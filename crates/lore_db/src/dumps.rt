@@ -2,7 +2,7 @@ ghost use Rattle.std.specs.Prelude.{◌≡◌, ◌↔◌, IsTrue, IfOk, IfErr, O
 ghost use Rattle.lore_base.specs.Databases.{IsWellFormed, new_database};
 ghost use Rattle.lore_base.specs.Verdicts.{IsToldBy};
 ghost use Rattle.lorel_trees.specs.Trees.{restore};
-ghost use Rattle.lore_db.specs.Statements.{Cause, order, Dumps, Executes};
+ghost use Rattle.lore_db.specs.Statements.{Cause, cause_order, Dumps, Executes};
 ghost use Rattle.lore_db.specs.inside.Stops.{told};
 
 use crate::db::Db;
@@ -41,7 +41,7 @@ impl Db {
         ensures ok { IfOk result (λ reply. Executes self.old (restore text.now) reply self.new) }
         ensures same { OnErr result (self.new ≡ self.old) }
         ensures refused { IfErr result (λ stop.
-            IsToldBy (Cause self.old (restore text.now)) order (told stop)) }
+            IsToldBy (Cause self.old (restore text.now)) cause_order (told stop)) }
     {
         if !self.is_new() {
             return Err(Stop::Refused(Refusal::NotFresh));

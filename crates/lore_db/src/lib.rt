@@ -2,13 +2,13 @@
 //!
 //! `Db::execute` (`db`) takes a statement of any form. A select (`selects`) is bound (`lorel_bind`);
 //! then its plan is chosen (`planner`), and what its cells show of the rows that come by it (`plan_ops`)
-//! is its answer (`answers`). A load (`loads`), generated objects (`generating`), a name bound or
-//! taken away (`namings`) and an update over the rows of its select (`updating`) list changes, which
-//! are made all at once (`applying`, over `lore_store`). The guide is shown, and its limit set, by
-//! `guides`; where a label path leads is shown by `path_lines`; the plan of a select is shown by
-//! `explain` (over `planner`), and the plan mode set by `modes`. The whole database is dumped and
-//! restored by `dumps`. What ends the work early is a `Stop` (`stops`). What a statement answers is a
-//! `Reply` (`replies`), with the rows of a select among them.
+//! is its answer (`answers`), over any view of a graph (`rows`). A load (`loads`), generated objects
+//! (`generating`), a name bound or taken away (`namings`) and an update over the rows of its select
+//! (`updating`) list changes (`changing`), which are made all at once (`applying`, over `lore_store`).
+//! The guide is shown, and its limit set, by `guides`; where a label path leads is shown by
+//! `path_lines`; the plan of a select is shown by `explain` (over `planner`), and the plan mode set by
+//! `modes`. The whole database is dumped and restored by `dumps`. What ends the work early is a `Stop`
+//! (`stops`). What a statement answers is a `Reply` (`replies`), with the rows of a select among them.
 #![tactic(auto)]
 
 pub use answers::{Answer, AnswerRow};
@@ -17,6 +17,7 @@ pub use lorel_bind::Cell;
 pub use replies::Reply;
 
 mod applying;
+mod changing;
 mod db;
 mod dumps;
 mod explain;
@@ -28,6 +29,7 @@ mod modes;
 mod namings;
 mod path_lines;
 mod replies;
+mod rows;
 mod selects;
 mod stops;
 mod updating;

@@ -2,7 +2,7 @@ ghost use Rattle.std.specs.Prelude.{◌≡◌, pos, ◌≤◌, IfOk, IfErr, IfSo
 ghost use Rattle.lore_base.specs.Verdicts.{IsToldBy};
 ghost use Rattle.lorel_trees.specs.Trees.{browse, sample};
 ghost use Rattle.lore_db.specs.Forms.{IsBetween};
-ghost use Rattle.lore_db.specs.Statements.{Cause, order, Executes};
+ghost use Rattle.lore_db.specs.Statements.{Cause, cause_order, Executes};
 ghost use Rattle.lore_db.specs.inside.Stops.{told};
 
 use crate::db::Db;
@@ -21,7 +21,7 @@ impl Db {
         ensures ok { IfOk result (λ reply.
             Executes self.now (browse path.now.start path.now.labels) reply self.now) }
         ensures refused { let tree = browse path.now.start path.now.labels in
-            IfErr result (λ stop. IsToldBy (Cause self.now tree) order (told stop)) }
+            IfErr result (λ stop. IsToldBy (Cause self.now tree) cause_order (told stop)) }
     {
         let store = &self.store;
         if store.graph().name(&path.start).is_none() {
@@ -37,7 +37,7 @@ impl Db {
         ensures ok { IfOk result (λ reply.
             Executes self.now (sample path.now.start path.now.labels count) reply self.now) }
         ensures refused { let tree = sample path.now.start path.now.labels count in
-            IfErr result (λ stop. IsToldBy (Cause self.now tree) order (told stop)) }
+            IfErr result (λ stop. IsToldBy (Cause self.now tree) cause_order (told stop)) }
     {
         let store = &self.store;
         let graph = store.graph();

@@ -1,4 +1,4 @@
-ghost use Rattle.std.specs.Prelude.{◌≡◌, List, map, IfOk, IfErr, OnOk, OnErr};
+ghost use Rattle.std.specs.Prelude.{◌≡◌, List, map, IfOk, IfErr, OnOk};
 ghost use Rattle.lore_db.specs.Types.{Oid as TheOid};
 ghost use Rattle.lore_base.specs.Verdicts.{IsClear, IsToldBy};
 ghost use Rattle.lorel_trees.specs.Trees.{statement_tree};
@@ -11,18 +11,19 @@ ghost use Rattle.oem_text.specs.Faults.{local_refusal};
 ghost use Rattle.oem_text.specs.Parts.{local_order};
 ghost use Rattle.lore_db.specs.Types.cells;
 ghost use Rattle.lore_db.specs.Effects.{object_cells, pair_of, AreRowsOf};
-ghost use Rattle.lore_db.specs.Statements.{Cause, order, Executes};
+ghost use Rattle.lore_db.specs.Statements.{Cause, cause_order};
+ghost use Rattle.lore_db.specs.inside.Listed.{ListsChanges};
 ghost use Rattle.lore_db.specs.inside.Stops.{told};
 ghost use Rattle.lore_db.specs.inside.Stages.{found_order};
 ghost use Rattle.lore_db.specs.inside.Starts.{HasNamedStarts};
 ghost use Rattle.answers.specs.Asked.{AreRows};
 ghost use Rattle.lore_db.specs.inside.Locals.{HasSoundLocals, MadeLocals, StopsRows};
 
-use crate::db::Db;
-use crate::replies::Reply;
+use crate::selects::{bound, found};
 use crate::stops::Stop;
 use answers::{Answer, AnswerRow};
-use lore_base::{NoMemory, Oid, Steps};
+use lore_base::{Changes, NoMemory, Oid, Steps};
+use lore_store::Store;
 use lorel_bind::{Bound, Cell};
 use lorel_trees::{Statement, rows_form};
 use oem_text::{LocalFault, check_locals};
@@ -30,76 +31,70 @@ use std::alloc::Global;
 use std::sync::ledger::Ledger;
 use updates::{PairList, changes_of};
 
-impl Db {
-    /// Makes the changes of an update, one of the four forms, all over the state before.
-    pub(crate) fn update<L: Ledger>(
-        &mut self,
-        alloc: Global,
-        statement: &Statement,
-        steps: &mut Steps<L>,
-    ) -> Result<Reply, Stop>
-        requires sound { IsSound (statement_tree statement.now) }
-        requires update { IsUpdate (statement_tree statement.now) }
-        ensures ok { IfOk result (λ reply.
-            Executes self.old (statement_tree statement.now) reply self.new) }
-        ensures same { OnErr result (self.new ≡ self.old) }
-        ensures refused { IfErr result (λ stop.
-            IsToldBy (Cause self.old (statement_tree statement.now)) order (told stop)) }
-    {
-        let rows = self.update_rows(alloc, statement, steps)?;
-        let (graph, labels) = (self.store.graph(), self.store.labels());
-        let changes = changes_of(alloc, statement, &rows, graph, labels)?;
-        self.apply(alloc, &changes, steps)?;
-        Ok(self.counts())
-    }
+/// The changes of an update, one of the four forms, all over the state before.
+pub(crate) fn update_changes<L: Ledger>(
+    alloc: Global,
+    store: &Store,
+    statement: &Statement,
+    steps: &mut Steps<L>,
+) -> Result<Changes, Stop>
+    requires sound { IsSound (statement_tree statement.now) }
+    requires update { IsUpdate (statement_tree statement.now) }
+    ensures lists { IfOk result (ListsChanges store.now.db (statement_tree statement.now)) }
+    ensures refused { IfErr result (λ stop.
+        IsToldBy (Cause store.now.db (statement_tree statement.now)) cause_order (told stop)) }
+{
+    let rows = update_rows(alloc, store, statement, steps)?;
+    let (graph, labels) = (store.graph(), store.labels());
+    Ok(changes_of(alloc, statement, &rows, graph, labels)?)
+}
 
-    // The rows of an update, as pairs.
-    fn update_rows<L: Ledger>(
-        &self,
-        alloc: Global,
-        statement: &Statement,
-        steps: &mut Steps<L>,
-    ) -> Result<PairList, Stop>
-        requires sound { IsSound (statement_tree statement.now) }
-        requires update { IsUpdate (statement_tree statement.now) }
-        ensures rows { let tree = statement_tree statement.now in
-            IfOk result (λ pairs. (rows : List (List TheOid)) × AreRowsOf self.now tree rows
-            × (pairs ≡ map pair_of rows)) }
-        ensures ok { let cause = Cause self.now (statement_tree statement.now) in
-            OnOk result (IsClear cause found_order) }
-        ensures refused { let cause = Cause self.now (statement_tree statement.now) in
-            IfErr result (λ stop. IsToldBy cause found_order (told stop)) }
-    {
-        let Some(query) = rows_form(alloc, statement)? else {
-            unreachable!();
-        };
-        let bound = self.bound(alloc, &query);
-        drop(query);
-        let bound = bound?;
-        let answer = self.sound_rows(alloc, statement, &bound, steps);
-        drop(bound);
-        Ok(pairs_of(alloc, &answer?)?)
-    }
+// The rows of an update, as pairs.
+fn update_rows<L: Ledger>(
+    alloc: Global,
+    store: &Store,
+    statement: &Statement,
+    steps: &mut Steps<L>,
+) -> Result<PairList, Stop>
+    requires sound { IsSound (statement_tree statement.now) }
+    requires update { IsUpdate (statement_tree statement.now) }
+    ensures rows { let tree = statement_tree statement.now in
+        IfOk result (λ pairs. (rows : List (List TheOid)) × AreRowsOf store.now.db tree rows
+        × (pairs ≡ map pair_of rows)) }
+    ensures ok { let cause = Cause store.now.db (statement_tree statement.now) in
+        OnOk result (IsClear cause found_order) }
+    ensures refused { let cause = Cause store.now.db (statement_tree statement.now) in
+        IfErr result (λ stop. IsToldBy cause found_order (told stop)) }
+{
+    let Some(query) = rows_form(alloc, statement)? else {
+        unreachable!();
+    };
+    let bound = bound(alloc, store, &query);
+    drop(query);
+    let bound = bound?;
+    let answer = sound_rows(alloc, store, statement, &bound, steps);
+    drop(bound);
+    Ok(pairs_of(alloc, &answer?)?)
+}
 
-    // The rows of an update's bound select. Locals are looked at before rows are found.
-    fn sound_rows<L: Ledger>(
-        &self,
-        alloc: Global,
-        statement: &Statement,
-        bound: &Bound,
-        steps: &mut Steps<L>,
-    ) -> Result<Answer, Stop>
-        requires update { IsUpdate (statement_tree statement.now) }
-        requires runnable { IsRunnable (bound_tree bound.now) }
-        requires named { HasNamedStarts self.now.graph.names (bound_tree bound.now) }
-        ensures locals { OnOk result (HasSoundLocals (statement_tree statement.now)) }
-        ensures rows { IfOk result (AreRows (IsSlotRow self.now (bound_tree bound.now))) }
-        ensures refused { let tree = statement_tree statement.now in
-            IfErr result (λ stop. StopsRows self.now tree (bound_tree bound.now) (told stop)) }
-    {
-        check_literal(alloc, statement)?;
-        self.found(alloc, bound, steps)
-    }
+// The rows of an update's bound select. Locals are looked at before rows are found.
+fn sound_rows<L: Ledger>(
+    alloc: Global,
+    store: &Store,
+    statement: &Statement,
+    bound: &Bound,
+    steps: &mut Steps<L>,
+) -> Result<Answer, Stop>
+    requires update { IsUpdate (statement_tree statement.now) }
+    requires runnable { IsRunnable (bound_tree bound.now) }
+    requires named { HasNamedStarts store.now.db.graph.names (bound_tree bound.now) }
+    ensures locals { OnOk result (HasSoundLocals (statement_tree statement.now)) }
+    ensures rows { IfOk result (AreRows (IsSlotRow store.now.db (bound_tree bound.now))) }
+    ensures refused { let tree = statement_tree statement.now in
+        IfErr result (λ stop. StopsRows store.now.db tree (bound_tree bound.now) (told stop)) }
+{
+    check_literal(alloc, statement)?;
+    found(alloc, store, bound, steps)
 }
 
 // Looks at the locals of the literal that is copied, if there is one.

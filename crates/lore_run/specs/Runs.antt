@@ -122,6 +122,10 @@ abbrev pub HasOneReading : Type 0
 HasOneReading =
     (script : List ℕ) (parts others : List ScriptPart) → HasParts script parts → HasParts script others → parts ≡ others
 
+-- each script has a list of parts: the rest behind its chunks is blank, or it isn't
+abbrev pub HasSomeReading : Type 0
+HasSomeReading = (script : List ℕ) → (parts : List ScriptPart) × HasParts script parts
+
 -- from each valid database parts have a run
 abbrev pub HasSomeRun : Type 0
 HasSomeRun =

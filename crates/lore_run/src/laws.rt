@@ -1,10 +1,15 @@
 //! Laws of the meaning of scripts, each shown by a function that does nothing.
 
-ghost use Rattle.lore_run.specs.Runs.{HasOneReading, HasOneRun, HasSomeRun};
+ghost use Rattle.lore_run.specs.Runs.{HasOneReading, HasSomeReading, HasOneRun, HasSomeRun};
 
 /// A script has one list of parts.
 pub fn one_reading()
     ensures { HasOneReading }
+{}
+
+/// Each script has a list of parts: what stands behind its last chunk is blank, or it isn't.
+pub fn some_reading()
+    ensures { HasSomeReading }
 {}
 
 /// Parts have one run: it prints the same bytes, refuses as many and leaves the same database.

@@ -1,16 +1,40 @@
 use dataguide::GuideFault;
 use dump_text::DumpFault;
+use lore_base::{Failed, NoMemory};
 use lore_store::{RestoreFault, StoreFault};
 use lorel_bind::BindFault;
 use lorel_lex::LexFault;
 use lorel_parse::ParseFault;
 use oem_text::{LocalFault, TextFault};
+use std::alloc::Global;
+use std::fmt::Display;
 use std::test::Fail;
 use updates::UpdateFault;
 
-#[test]
-fn faults_of_tokens(rt: HostRuntime) -> Result<(), Fail> {
-    let table = [
+const MEMORY: &str = "out of memory";
+
+const TWO_OBJECTS: &str = "a local marks two objects";
+
+const NO_OBJECT: &str = "a local marks no object";
+
+const SPENT: &str = "the numbers of objects are spent";
+
+// Fails where the fault says something else.
+fn check<F: Display>(alloc: Global, fault: &F, text: &'static str) -> Result<(), Fail> {
+    if format!(in alloc; "{fault}")?.as_str() == text {
+        Ok(())
+    } else {
+        Err(Fail::new(text))
+    }
+}
+
+fn check_lowest(alloc: Global) -> Result<(), Fail> {
+    check(alloc, &NoMemory, MEMORY)?;
+    check(alloc, &Failed, "a read or a write failed")
+}
+
+fn check_tokens(alloc: Global) -> Result<(), Fail> {
+    for (fault, text) in [
         (LexFault::BadToken, "some bytes are no token"),
         (LexFault::RealRefused, "a number has a fraction"),
         (LexFault::NumberRange, "a number is out of range"),
@@ -18,29 +42,20 @@ fn faults_of_tokens(rt: HostRuntime) -> Result<(), Fail> {
             LexFault::TextTooLong,
             "a text, a word or a label is too long",
         ),
-        (LexFault::NoMemory, "out of memory"),
-    ];
-    for (fault, text) in table {
-        assert_eq!(rt; format!(in rt.alloc(); "{fault}")?.as_str(), text);
+        (LexFault::NoMemory, MEMORY),
+    ] {
+        check(alloc, &fault, text)?;
     }
     Ok(())
 }
 
-#[test]
-fn faults_of_statements(rt: HostRuntime) -> Result<(), Fail> {
-    let table = [
-        (ParseFault::Syntax, "not a statement"),
-        (ParseFault::NoMemory, "out of memory"),
-    ];
-    for (fault, text) in table {
-        assert_eq!(rt; format!(in rt.alloc(); "{fault}")?.as_str(), text);
-    }
-    Ok(())
+fn check_statements(alloc: Global) -> Result<(), Fail> {
+    check(alloc, &ParseFault::Syntax, "not a statement")?;
+    check(alloc, &ParseFault::NoMemory, MEMORY)
 }
 
-#[test]
-fn faults_of_selects(rt: HostRuntime) -> Result<(), Fail> {
-    let table = [
+fn check_selects(alloc: Global) -> Result<(), Fail> {
+    for (fault, text) in [
         (BindFault::UnknownName, "a path starts at an unknown name"),
         (
             BindFault::UnknownVariable,
@@ -52,74 +67,48 @@ fn faults_of_selects(rt: HostRuntime) -> Result<(), Fail> {
             BindFault::TooManyRanges,
             "too many ranges, items or path leaves",
         ),
-        (BindFault::NoMemory, "out of memory"),
-    ];
-    for (fault, text) in table {
-        assert_eq!(rt; format!(in rt.alloc(); "{fault}")?.as_str(), text);
+        (BindFault::NoMemory, MEMORY),
+    ] {
+        check(alloc, &fault, text)?;
     }
     Ok(())
 }
 
-#[test]
-fn faults_of_locals(rt: HostRuntime) -> Result<(), Fail> {
-    let table = [
-        (LocalFault::DuplicateLocal, "a local marks two objects"),
-        (LocalFault::UndefinedLocal, "a local marks no object"),
-        (LocalFault::NoMemory, "out of memory"),
-    ];
-    for (fault, text) in table {
-        assert_eq!(rt; format!(in rt.alloc(); "{fault}")?.as_str(), text);
-    }
-    Ok(())
-}
-
-#[test]
-fn faults_of_literals(rt: HostRuntime) -> Result<(), Fail> {
-    let table = [
-        (TextFault::DuplicateLocal, "a local marks two objects"),
-        (TextFault::UndefinedLocal, "a local marks no object"),
-        (TextFault::OidsSpent, "the numbers of objects are spent"),
+fn check_literals(alloc: Global) -> Result<(), Fail> {
+    for (fault, text) in [
+        (TextFault::DuplicateLocal, TWO_OBJECTS),
+        (TextFault::UndefinedLocal, NO_OBJECT),
+        (TextFault::OidsSpent, SPENT),
         (TextFault::TooManyLabels, "too many labels"),
-        (TextFault::NoMemory, "out of memory"),
-    ];
-    for (fault, text) in table {
-        assert_eq!(rt; format!(in rt.alloc(); "{fault}")?.as_str(), text);
+        (TextFault::NoMemory, MEMORY),
+    ] {
+        check(alloc, &fault, text)?;
     }
     Ok(())
 }
 
-#[test]
-fn faults_of_dump_texts(rt: HostRuntime) -> Result<(), Fail> {
-    let table = [
-        (DumpFault::Bad, "the dump text stands for no valid database"),
-        (DumpFault::NoMemory, "out of memory"),
-    ];
-    for (fault, text) in table {
-        assert_eq!(rt; format!(in rt.alloc(); "{fault}")?.as_str(), text);
-    }
-    Ok(())
+fn check_locals(alloc: Global) -> Result<(), Fail> {
+    check(alloc, &LocalFault::DuplicateLocal, TWO_OBJECTS)?;
+    check(alloc, &LocalFault::UndefinedLocal, NO_OBJECT)?;
+    check(alloc, &LocalFault::NoMemory, MEMORY)
 }
 
-#[test]
-fn faults_of_guides(rt: HostRuntime) -> Result<(), Fail> {
-    let table = [
-        (
-            GuideFault::Nodes,
-            "more target sets than the limit on the guide's nodes",
-        ),
-        (GuideFault::NoMemory, "out of memory"),
-    ];
-    for (fault, text) in table {
-        assert_eq!(rt; format!(in rt.alloc(); "{fault}")?.as_str(), text);
-    }
-    Ok(())
+fn check_dumps(alloc: Global) -> Result<(), Fail> {
+    let bad = "the dump text stands for no valid database";
+    check(alloc, &DumpFault::Bad, bad)?;
+    check(alloc, &DumpFault::NoMemory, MEMORY)
 }
 
-#[test]
-fn faults_of_updates(rt: HostRuntime) -> Result<(), Fail> {
-    let table = [
-        (UpdateFault::DuplicateLocal, "a local marks two objects"),
-        (UpdateFault::UndefinedLocal, "a local marks no object"),
+fn check_guides(alloc: Global) -> Result<(), Fail> {
+    let nodes = "more target sets than the limit on the guide's nodes";
+    check(alloc, &GuideFault::Nodes, nodes)?;
+    check(alloc, &GuideFault::NoMemory, MEMORY)
+}
+
+fn check_updates(alloc: Global) -> Result<(), Fail> {
+    for (fault, text) in [
+        (UpdateFault::DuplicateLocal, TWO_OBJECTS),
+        (UpdateFault::UndefinedLocal, NO_OBJECT),
         (
             UpdateFault::AtomicParent,
             "an edge would leave an atomic object",
@@ -128,41 +117,47 @@ fn faults_of_updates(rt: HostRuntime) -> Result<(), Fail> {
             UpdateFault::HasChildren,
             "an object that an edge leaves would get an atomic value",
         ),
-        (UpdateFault::OidsSpent, "the numbers of objects are spent"),
+        (UpdateFault::OidsSpent, SPENT),
         (UpdateFault::TooManyLabels, "too many labels"),
         (UpdateFault::TooManyObjects, "too many objects"),
         (UpdateFault::TooManyEdges, "too many edges"),
-        (UpdateFault::NoMemory, "out of memory"),
-    ];
-    for (fault, text) in table {
-        assert_eq!(rt; format!(in rt.alloc(); "{fault}")?.as_str(), text);
+        (UpdateFault::NoMemory, MEMORY),
+    ] {
+        check(alloc, &fault, text)?;
     }
     Ok(())
 }
 
-#[test]
-fn faults_of_stores(rt: HostRuntime) -> Result<(), Fail> {
-    let table = [
+fn check_stores(alloc: Global) -> Result<(), Fail> {
+    for (fault, text) in [
         (StoreFault::TooManyNames, "too many names"),
         (StoreFault::TooManyObjects, "too many objects"),
         (StoreFault::TooManyEdges, "too many edges"),
         (StoreFault::GuideNodes, "too many nodes of the guide"),
-        (StoreFault::NoMemory, "out of memory"),
-    ];
-    for (fault, text) in table {
-        assert_eq!(rt; format!(in rt.alloc(); "{fault}")?.as_str(), text);
+        (StoreFault::NoMemory, MEMORY),
+    ] {
+        check(alloc, &fault, text)?;
     }
     Ok(())
 }
 
+fn check_restores(alloc: Global) -> Result<(), Fail> {
+    let nodes = "too many nodes of the guide";
+    check(alloc, &RestoreFault::GuideNodes, nodes)?;
+    check(alloc, &RestoreFault::NoMemory, MEMORY)
+}
+
 #[test]
-fn faults_of_restores(rt: HostRuntime) -> Result<(), Fail> {
-    let table = [
-        (RestoreFault::GuideNodes, "too many nodes of the guide"),
-        (RestoreFault::NoMemory, "out of memory"),
-    ];
-    for (fault, text) in table {
-        assert_eq!(rt; format!(in rt.alloc(); "{fault}")?.as_str(), text);
-    }
-    Ok(())
+fn faults_say_what_they_are(rt: HostRuntime) -> Result<(), Fail> {
+    check_lowest(rt.alloc())?;
+    check_tokens(rt.alloc())?;
+    check_statements(rt.alloc())?;
+    check_selects(rt.alloc())?;
+    check_literals(rt.alloc())?;
+    check_locals(rt.alloc())?;
+    check_dumps(rt.alloc())?;
+    check_guides(rt.alloc())?;
+    check_updates(rt.alloc())?;
+    check_stores(rt.alloc())?;
+    check_restores(rt.alloc())
 }

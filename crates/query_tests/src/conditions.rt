@@ -1,15 +1,13 @@
 ghost use Rattle.std.specs.Prelude.{◌≡◌, ◌<◌, ◌≤◌};
+ghost use Rattle.std.specs.Bool.{OnTrue};
 ghost use Rattle.lorel_bind.specs.Bound.{bound_cond};
 ghost use Rattle.lorel_ranges.specs.Conditions.{paths_of};
 ghost use Rattle.lorel_eval.specs.Types.{LEAVES};
 ghost use Rattle.lorel_eval.specs.Tests.{rest_leaves};
 
-use crate::leaf_room::room_behind;
-use crate::people::{Numbered, graph, labels, row, values};
-use crate::words::cond_of;
-use index_traits::{NaiveEdges, RowTest};
-use lore_base::{NoMemory, Steps, TryCopy};
-use lorel_bind::BoundCond;
+use index_traits::{NaiveEdges, Row, RowTest, ValueOf};
+use lore_base::{Edge, EdgeBuf, Label, NoMemory, Oid, Op, Path, Steps, Value, path_leaf_count};
+use lorel_bind::{BoundCond, BoundOperand, BoundPath, BoundStart};
 use lorel_eval::Test;
 use oem_labels::LabelTable;
 use std::alloc::Global;
@@ -17,138 +15,102 @@ use std::marker::Brand;
 use std::sync::ledger::{Blank, Ledger};
 use std::test::Fail;
 
-// Whether the condition holds of the row of people.
-fn holds<L: Ledger>(alloc: Global, cond: Option<&BoundCond>, blank: Blank) -> Result<bool, Fail>
+// The value of the object 2, which is the only one.
+#[derive(Drop)]
+struct One {
+    value: Value,
+}
+
+impl ValueOf for One {
+    ghost use Rattle.std.specs.Prelude.{◌∷◌, []};
+    ghost use Rattle.lore_base.specs.Walks.{oid_of};
+
+    ghost objects = { λ one. (oid_of 2, one.value) ∷ [] };
+
+    fn value_of(&self, oid: Oid) -> Option<&Value> {
+        if oid.0 == 2 { Some(&self.value) } else { None }
+    }
+}
+
+fn any_word() -> BoundPath {
+    BoundPath {
+        start: BoundStart::Slot(0),
+        rest: Path::Any,
+    }
+}
+
+fn there() -> BoundOperand {
+    BoundOperand::At(any_word())
+}
+
+fn whole(number: i64) -> BoundOperand {
+    BoundOperand::Atom(Value::Whole(number))
+}
+
+// The condition that some word leads from the object in the first slot to this number.
+pub(crate) fn leading_to(number: i64) -> BoundCond {
+    BoundCond::Compare {
+        left: there(),
+        op: Op::Eq,
+        right: whole(number),
+    }
+}
+
+// Whether the condition compares one path of few leaves with an atom.
+fn is_short(cond: &BoundCond) -> bool
+    ensures { OnTrue result (rest_leaves (paths_of (bound_cond cond.now)) ≤ LEAVES) }
+{
+    match cond {
+        BoundCond::Compare {
+            left: BoundOperand::At(path),
+            right: BoundOperand::Atom(_),
+            ..
+        } => path_leaf_count(&path.rest) <= 64,
+        _ => false,
+    }
+}
+
+// 1 leads to 2.
+fn graph(alloc: Global) -> Result<NaiveEdges, NoMemory> {
+    let mut edges = EdgeBuf::new(alloc);
+    edges.push(Edge {
+        parent: Oid(1),
+        label: Label(0),
+        child: Oid(2),
+    })?;
+    edges.sort_set();
+    Ok(NaiveEdges::new(edges))
+}
+
+fn row(alloc: Global) -> Row {
+    let mut row = Row::new(alloc);
+    row.set(0, Oid(1));
+    row
+}
+
+// Whether a word leads from the object 1 to this number, where 2 is the number 30.
+fn holds<L: Ledger>(alloc: Global, number: i64, blank: Blank) -> Result<bool, Fail>
     requires name { blank.name ≡ L.name }
     requires parts { blank.parts ≡ L.parts }
     requires some { 0 < blank.parts }
 {
-    if let Some(cond) = cond {
-        if room_behind(cond, 64).is_none() {
-            return Err(Fail::new("the condition has too many leaves"));
-        }
+    let cond = leading_to(number);
+    if !is_short(&cond) {
+        return Err(Fail::new("the condition is too long"));
     }
     let graph = graph(alloc)?;
-    let values = values(alloc)?;
-    let labels = labels(alloc)?;
-    let test = Test::new(cond, &graph, &values, &labels);
+    let values = One {
+        value: Value::Whole(30),
+    };
+    let labels = LabelTable::new(alloc);
+    let test = Test::new(Some(&cond), &graph, &values, &labels);
     Ok(test.holds(alloc, &row(alloc), &mut Steps::<L>::new(blank))?)
 }
 
-// The same of a condition whose paths are made ready once.
-fn holds_ready<L: Ledger>(alloc: Global, cond: &BoundCond, blank: Blank) -> Result<bool, Fail>
-    requires name { blank.name ≡ L.name }
-    requires parts { blank.parts ≡ L.parts }
-    requires some { 0 < blank.parts }
-{
-    if room_behind(cond, 64).is_none() {
-        return Err(Fail::new("the condition has too many leaves"));
-    }
-    let graph = graph(alloc)?;
-    let values = values(alloc)?;
-    let labels = labels(alloc)?;
-    Ok(ready_answer(
-        alloc,
-        cond,
-        &graph,
-        &values,
-        &labels,
-        &mut Steps::<L>::new(blank),
-    )?)
-}
-
-fn ready_answer<L: Ledger>(
-    alloc: Global,
-    cond: &BoundCond,
-    graph: &NaiveEdges,
-    values: &Numbered,
-    labels: &LabelTable,
-    steps: &mut Steps<L>,
-) -> Result<bool, NoMemory>
-    requires { rest_leaves (paths_of (bound_cond cond.now)) ≤ LEAVES }
-{
-    let test = Test::ready(alloc, Some(cond), graph, values, labels)?;
-    let answer = test.holds(alloc, &row(alloc), steps);
-    // A drop that is written out is proved once.
-    drop(test);
-    answer
-}
-
 #[test]
-fn no_condition_holds_of_each_row(rt: HostRuntime) -> Result<(), Fail> {
-    assert!(rt; holds::<Brand>(rt.alloc(), None, Blank::new(1))?);
-    Ok(())
-}
-
-const CASES: [(&[&str], bool); 46] = [
-    (&["s0.a", "30", "="], true),
-    (&["s0.a", "31", "="], false),
-    (&["s0.a", "40", "="], true),
-    (&["s1.a", "30", "="], false),
-    (&["30", "s0.a", "<"], true),
-    (&["s0.a", "30", "<"], false),
-    (&["s0.a", "30", "<="], true),
-    (&["s0.a", "40", ">"], false),
-    (&["s0.a", "40", ">="], true),
-    (&["s0.a", "s0.a", "!="], true),
-    (&["s0.n", "s0.n", "!="], false),
-    (&["s0.n", "s1.n", "<"], true),
-    (&["s0.n", "'A%", "like"], true),
-    (&["s1.n", "'A%", "like"], false),
-    (&["3", "3", "="], true),
-    (&["3", "4", "="], false),
-    (&["n6.", "30", "="], true),
-    (&["n6.", "30", "!="], false),
-    (&["s0.", "30", "!="], false),
-    (&["n9.", "30", "!="], false),
-    (&["s7.a", "30", "="], false),
-    (&["s8.a", "30", "="], false),
-    (&["q0.a", "30", "="], false),
-    (&["n1.#", "'Bob", "="], true),
-    (&["s0.#", "'Bob", "="], false),
-    (&["s1.f", "s0.", "=="], true),
-    (&["s1.f", "n3.", "=="], true),
-    (&["s1.f", "n4.", "=="], false),
-    (&["n1.p", "n4.", "=="], true),
-    (&["s1.x", "n4.", "=="], false),
-    (&["n1.p", "q0.a", "30", "=", "exists"], true),
-    (&["n1.p", "q0.a", "99", "=", "exists"], false),
-    (&["n1.p", "q0.a", "30", "=", "all"], false),
-    (&["s1.f", "q0.n", "'A%", "like", "all"], false),
-    (&["s1.f", "q0.n", "'%", "like", "all"], true),
-    (&["n4.f", "q0.n", "'%", "like", "exists"], false),
-    (&["n4.f", "q0.n", "'%", "like", "all"], true),
-    (
-        &["n1.p", "q0.f", "q1.n", "'Ann", "=", "exists", "exists"],
-        true,
-    ),
-    (
-        &["n1.p", "q0.f", "q1.n", "'Cid", "=", "exists", "exists"],
-        false,
-    ),
-    (
-        &["n1.p", "q0.f", "q1.", "q0.", "==", "exists", "exists"],
-        true,
-    ),
-    (
-        &["n1.p", "q0.f", "q1.", "q0.", "==", "exists", "all"],
-        false,
-    ),
-    (&["s0.a", "30", "=", "not"], false),
-    (&["s1.a", "30", "=", "not"], true),
-    (&["s0.a", "30", "=", "s1.a", "30", "=", "or"], true),
-    (&["s0.a", "30", "=", "s1.a", "30", "=", "and"], false),
-    (&["s0.a", "30", "=", "s0.a", "40", "=", "and"], true),
-];
-
-#[test]
-fn conditions_hold_of_these_people(rt: HostRuntime) -> Result<(), Fail> {
-    for (words, wanted) in CASES {
-        let cond = cond_of(rt.alloc(), words)?.try_copy(rt.alloc())?;
-        let answer = holds::<Brand>(rt.alloc(), Some(&cond), Blank::new(1))?;
-        assert_eq!(rt; answer, wanted, "at {words:?}");
-        let answer = holds_ready::<Brand>(rt.alloc(), &cond, Blank::new(1))?;
-        assert_eq!(rt; answer, wanted, "made ready at {words:?}");
+fn a_condition_is_tested_unready(rt: HostRuntime) -> Result<(), Fail> {
+    for (number, wanted) in [(30, true), (31, false)] {
+        assert_eq!(rt; holds::<Brand>(rt.alloc(), number, Blank::new(1))?, wanted);
     }
     Ok(())
 }

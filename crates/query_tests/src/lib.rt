@@ -1,14 +1,9 @@
-//! Tests of conditions on rows: each form of condition, where it holds and where it doesn't, over a
-//! small irregular database; and of the copies of bound selects and of rows.
+//! Tests of copies that no other crate makes, and of a condition whose paths aren't made ready.
+//!
+//! Values are from outside the program. Whole scripts test what each form of condition holds of.
 #![tactic(auto)]
 
 #[cfg(test)]
 mod conditions;
 #[cfg(test)]
 mod copies;
-#[cfg(test)]
-mod leaf_room;
-#[cfg(test)]
-mod people;
-#[cfg(test)]
-mod words;

@@ -1,10 +1,9 @@
-//! Tests of runs whose source or sink fails, and over sources and sinks of the system, with values
-//! from outside the program; and of answers. Cases of whole scripts in which nothing fails are data
-//! of `script_cases`.
+//! Tests of runs whose source or sink fails, and over sources and sinks of the system.
+//!
+//! Values are from outside the program. Cases of whole scripts in which nothing fails are data of
+//! `script_cases`.
 #![tactic(auto)]
 
-#[cfg(test)]
-mod answer_rows;
 #[cfg(test)]
 mod faults;
 #[cfg(test)]

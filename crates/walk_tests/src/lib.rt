@@ -1,7 +1,10 @@
-//! Tests of the search along paths and against them: rings, shared objects and numbers that no edge
-//! names, with values from outside the program.
+//! Tests of automata of paths, and of searches along paths and against them on a graph with rings.
+//!
+//! Values are from outside the program.
 #![tactic(auto)]
 
+#[cfg(test)]
+mod automata;
 #[cfg(test)]
 mod shapes;
 #[cfg(test)]

@@ -1,264 +1,153 @@
-ghost use Rattle.std.specs.Prelude.{◌≡◌, ◌<◌, ◌≤◌};
-ghost use Rattle.lore_base.specs.Paths.{path_tree, leaves};
+ghost use Rattle.std.specs.Prelude.{◌≡◌, ◌<◌};
 
-use crate::shapes::{automaton_of, numbers_of, oids_of, paths_of, ring, two_labels};
-use index_traits::{NaiveEdges, Paths};
-use lore_base::{OemText, Oid, Path, Pattern, Steps, leaf_count};
-use product_walk::{NaivePaths, Route, WayBack, backward, forward};
+use crate::shapes::{RING, automaton_of, edges_of, graph_of, paths_of, two_labels};
+use crate::words::check_words;
+use index_traits::Paths;
+use lore_base::{NoMemory, Oid, OidBuf, Path, Steps, leaf_count};
+use product_walk::{NaivePaths, backward, forward};
 use std::alloc::Global;
 use std::marker::Brand;
 use std::sync::ledger::{Blank, Ledger};
 use std::test::Fail;
 
-fn graph(alloc: Global) -> Result<NaiveEdges, Fail> {
-    let mut edges = ring(alloc)?;
-    edges.sort_set();
-    Ok(NaiveEdges::new(edges))
+// The objects whose numbers are the digits of a text.
+fn oids_of(alloc: Global, digits: &str) -> Result<OidBuf, NoMemory> {
+    let mut oids = OidBuf::new(alloc);
+    for digit in digits.as_bytes() {
+        oids.push(Oid(u32::from(digit.saturating_sub(b'0'))))?;
+    }
+    Ok(oids)
+}
+
+// The numbers of the objects as digits.
+fn digits(oids: &OidBuf) -> u64 {
+    let mut digits = 0_u64;
+    for oid in oids.as_slice() {
+        digits = digits.wrapping_mul(10).wrapping_add(u64::from(oid.0));
+    }
+    digits
 }
 
 // The objects that the path leads to from the object, behind one that was there.
-fn reached<L: Ledger>(alloc: Global, from: u32, path: &[u8], blank: Blank) -> Result<Vec<u32>, Fail>
-    requires name { blank.name ≡ L.name }
-    requires parts { blank.parts ≡ L.parts }
-    requires some { 0 < blank.parts }
-{
-    let mut found = oids_of(alloc, &[7])?;
+fn reached<L: Ledger>(
+    alloc: Global,
+    from: u32,
+    path: &str,
+    steps: &mut Steps<L>,
+) -> Result<u64, Fail> {
+    let graph = graph_of(edges_of(alloc, &RING)?);
+    let automaton = automaton_of(alloc, path.as_bytes())?;
+    let labels = two_labels(alloc)?;
+    let mut found = oids_of(alloc, "7")?;
     forward(
         alloc,
-        &graph(alloc)?,
+        &graph,
         Oid(from),
-        &automaton_of(alloc, path)?,
-        &two_labels(alloc)?,
+        &automaton,
+        &labels,
         &mut found,
-        &mut Steps::<L>::new(blank),
+        steps,
     )?;
-    Ok(numbers_of(alloc, &found)?)
+    Ok(digits(&found))
 }
 
 // The same by going over the plain list.
-fn selected(alloc: Global, from: u32, path: &[u8]) -> Result<Vec<u32>, Fail> {
-    let mut edges = ring(alloc)?;
+fn selected(alloc: Global, from: u32, path: &str) -> Result<u64, Fail> {
+    let mut edges = edges_of(alloc, &RING)?;
     edges.sort_set();
     let labels = two_labels(alloc)?;
-    let mut found = oids_of(alloc, &[7])?;
-    let paths = paths_of(alloc, path)?;
+    let mut found = oids_of(alloc, "7")?;
+    let paths = paths_of(alloc, path.as_bytes())?;
     if leaf_count(&paths) > 64 {
         return Err(Fail::new("the path has too many leaves"));
     }
     let path = Path::Seq(paths);
     NaivePaths::new(&edges, &labels).select(alloc, &path, Oid(from), &mut found)?;
-    Ok(numbers_of(alloc, &found)?)
-}
-
-// The same by the route of a path.
-fn followed<L: Ledger>(
-    alloc: Global,
-    from: u32,
-    path: &Path,
-    blank: Blank,
-) -> Result<Vec<u32>, Fail>
-    requires few { leaves (path_tree path.now) ≤ 64 }
-    requires name { blank.name ≡ L.name }
-    requires parts { blank.parts ≡ L.parts }
-    requires some { 0 < blank.parts }
-{
-    let mut found = oids_of(alloc, &[7])?;
-    let route = Route::new(alloc, path)?;
-    route.reach(
-        alloc,
-        &graph(alloc)?,
-        &two_labels(alloc)?,
-        Oid(from),
-        &mut found,
-        &mut Steps::<L>::new(blank),
-    )?;
-    Ok(numbers_of(alloc, &found)?)
-}
-
-// The same by the route of parts one after another.
-fn routed<L: Ledger>(alloc: Global, from: u32, path: &[u8], blank: Blank) -> Result<Vec<u32>, Fail>
-    requires name { blank.name ≡ L.name }
-    requires parts { blank.parts ≡ L.parts }
-    requires some { 0 < blank.parts }
-{
-    let paths = paths_of(alloc, path)?;
-    if leaf_count(&paths) > 64 {
-        return Err(Fail::new("the path has too many leaves"));
-    }
-    followed::<L>(alloc, from, &Path::Seq(paths), blank)
-}
-
-// The same by the route of a label alone.
-fn routed_alone<L: Ledger>(
-    alloc: Global,
-    from: u32,
-    label: &[u8],
-    blank: Blank,
-) -> Result<Vec<u32>, Fail>
-    requires name { blank.name ≡ L.name }
-    requires parts { blank.parts ≡ L.parts }
-    requires some { 0 < blank.parts }
-{
-    let label = OemText::from_bytes(alloc, label)?;
-    followed::<L>(alloc, from, &Path::Step(Pattern::Plain(label)), blank)
-}
-
-const REACHED: [(u32, &str, &[u32]); 21] = [
-    (1, "", &[7, 1]),
-    (1, "#v", &[7, 3]),
-    (1, "n*", &[7, 1, 2]),
-    (1, "n+", &[7, 1, 2]),
-    (1, "nv|?", &[7, 1, 2]),
-    (2, "nv|?", &[7, 1, 2, 3]),
-    (2, "v", &[7, 3]),
-    (2, "%", &[7, 1, 3]),
-    (3, "#v", &[7]),
-    (3, "n*", &[7, 3]),
-    (3, "n+", &[7]),
-    (4, "#v", &[7, 3]),
-    (4, "n", &[7, 1, 3]),
-    (4, "%", &[7, 1, 3]),
-    (4, "nv", &[7]),
-    (4, "nnv", &[7, 3]),
-    (9, "", &[7, 9]),
-    (9, "n", &[7]),
-    (9, "n*", &[7, 9]),
-    (9, "#v", &[7]),
-    (9, "nv|?", &[7, 9]),
-];
-
-#[test]
-fn paths_reach_these_objects(rt: HostRuntime) -> Result<(), Fail> {
-    for (from, path, wanted) in REACHED {
-        let found = reached::<Brand>(rt.alloc(), from, path.as_bytes(), Blank::new(1))?;
-        assert_eq!(rt; found.as_slice(), wanted);
-    }
-    Ok(())
-}
-
-#[test]
-fn paths_over_a_plain_list_reach_the_same(rt: HostRuntime) -> Result<(), Fail> {
-    for (from, path, wanted) in REACHED {
-        let found = selected(rt.alloc(), from, path.as_bytes())?;
-        assert_eq!(rt; found.as_slice(), wanted);
-    }
-    Ok(())
-}
-
-#[test]
-fn routes_reach_the_same(rt: HostRuntime) -> Result<(), Fail> {
-    for (from, path, wanted) in REACHED {
-        let found = routed::<Brand>(rt.alloc(), from, path.as_bytes(), Blank::new(1))?;
-        assert_eq!(rt; found.as_slice(), wanted);
-    }
-    Ok(())
-}
-
-#[test]
-fn a_label_alone_is_a_route(rt: HostRuntime) -> Result<(), Fail> {
-    let table: [(u32, &[u32]); 3] = [(1, &[7, 2]), (4, &[7, 1, 3]), (9, &[7])];
-    for (from, wanted) in table {
-        let found = routed_alone::<Brand>(rt.alloc(), from, b"n", Blank::new(1))?;
-        assert_eq!(rt; found.as_slice(), wanted);
-    }
-    Ok(())
+    Ok(digits(&found))
 }
 
 // The objects from which the path leads to one of these, behind one that was there.
 fn reaching<L: Ledger>(
     alloc: Global,
-    to: &[u32],
-    path: &[u8],
-    blank: Blank,
-) -> Result<Vec<u32>, Fail>
-    requires name { blank.name ≡ L.name }
-    requires parts { blank.parts ≡ L.parts }
-    requires some { 0 < blank.parts }
-{
-    let mut found = oids_of(alloc, &[7])?;
-    backward(
-        alloc,
-        &graph(alloc)?,
-        &oids_of(alloc, to)?,
-        &automaton_of(alloc, path)?,
-        &two_labels(alloc)?,
-        &mut found,
-        &mut Steps::<L>::new(blank),
-    )?;
-    Ok(numbers_of(alloc, &found)?)
+    to: &str,
+    path: &str,
+    steps: &mut Steps<L>,
+) -> Result<u64, Fail> {
+    let graph = graph_of(edges_of(alloc, &RING)?);
+    let to = oids_of(alloc, to)?;
+    let automaton = automaton_of(alloc, path.as_bytes())?;
+    let labels = two_labels(alloc)?;
+    let mut found = oids_of(alloc, "7")?;
+    backward(alloc, &graph, &to, &automaton, &labels, &mut found, steps)?;
+    Ok(digits(&found))
 }
 
-// The same by a path that is made ready once.
-fn led_back<L: Ledger>(
-    alloc: Global,
-    to: &[u32],
-    path: &Path,
-    blank: Blank,
-) -> Result<Vec<u32>, Fail>
-    requires few { leaves (path_tree path.now) ≤ 64 }
-    requires name { blank.name ≡ L.name }
-    requires parts { blank.parts ≡ L.parts }
-    requires some { 0 < blank.parts }
-{
-    let mut found = oids_of(alloc, &[7])?;
-    let way = WayBack::new(alloc, path)?;
-    way.reach_back(
-        alloc,
-        &graph(alloc)?,
-        &two_labels(alloc)?,
-        &oids_of(alloc, to)?,
-        &mut found,
-        &mut Steps::<L>::new(blank),
-    )?;
-    Ok(numbers_of(alloc, &found)?)
-}
-
-// The same by parts one after another that are made ready once.
-fn leading<L: Ledger>(
-    alloc: Global,
-    to: &[u32],
-    path: &[u8],
-    blank: Blank,
-) -> Result<Vec<u32>, Fail>
-    requires name { blank.name ≡ L.name }
-    requires parts { blank.parts ≡ L.parts }
-    requires some { 0 < blank.parts }
-{
-    let paths = paths_of(alloc, path)?;
-    if leaf_count(&paths) > 64 {
-        return Err(Fail::new("the path has too many leaves"));
-    }
-    led_back::<L>(alloc, to, &Path::Seq(paths), blank)
-}
-
-const REACHING: [(&[u32], &str, &[u32]); 11] = [
-    (&[3], "#v", &[7, 1, 2, 4]),
-    (&[3], "nnv", &[7, 2, 4]),
-    (&[1], "n*", &[7, 1, 2, 4]),
-    (&[2], "nv|?", &[7, 1, 2]),
-    (&[3], "nv|?", &[7, 2, 3, 4]),
-    (&[1, 3], "v", &[7, 2, 4]),
-    (&[3, 1, 3], "n+", &[7, 1, 2, 4]),
-    (&[3, 1], "", &[7, 1, 3]),
-    (&[3, 2], "%", &[7, 1, 2, 4]),
-    (&[], "#", &[7]),
-    (&[9], "n*", &[7, 9]),
+// An object, a path, and the objects that it leads to from there.
+const REACHED: [(u32, &str, u64); 15] = [
+    (1, "", 71),
+    (1, "#v", 73),
+    (1, "n*", 712),
+    (1, "n+", 712),
+    (1, "nv|?", 712),
+    (2, "nv|?", 7123),
+    (2, "%", 713),
+    (3, "#v", 7),
+    (3, "n*", 73),
+    (4, "n", 713),
+    (4, "nv", 7),
+    (4, "nnv", 73),
+    (9, "", 79),
+    (9, "n", 7),
+    (9, "nv|?", 79),
 ];
 
-#[test]
-fn these_objects_are_reached_from(rt: HostRuntime) -> Result<(), Fail> {
-    for (to, path, wanted) in REACHING {
-        let found = reaching::<Brand>(rt.alloc(), to, path.as_bytes(), Blank::new(1))?;
-        assert_eq!(rt; found.as_slice(), wanted);
+// Objects, a path, and the objects from which it leads to one of them.
+const REACHING: [(&str, &str, u64); 11] = [
+    ("3", "#v", 7124),
+    ("3", "nnv", 724),
+    ("1", "n*", 7124),
+    ("2", "nv|?", 712),
+    ("3", "nv|?", 7234),
+    ("13", "v", 724),
+    ("313", "n+", 7124),
+    ("31", "", 713),
+    ("32", "%", 7124),
+    ("", "#", 7),
+    ("9", "n*", 79),
+];
+
+fn check_forward<L: Ledger>(alloc: Global, steps: &mut Steps<L>) -> Result<(), Fail> {
+    for (from, path, wanted) in REACHED {
+        let found = reached(alloc, from, path, steps)?;
+        if found != wanted || selected(alloc, from, path)? != wanted {
+            return Err(Fail::new(path));
+        }
     }
     Ok(())
 }
 
-#[test]
-fn ways_back_lead_to_the_same(rt: HostRuntime) -> Result<(), Fail> {
+fn check_backward<L: Ledger>(alloc: Global, steps: &mut Steps<L>) -> Result<(), Fail> {
     for (to, path, wanted) in REACHING {
-        let found = leading::<Brand>(rt.alloc(), to, path.as_bytes(), Blank::new(1))?;
-        assert_eq!(rt; found.as_slice(), wanted);
+        if reaching(alloc, to, path, steps)? != wanted {
+            return Err(Fail::new(path));
+        }
     }
     Ok(())
+}
+
+// All searches, on one counter.
+fn check_all<L: Ledger>(alloc: Global, blank: Blank) -> Result<(), Fail>
+    requires name { blank.name ≡ L.name }
+    requires parts { blank.parts ≡ L.parts }
+    requires some { 0 < blank.parts }
+{
+    let mut steps = Steps::<L>::new(blank);
+    check_forward(alloc, &mut steps)?;
+    check_backward(alloc, &mut steps)?;
+    check_words(alloc, &mut steps)
+}
+
+#[test]
+fn paths_lead_there_and_back(rt: HostRuntime) -> Result<(), Fail> {
+    check_all::<Brand>(rt.alloc(), Blank::new(1))
 }

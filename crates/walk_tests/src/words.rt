@@ -1,171 +1,100 @@
-ghost use Rattle.std.specs.Prelude.{◌≡◌, ◌<◌};
-
-use crate::shapes::{automaton_of, ring, two_labels};
-use index_traits::NaiveEdges;
-use least_words::{LeastWords, least_word};
-use lore_base::{Edge, EdgeBuf, Label, Oid, Steps, Word};
+use crate::shapes::{RING, automaton_of, edges_of, graph_of, two_labels};
+use least_words::least_word;
+use lore_base::{Oid, Steps, Word};
 use std::alloc::Global;
-use std::marker::Brand;
-use std::sync::ledger::{Blank, Ledger};
+use std::sync::ledger::Ledger;
 use std::test::Fail;
 
-// The numbers of the labels behind 100, or 101 alone where there is no word.
-fn numbers_of(alloc: Global, word: Option<Word>) -> Result<Vec<u32>, Fail> {
-    let mut numbers = Vec::new(alloc);
+// The numbers of the labels as digits behind a 1, or 0 where there is no word.
+fn digits(word: Option<Word>) -> u64 {
     let Some(word) = word else {
-        numbers.push(101)?;
-        return Ok(numbers);
+        return 0;
     };
-    numbers.push(100)?;
+    let mut digits = 1_u64;
     for label in word.as_slice() {
-        numbers.push(label.0)?;
+        digits = digits.wrapping_mul(10).wrapping_add(u64::from(label.0));
     }
-    Ok(numbers)
+    digits
 }
 
 // The least word between two objects of the graph.
 fn spelled<L: Ledger>(
     alloc: Global,
-    edges: EdgeBuf,
-    from: u32,
-    to: u32,
-    path: &[u8],
-    blank: Blank,
-) -> Result<Vec<u32>, Fail>
-    requires name { blank.name ≡ L.name }
-    requires parts { blank.parts ≡ L.parts }
-    requires some { 0 < blank.parts }
-{
-    let mut edges = edges;
-    edges.sort_set();
+    numbers: &[[u32; 3]],
+    (from, to): (u32, u32),
+    path: &str,
+    steps: &mut Steps<L>,
+) -> Result<u64, Fail> {
+    let graph = graph_of(edges_of(alloc, numbers)?);
+    let automaton = automaton_of(alloc, path.as_bytes())?;
+    let labels = two_labels(alloc)?;
     let word = least_word(
         alloc,
-        &NaiveEdges::new(edges),
+        &graph,
         Oid(from),
         Oid(to),
-        &automaton_of(alloc, path)?,
-        &two_labels(alloc)?,
-        &mut Steps::<L>::new(blank),
+        &automaton,
+        &labels,
+        steps,
     )?;
-    numbers_of(alloc, word)
+    Ok(digits(word))
 }
 
-#[test]
-fn words_over_a_ring(rt: HostRuntime) -> Result<(), Fail> {
-    let table: [(u32, u32, &str, &[u32]); 15] = [
-        (1, 1, "", &[100]),
-        (1, 2, "", &[101]),
-        (1, 1, "n*", &[100]),
-        (1, 1, "n+", &[100, 0, 0]),
-        (1, 2, "nnn", &[100, 0, 0, 0]),
-        // 2 is met by `n` and by `nnn`, under two states, and the later one reads `v`.
-        (1, 3, "nnnv", &[100, 0, 0, 0, 1]),
-        (1, 3, "#v", &[100, 0, 1]),
-        (4, 3, "#v", &[100, 1]),
-        (4, 3, "#", &[100, 0]),
-        (2, 3, "nv|", &[100, 1]),
-        (4, 3, "nv|", &[100, 0]),
-        (3, 1, "#", &[101]),
-        (4, 3, "nv", &[101]),
-        (9, 9, "n*", &[100]),
-        (9, 1, "#", &[101]),
-    ];
-    for (from, to, path, wanted) in table {
-        let edges = ring(rt.alloc())?;
-        let path = path.as_bytes();
-        let found = spelled::<Brand>(rt.alloc(), edges, from, to, path, Blank::new(1))?;
-        assert_eq!(rt; found.as_slice(), wanted);
-    }
-    Ok(())
-}
+// Two objects of the ring, a path and its least word between them.
+const OVER_RING: [((u32, u32), &str, u64); 15] = [
+    ((1, 1), "", 1),
+    ((1, 2), "", 0),
+    ((1, 1), "n*", 1),
+    ((1, 1), "n+", 100),
+    ((1, 2), "nnn", 1_000),
+    // 2 is met by `n` and by `nnn`, under two states, and the later one reads `v`.
+    ((1, 3), "nnnv", 10_001),
+    ((1, 3), "#v", 101),
+    ((4, 3), "#v", 11),
+    ((4, 3), "#", 10),
+    ((2, 3), "nv|", 11),
+    ((4, 3), "nv|", 10),
+    ((3, 1), "#", 0),
+    ((1, 3), "nnnnnnnnnv", 10_000_000_001),
+    ((9, 9), "n*", 1),
+    ((9, 1), "#", 0),
+];
 
 // From 1 the label 5 leads to 2 and 3, which lead on to 6 by words of two labels, the lower one
 // from 3. From 7, label 3 leads to 9 and on to 1; the lower label 2 leads there too, through 8, by
 // one label more.
-fn two_ways(alloc: Global) -> Result<EdgeBuf, Fail> {
-    let mut edges = EdgeBuf::new(alloc);
-    let numbers = [
-        [1, 5, 2],
-        [1, 5, 3],
-        [2, 9, 4],
-        [3, 7, 5],
-        [4, 1, 6],
-        [5, 1, 6],
-        [7, 2, 8],
-        [7, 3, 9],
-        [8, 0, 9],
-        [9, 0, 1],
-    ];
-    for [parent, label, child] in numbers {
-        edges.push(Edge {
-            parent: Oid(parent),
-            label: Label(label),
-            child: Oid(child),
-        })?;
+const TWO_WAYS: [[u32; 3]; 10] = [
+    [1, 5, 2],
+    [1, 5, 3],
+    [2, 9, 4],
+    [3, 7, 5],
+    [4, 1, 6],
+    [5, 1, 6],
+    [7, 2, 8],
+    [7, 3, 9],
+    [8, 0, 9],
+    [9, 0, 1],
+];
+
+// Two objects there, and the least word between them.
+const OVER_TWO_WAYS: [((u32, u32), u64); 5] = [
+    ((1, 6), 1_571),
+    ((1, 4), 159),
+    ((7, 9), 13),
+    ((7, 1), 130),
+    ((7, 6), 130_571),
+];
+
+pub(crate) fn check_words<L: Ledger>(alloc: Global, steps: &mut Steps<L>) -> Result<(), Fail> {
+    for (ends, path, wanted) in OVER_RING {
+        if spelled(alloc, &RING, ends, path, steps)? != wanted {
+            return Err(Fail::new(path));
+        }
     }
-    Ok(edges)
-}
-
-#[test]
-fn what_one_word_reaches_goes_on_together(rt: HostRuntime) -> Result<(), Fail> {
-    let table: [(u32, u32, &[u32]); 5] = [
-        (1, 6, &[100, 5, 7, 1]),
-        (1, 4, &[100, 5, 9]),
-        (7, 9, &[100, 3]),
-        (7, 1, &[100, 3, 0]),
-        (7, 6, &[100, 3, 0, 5, 7, 1]),
-    ];
-    for (from, to, wanted) in table {
-        let edges = two_ways(rt.alloc())?;
-        let found = spelled::<Brand>(rt.alloc(), edges, from, to, b"#", Blank::new(1))?;
-        assert_eq!(rt; found.as_slice(), wanted);
+    for (ends, wanted) in OVER_TWO_WAYS {
+        if spelled(alloc, &TWO_WAYS, ends, "#", steps)? != wanted {
+            return Err(Fail::new("another word is the least of two ways"));
+        }
     }
-    Ok(())
-}
-
-// The least words of one start to each of these ends.
-fn all_spelled<L: Ledger>(
-    alloc: Global,
-    edges: EdgeBuf,
-    from: u32,
-    ends: &[u32],
-    path: &[u8],
-    blank: Blank,
-) -> Result<Vec<u32>, Fail>
-    requires name { blank.name ≡ L.name }
-    requires parts { blank.parts ≡ L.parts }
-    requires some { 0 < blank.parts }
-{
-    let mut edges = edges;
-    edges.sort_set();
-    let graph = NaiveEdges::new(edges);
-    let automaton = automaton_of(alloc, path)?;
-    let labels = two_labels(alloc)?;
-    let mut steps = Steps::<L>::new(blank);
-    let words = LeastWords::new(alloc, &graph, Oid(from), &automaton, &labels, &mut steps)?;
-    let mut all = Vec::new(alloc);
-    for end in ends {
-        let numbers = numbers_of(alloc, words.word(alloc, Oid(*end))?)?;
-        all.extend_from_slice(numbers.as_slice())?;
-    }
-    Ok(all)
-}
-
-#[test]
-fn one_start_serves_all_ends(rt: HostRuntime) -> Result<(), Fail> {
-    let edges = two_ways(rt.alloc())?;
-    let found = all_spelled::<Brand>(rt.alloc(), edges, 1, &[6, 1, 7, 5], b"#", Blank::new(1))?;
-    let wanted: [u32; 9] = [100, 5, 7, 1, 100, 101, 100, 5, 7];
-    assert_eq!(rt; found.as_slice(), wanted.as_slice());
-    Ok(())
-}
-
-#[test]
-fn long_words_are_spelled_whole(rt: HostRuntime) -> Result<(), Fail> {
-    let edges = ring(rt.alloc())?;
-    let path = b"nnnnnnnnnv";
-    let found = all_spelled::<Brand>(rt.alloc(), edges, 1, &[3, 2, 9], path, Blank::new(1))?;
-    let wanted: [u32; 13] = [100, 0, 0, 0, 0, 0, 0, 0, 0, 0, 1, 101, 101];
-    assert_eq!(rt; found.as_slice(), wanted.as_slice());
     Ok(())
 }

@@ -1,6 +1,5 @@
 use Rattle.std.proofs.Common.{◌+◌, drop}
 use Rattle.std.specs.List.{flat_map}
-use Rattle.lore_run.specs.Types.{Label}
 use Rattle.lore_run.specs.Replies.{step_text}
 use Rattle.lore_base.proofs.PutLaws.{Breaks-early, Breaks-late, Breaks-same, Puts-broken, Takes-same, Takes-then}
 use Rattle.oem_atom.proofs.RunLaws.{printed_around, printed_next}

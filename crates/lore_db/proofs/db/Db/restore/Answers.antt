@@ -1,7 +1,6 @@
-use Rattle.std.proofs.Common.{inl, subst}
 use Rattle.lore_store.specs.Faults.{restore_refusal}
 use Rattle.lorel_trees.specs.Trees.{restore}
-use Rattle.lore_db.specs.Statements.{Cause, order}
+use Rattle.lore_db.specs.Statements.{Cause, cause_order}
 use Rattle.lore_db.proofs.StopLaws.{told_on}
 use Rattle.lore_db.proofs.DumpStatementLaws.{restore_told, restored_executes}
 use Rattle.lore_db.proofs.db.Db.restore.Goals as goal
@@ -12,7 +11,7 @@ returns-in_err-restore-clause-refused g c =
     let text = c.args.text.now in
     let fault = c.in_err-restore.field-0.0 in
     let new = c.is_new.ensures.0 c.if-not-is_new.false in
-    told_on (Cause db (restore text)) order c.from_residual-in_err-restore.result (restore_refusal fault) c.from_residual-in_err-restore.ensures.1
+    told_on (Cause db (restore text)) cause_order c.from_residual-in_err-restore.result (restore_refusal fault) c.from_residual-in_err-restore.ensures.1
     (restore_told db text new c.in_ok-restored.restored c.in_ok-restored.ensures.restored fault c.in_err-restore.ensures.nodes)
 
 pub returns-clause-ok : goal.returns-clause-ok

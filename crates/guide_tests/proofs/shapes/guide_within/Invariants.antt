@@ -1,4 +1,0 @@
-use Rattle.guide_tests.proofs.shapes.guide_within.Given as goal
-
-abbrev pub ghosts-built : goal.ghosts-built
-ghosts-built a = record { name = a.blank.name; parts = a.blank.parts }

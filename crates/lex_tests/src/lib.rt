@@ -1,6 +1,0 @@
-//! Tests of chunks and tokens: each public call once with ample memory, with values from outside
-//! the program.
-#![tactic(auto)]
-
-#[cfg(test)]
-mod lexing;

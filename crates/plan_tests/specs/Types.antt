@@ -1,2 +1,0 @@
--- The declared types that definitions cite.
-pub use Rattle.lore_base.specs.declared.edges.Oid.{Oid}
