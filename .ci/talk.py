@@ -1,5 +1,7 @@
 #!/usr/bin/env python3
-"""Talks with the built program through pipes: the reply to a statement has to come before the next one is sent.
+"""Talks with a program through pipes: the reply to a statement has to come before the next one is sent.
+
+    .ci/talk.py [PROGRAM]    the program that this checkout built, or the one that is named
 
 A statement is sent only when the whole reply to the one before has come. Then a statement comes in two halves, with no
 reply between them, and two statements come at once. The end of the script ends the program, with status 1 for the
@@ -52,7 +54,7 @@ def talk(process):
 
 
 def main():
-    process = subprocess.Popen([PROGRAM], stdin=subprocess.PIPE, stdout=subprocess.PIPE, bufsize=0)
+    process = subprocess.Popen(sys.argv[1:2] or [PROGRAM], stdin=subprocess.PIPE, stdout=subprocess.PIPE, bufsize=0)
     try:
         fault = talk(process)
     except (OSError, subprocess.TimeoutExpired) as error:
