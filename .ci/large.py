@@ -21,9 +21,10 @@ from math import isqrt, lcm
 sys.dont_write_bytecode = True
 from generated_people import generated_cases
 from large_scripts import (EDGES, ITEMS, LABELS, LABEL_BYTES, LAST_NUMBER, LAST_SEED, LEAVES, LEVELS, MANY, MEMBERS, NAMES,
-                           OBJECTS, PERSONS, ROWS, SAMPLES, SCRIPT_BYTES, START_NODES, STATEMENT_BYTES, TEXT_BYTES,
-                           WORD_LABELS, Case, around, braces, doubling, dump_text, escaped, head, in_turn, labelled,
-                           long_script, long_texts, numbered, ok, people, quoted_label, refused, repeated, rows, sampled)
+                           NODES, OBJECTS, PERSONS, ROWS, SAMPLES, SCRIPT_BYTES, START_NODES, STATEMENT_BYTES, TEXT_BYTES,
+                           WORD_LABELS, Case, around, braces, doubled, doubling, dump_text, escaped, head, in_turn, labelled,
+                           long_script, long_texts, longest_chain, numbered, ok, passing_set, people, quoted_label,
+                           refused, repeated, rows, sampled)
 
 HERE = os.path.dirname(os.path.abspath(__file__))
 PROGRAM = os.path.join(HERE, "..", "crates", "lore", "out", "lore")
@@ -92,7 +93,7 @@ def statement_cases():
     items = 100_000
     yield Case("a select of a hundred thousand items", ["load A := 1; select ", "A, " * (items - 1), "A;"], 1,
                ok(1, 0, 1) + refused("TooManyRanges"))
-    members = 16 * OBJECTS
+    members = 4 * OBJECTS
     yield Case("a literal of far too many members", [numbered(members)], 1, refused("TooManyObjects"))
     steps = 200_000
     start, state, found = "load G := { a 1, a 2 };", ok(3, 2, 2), rows(["&2 1", "&3 2"])
@@ -157,8 +158,8 @@ def size_cases():
     state = ok(OBJECTS, MEMBERS, 2)
     yield Case("as many objects as there may be, again and again", [numbered(MEMBERS)] * 3, 0, state * 3)
     values = [i * 40_503 % OBJECTS for i in range(MEMBERS)]
-    yield Case("as many numbers and texts in no order, thirty times",
-               [braces("A", (f"a {value}" if i % 2 else f'a "{value}"' for i, value in enumerate(values)))] * 30, 0, state * 30)
+    yield Case("as many numbers and texts in no order, ten times",
+               [braces("A", (f"a {value}" if i % 2 else f'a "{value}"' for i, value in enumerate(values)))] * 10, 0, state * 10)
     members, row_count = 300, 300 * 300
     fits = (EDGES - members) // row_count
     links = (f"update X.l{i} += Y from N.a X, N.a Y;" for i in range(fits + 1))
@@ -270,6 +271,28 @@ def node_cases():
                + rows([*(f"&{i} {{}}" for i in range(1, START_NODES)), f"&{START_NODES} 0"]))
     yield Case("sets that double with each object", [doubling(START_NODES.bit_length()), doubling(1_000), "guide;"], 1,
                refused("GuideNodes") * 2 + "nodes 0\n")
+    most = NODES.bit_length() - 1
+    yield Case("as many sets as `set nodes` allows at most, and twice as many",
+               [doubled(most), f"set nodes {NODES};", doubled(most), doubled(most + 1), f"set nodes {NODES + 1};",
+                f"set nodes {NODES - 1};", "unname Q; set nodes 1;"], 1,
+               refused("GuideNodes") + ok(0, 0, 0) + ok(most + 1, 2 * most + 1, NODES) + refused("GuideNodes")
+               + refused("LimitRange") * 2 + ok(0, 0, 0) * 2)
+
+
+def cell_cases():
+    fits = longest_chain()
+    at = passing_set(fits + 1)
+    longer = in_turn(fits + 1)
+    yield Case("as many members of sets as there may be, nearly, and some more",
+               [f"set nodes {at - 1};", longer, f"set nodes {at};", longer, f"set nodes {NODES};", longer, in_turn(fits), longer,
+                "update C.y += X from C.m X where exists Y in X.n.n.n : Y == Y; update C.z += 0;"], 1,
+               ok(0, 0, 0) + refused("GuideNodes") + (ok(0, 0, 0) + refused("GuideCells")) * 2
+               + ok(fits + 1, 2 * fits - 1, fits + 1) + refused("GuideCells") * 2 + ok(fits + 2, 2 * fits, fits + 2))
+    for count, replies in [(fits, ok(fits + 1, 2 * fits - 1, fits + 1)), (fits + 1, refused("BadRestore"))]:
+        text = [head(count + 2).replace(f"nodes {START_NODES}", f"nodes {NODES}"), "label m\nlabel n\nname C &1\nobject &1 {}\n"]
+        text += [*(f"object &{i} {{}}\n" for i in range(2, count + 1)), f"object &{count + 1} 0\n"]
+        text += [f"edge &1 m &{i}\n" for i in range(2, count + 2)] + [f"edge &{i} n &{i + 1}\n" for i in range(2, count + 1)]
+        yield Case(f"a dump of a chain of {count}", ["restore ", *text, "end;"], int("refused" in replies), replies)
 
 
 def word_cases():
@@ -324,9 +347,9 @@ def path_cases():
                 "select path-of(P) from G.p X, X.#@P Y where Y.v = 1;"], 0,
                ok(20_004, 20_004, 5) * 2 + rows([".h.c"]))
     deep = (OBJECTS - 2) // 2
-    yield Case("a path over many objects, two hundred times",
-               [f"load D := {{ r {{ {', '.join(['m { x 0 }'] * deep)} }} }};", "set plan top;", "select D.r.m.x.y;" * 200], 0,
-               ok(2 * deep + 2, 2 * deep + 1, 4) * 2 + rows([]) * 200)
+    yield Case("a path over many objects, fifty times",
+               [f"load D := {{ r {{ {', '.join(['m { x 0 }'] * deep)} }} }};", "set plan top;", "select D.r.m.x.y;" * 50], 0,
+               ok(2 * deep + 2, 2 * deep + 1, 4) * 2 + rows([]) * 50)
 
 
 def text_cases():
@@ -382,6 +405,14 @@ def dump_cases():
     dump = "".join(lines)
     yield Case("a dump whose name leads to its last object", ["restore ", dump, "; dump; unname A;"], 0,
                ok(OBJECTS, MEMBERS, 2) + dump + ok(0, 0, 0))
+    lines = [head(OBJECTS + 1), "label a\nname A &1\nobject &1 {}\n", *(f"object &{i + 2} {i}\n" for i in range(MEMBERS))]
+    dump = "".join([*lines, *(f"edge &1 a &{i + 2}\n" for i in range(MEMBERS)), "end\n"])
+    yield Case("as many objects as there may be, dumped", [numbered(MEMBERS), "dump;"], 0, ok(OBJECTS, MEMBERS, 2) + dump)
+    yield Case("the same from its dump, and dumped again", ["restore ", dump, "; dump;"], 0, ok(OBJECTS, MEMBERS, 2) + dump)
+    flags = [f"a {word}" for word in ("true", "false")] * (MANY // 2)
+    found = [f"&{i + 2} {('true', 'false')[i % 2]}" for i in range(len(flags))]
+    yield Case("as many flags as there may be rows", [braces("F", flags), "select F.a; select X from F.a X where X < true;"], 0,
+               ok(len(flags) + 1, len(flags), 2) + rows(found) + rows(found[1::2]))
     line = "label lost\n"
     entries = STATEMENT_BYTES // len(line) - 100
     yield Case("a dump text of almost the longest statement", ["restore ", head(1), line * entries, "end;"], 1,
@@ -425,7 +456,8 @@ def script_cases():
 def cases():
     """All cases, one after another, since each may hold many megabytes."""
     for group in [row_cases, statement_cases, label_cases, name_cases, size_cases, update_cases, condition_cases, node_cases,
-                  word_cases, path_cases, text_cases, long_label_cases, dump_cases, made_cases, generated_cases, script_cases]:
+                  cell_cases, word_cases, path_cases, text_cases, long_label_cases, dump_cases, made_cases, generated_cases,
+                  script_cases]:
         yield from group()
 
 

@@ -3,13 +3,16 @@
 All of it is worked out from what docs/LANGUAGE.md says, and nothing is taken from the program.
 """
 from dataclasses import dataclass
+from math import isqrt
 from typing import Iterable
 
-OBJECTS = 65_536
-EDGES = 262_144
+OBJECTS = 262_144
+EDGES = 1_048_576
 LABELS = 4_096
 NAMES = 1_024
 START_NODES = 4_096  # the limit on the guide's nodes in a new database
+NODES = 16_384  # the greatest that it may be
+CELLS = 16_777_216  # members of all sets of the guide
 ROWS = 100_000
 WORD_LABELS = 16_777_216  # labels in the words of an answer
 SAMPLES = 100_000
@@ -29,7 +32,7 @@ MANY = min(MEMBERS, ROWS)  # of these as many as an answer or an update has rows
 
 REFUSALS = """BadToken RealRefused NumberRange TextTooLong Syntax Unfinished UnknownName UnknownVariable DuplicateVariable
 TooManyRanges DuplicateLocal UndefinedLocal TooManyRows NotOne AtomicParent HasChildren OidsSpent TooManyLabels TooManyNames
-TooManyObjects TooManyEdges GuideNodes LimitRange NotFresh BadRestore""".split()
+TooManyObjects TooManyEdges GuideNodes LimitRange NotFresh BadRestore GuideCells""".split()
 
 
 @dataclass
@@ -87,10 +90,32 @@ def doubling(count):
     return f"load Q := &0 {{ a &0, b &0, a &1, x &1 {{ a &2, b &2 }}, {', '.join(body)} }};"
 
 
+def doubled(count):
+    """A load of a graph with exactly two to the power of the count target sets, for a count from 2 to the levels of braces: the
+    first object is in each, and of the others some or none."""
+    inner = f"&{count + 1} 0"
+    for i in range(count, 1, -1):
+        inner = f"&{i} {{ a {inner}, b &{i + 1} }}"
+    return braces("Q", ["a &1", "b &1", f"a {inner}"]).replace(":= {", ":= &1 {")
+
+
 def around(count, at):
     """A load of a ring of objects, all of them members too. From the one at a place `s` leads to a last one."""
     members = (f"m &{i} {{ n &{i % count + 1}{', s &0' if i == at else ''} }}" for i in range(1, count + 1))
     return braces("C", [*members, "first &1", "last &0 {}"])
+
+
+def longest_chain():
+    """Of how many objects the longest chain in turn is whose sets have no more members than there may be; the root is one."""
+    return (isqrt(8 * (CELLS - 1) + 1) - 1) // 2
+
+
+def passing_set(count):
+    """Which set of a chain in turn, one after another from the root on, is the first at which there are too many members."""
+    members, at = 1, 1
+    while members <= CELLS:
+        members, at = members + count + 1 - at, at + 1
+    return at
 
 
 def escaped(text):
@@ -106,7 +131,7 @@ def quoted_label(label):
 
 
 def head(following):
-    return f"oem 1\nnext {following}\nnodes {START_NODES}\nplan auto\n"
+    return f"oem 2\nnext {following}\nnodes {START_NODES}\nplan auto\n"
 
 
 def dump_text(labels, names, children, paths):

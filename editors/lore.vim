@@ -24,24 +24,27 @@ syntax match   loreComment "--.*$"
 
 " A statement goes from its first word to its semicolon.
 syntax match   loreWord    contained "[A-Za-z_][A-Za-z0-9_]*"
-syntax keyword loreReserved contained select from where true false
+syntax keyword loreReserved contained select from where
+syntax keyword loreFlag    contained true false
 syntax keyword loreLogic   contained and or not exists for all in like
 syntax match   lorePathOf  contained "path-of[A-Za-z0-9_%]\@!"
 syntax match   loreLabel   contained "\.\_s*[A-Za-z0-9_%]\+"
 syntax match   loreLabel   contained "\.\_s*#"
 syntax match   loreLabel   contained "\.\_s*'\%([^'\\]\|\\.\)\+'"
 syntax match   loreMember  contained "[A-Za-z_][A-Za-z0-9_]*"
+" In braces `true` may be a label too, but then a literal stands behind it.
+syntax match   loreTruth   contained "\<\%(true\|false\)\>\%(\_s*[,}]\)\@="
 syntax region  loreBraces  contained matchgroup=loreSign start="{" end="}"
-      \ contains=loreComment,loreNumber,loreText,loreQuoted,loreLocal,loreMember,loreBraces
+      \ contains=loreComment,loreNumber,loreText,loreQuoted,loreLocal,loreMember,loreTruth,loreBraces
 syntax region  loreScript  matchgroup=loreStatement end=";"
       \ start="\<\%(load\|name\|unname\|update\|select\|explain\|guide\|browse\|sample\|dump\|generate\)\>"
-      \ contains=loreSign,loreNumber,loreComment,loreText,loreLocal,loreWord,loreReserved,loreLogic,lorePathOf,loreLabel,loreBraces
+      \ contains=loreSign,loreNumber,loreComment,loreText,loreLocal,loreWord,loreReserved,loreFlag,loreLogic,lorePathOf,loreLabel,loreBraces
 syntax region  loreScript  matchgroup=loreStatement start="\<set\>" end=";" contains=loreStray,loreNumber,loreComment,loreMode
 syntax keyword loreMode    contained nodes plan auto top bottom guide
 
 " The text of a dump: words of its own, of which some have a label or a name behind them.
 syntax region  loreScript  matchgroup=loreStatement start="\<restore\>" end=";"
-      \ contains=loreStray,loreNumber,loreComment,loreText,loreLocal,loreDump,loreHeld,loreNamed,loreEdge,loreBraces
+      \ contains=loreStray,loreNumber,loreComment,loreText,loreLocal,loreFlag,loreDump,loreHeld,loreNamed,loreEdge,loreBraces
 syntax keyword loreDump    contained oem next nodes plan auto top bottom guide object end
 syntax match   loreHeld    contained "\<label\_s\+\%([A-Za-z_][A-Za-z0-9_]*\|'\%([^'\\]\|\\.\)\+'\)" contains=loreLead
 syntax match   loreEdge    contained "\<edge\_s\+&\d\+\_s\+\%([A-Za-z_][A-Za-z0-9_]*\|'\%([^'\\]\|\\.\)\+'\)" contains=loreLead,loreLocal
@@ -57,6 +60,8 @@ highlight default link loreLocal     Special
 highlight default link loreSign      Operator
 highlight default link loreStatement Statement
 highlight default link loreReserved  Keyword
+highlight default link loreFlag      Boolean
+highlight default link loreTruth     Boolean
 highlight default link loreLogic     Keyword
 highlight default link lorePathOf    Keyword
 highlight default link loreMode      Keyword

@@ -93,7 +93,7 @@ def example_runs(folder):
 def dump_run(folder):
     """The dump among the replies of examples/backup.lore, restored and dumped again."""
     replies = (pathlib.Path(folder) / "backup.out").read_bytes()
-    dump = re.search(rb"^oem 1\n.*^end\n", replies, re.M | re.S)[0]
+    dump = re.search(rb"^oem 2\n.*^end\n", replies, re.M | re.S)[0]
     counts = re.findall(rb"^ok .*\n", replies, re.M)[-1]
     return Run("a dump restored and dumped again", b"restore\n" + dump + b";\ndump;", counts + dump, 0)
 

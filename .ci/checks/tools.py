@@ -14,7 +14,7 @@ from tally import differing
 
 WRITES = re.compile(rb"load is what `(bin/json-lore [^`]+)` writes")
 TWO_DOCUMENTS = b'{"a": [1, [2, true]]}\n[{"a b": 0.5}, []]\n'
-TWO_LOADED = b"load A := { record { a 1, a { item 2, item \"true\" } }, record { 'a b' \"0.5\" }, record {} };\n"
+TWO_LOADED = b"load A := { record { a 1, a { item 2, item true } }, record { 'a b' \"0.5\" }, record {} };\n"
 ENDS = (
     ("bin/guide-dot where no guide is", ["bin/guide-dot"], b"ok objects 1 edges 0 nodes 1\n", 1),
     ("bin/guide-dot for a wrong argument", ["bin/guide-dot", "x"], b"", 2),

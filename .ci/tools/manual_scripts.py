@@ -100,7 +100,7 @@ def split_replies(text):
     replies, now = [], []
     for line in text.splitlines():
         now.append(line)
-        if line == "end" if now[0] == "oem 1" else LAST_LINE.fullmatch(line):
+        if line == "end" if now[0] == "oem 2" else LAST_LINE.fullmatch(line):
             replies.append(now)
             now = []
     return replies + ([now] if now else [])

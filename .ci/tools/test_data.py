@@ -36,7 +36,7 @@ from lore_lib.texts import label_text, quoted, TEXT                             
 from lore_lib.tool import Fault                                                         # noqa: E402
 
 TOOLS = {"json-lore": ["A"], "csv-lore": ["A"], "lore-json": [], "lore-sql": ["--for", "sqlite3"]}
-HEAD = "oem 1\nnext {}\nnodes 4096\nplan auto\n"
+HEAD = "oem 2\nnext {}\nnodes 4096\nplan auto\n"
 
 
 def ran(tool, *words, data=b""):
@@ -65,13 +65,19 @@ def needs_lore(test):
     return unittest.skipUnless(LORE, "LORE names no program")(test)
 
 
+def shown_value(value):
+    """A value as a dump shows it."""
+    if value is None or isinstance(value, bool):
+        return {None: "{}", True: "true", False: "false"}[value]
+    return str(value) if isinstance(value, int) else quoted(value, *TEXT)
+
+
 def dump_text(dump):
     """A dump as its text."""
     lines = [f"oem {dump.version}", f"next {dump.next}", f"nodes {dump.nodes}", f"plan {dump.plan}"]
     lines += [f"label {label_text(label)}" for label in dump.labels] + [f"name {name} &{to}" for name, to in dump.names]
     for number, value in dump.objects.items():
-        shown = "{}" if value is None else str(value) if isinstance(value, int) else quoted(value, *TEXT)
-        lines.append(f"object &{number} {shown}")
+        lines.append(f"object &{number} {shown_value(value)}")
     lines += [f"edge &{parent} {label_text(label)} &{child}" for parent, label, child in dump.edges]
     return "\n".join(lines + ["end", ""])
 
@@ -79,7 +85,7 @@ def dump_text(dump):
 def random_dump(seed, size=60, labels=("a", "b", "name", "it's")):
     """A dump whose objects all are reached from G. A label stands at most once in an object, so that paths tell all."""
     draw = random.Random(seed)
-    objects = {number: None if number == 1 or draw.random() < 0.7 else draw.choice([number, "t\n\"" + str(number)])
+    objects = {number: None if number == 1 or draw.random() < 0.7 else draw.choice([number, number % 2 == 0, "t\n\"%d" % number])
                for number in range(1, size + 1)}
     parents = [number for number, value in objects.items() if value is None]
     taken = {}
@@ -92,7 +98,7 @@ def random_dump(seed, size=60, labels=("a", "b", "name", "it's")):
                 taken.setdefault((parent, label), draw.randint(1, size))
     edges = sorted(((parent, label, child) for (parent, label), child in taken.items()),
                    key=lambda edge: (edge[0], labels.index(edge[1]), edge[2]))
-    return Dump(1, size + 1, 4096, "auto", list(labels), [("G", 1)], objects, edges)
+    return Dump(2, size + 1, 4096, "auto", list(labels), [("G", 1)], objects, edges)
 
 
 def same_graph(one, other):
@@ -105,7 +111,7 @@ def same_graph(one, other):
     left = list(pairs.items())
     for here, there in left:
         mine, theirs = members[0].get(here, {}), members[1].get(there, {})
-        if one.objects[here] != other.objects[there] or mine.keys() != theirs.keys():
+        if shown_value(one.objects[here]) != shown_value(other.objects[there]) or mine.keys() != theirs.keys():
             return False
         for label, child in mine.items():
             if child not in pairs:
@@ -147,7 +153,8 @@ class Loader:
         self.locals[local] = number
         shown = self.taken()
         if shown != "{":
-            self.dump.objects[number] = self.plain(shown) if shown[0] == '"' else int(shown)
+            self.dump.objects[number] = (self.plain(shown) if shown[0] == '"' else shown == "true" if shown in ("true", "false")
+                                         else int(shown))
             return number
         assert deep <= limits.LEVELS
         self.dump.objects[number] = None
@@ -171,7 +178,7 @@ def loaded(script):
     worked_out = Loader(script).load()
     if LORE:
         said = replies(script + "dump;").decode()
-        assert said[said.index("oem 1\n"):] == worked_out, script
+        assert said[said.index("oem 2\n"):] == worked_out, script
     return worked_out
 
 
@@ -184,11 +191,26 @@ def exactly(text):
 
 class Dumps(unittest.TestCase):
     def test_all_of_a_dump(self):
-        text = HEAD.format(9) + ("label a\nlabel 'it\\'s'\nname G &1\nobject &1 {}\nobject &3 -5\nobject &8 \"a\\n\\\"b\\\\\"\n"
-                                 "edge &1 a &8\nedge &1 'it\\'s' &3\nend\n")
+        text = HEAD.format(9) + ("label a\nlabel 'it\\'s'\nname G &1\nobject &1 {}\nobject &3 -5\nobject &5 true\n"
+                                 "object &6 false\n"
+                                 "object &8 \"a\\n\\\"b\\\\\"\nedge &1 a &5\nedge &1 a &6\nedge &1 a &8\n"
+                                 "edge &1 'it\\'s' &3\nend\n")
         read = read_dump(("ok objects 1\n&1 \"oem 1\"\noem 1\n" + text + "rows 0\n").encode())
-        self.assertEqual(read, Dump(1, 9, 4096, "auto", ["a", "it's"], [("G", 1)], {1: None, 3: -5, 8: 'a\n"b\\'},
-                                    [(1, "a", 8), (1, "it's", 3)]))
+        self.assertEqual(read, Dump(2, 9, 4096, "auto", ["a", "it's"], [("G", 1)],
+                                    {1: None, 3: -5, 5: True, 6: False, 8: 'a\n"b\\'},
+                                    [(1, "a", 5), (1, "a", 6), (1, "a", 8), (1, "it's", 3)]))
+        self.assertEqual([read.objects[number] is held for number, held in ((5, True), (6, False))], [True, True])
+
+    def test_dumps_of_version_1(self):
+        """They are read where they have no flag."""
+        for text, value in (('"true"', "true"), ("5", 5), ("{}", None), ("true", Fault), ("false", Fault)):
+            dump = HEAD.format(2).replace("oem 2", "oem 1") + f"name A &1\nobject &1 {text}\nend\n"
+            if value is Fault:
+                with self.assertRaisesRegex(Fault, "^line 6: a dump of version 1 has no flags"):
+                    read_dump(dump.encode())
+                value = text == "true"
+                dump = dump.replace("oem 1", "oem 2")
+            self.assertEqual(shown_value(read_dump(dump.encode()).objects[1]), shown_value(value))
 
     def test_the_last_dump(self):
         one, two = (HEAD.format(2) + f"name {name} &1\nobject &1 5\nend\n" for name in "AB")
@@ -202,7 +224,9 @@ class Dumps(unittest.TestCase):
     def test_faults_tell_their_line(self):
         good = HEAD.format(3) + "label a\nname G &1\nobject &1 {}\nobject &2 5\nedge &1 a &2\nend\n"
         read_dump(good.encode())
-        slips = [("oem 1", "oem 2", 1), ("next 3", "next 2", 8), ("next 3", "next 0", 2), ("nodes 4096", "nodes 4097", 3),
+        slips = [("oem 2", "oem 3", 1), ("oem 2", "oem 0", 1), ("next 3", "next 2", 8), ("next 3", "next 0", 2),
+                 ("nodes 4096", "nodes 16385", 3),
+                 ("nodes 4096", "nodes 0", 3), ("object &2 5", "object &2 True", 8), ("object &2 5", "object &2 truer", 8),
                  ("auto", "best", 4), ("label a\n", "label a\nlabel a\n", 6), ("label a\n", "label a b\n", 5),
                  ("name G", "name not", 6), ("G &1", "G &1" + "0" * 5000, 10), ("&1\nobject", "&3\nobject", 10),
                  ("object &2 5", "object &1 5", 8), ("object &2 5", "object &2 05", 8),
@@ -233,7 +257,7 @@ class Literals(unittest.TestCase):
         def chain(length, *more):
             objects = {number: None for number in range(1, length + 1)}
             edges = sorted([(number, "a", number + 1) for number in range(1, length)] + list(more))
-            return Dump(1, length + 1, 4096, "auto", ["a", "b"], [("G", 1)], objects, edges)
+            return Dump(2, length + 1, 4096, "auto", ["a", "b"], [("G", 1)], objects, edges)
         self.assertEqual(literal(chain(64), 1).count("{"), 64)
         with self.assertRaisesRegex(Fault, "more than 64 levels"):
             literal(chain(65), 1)
@@ -261,8 +285,28 @@ class JsonIn(unittest.TestCase):
 
     def test_what_became_text_is_told(self):
         run = ran("json-lore", "A", data='[1, -0, "true", 1.5, 99999999999999999999, true, false, null]')
-        self.assertEqual(run.stderr, b"json-lore: became texts: 2 decimal or large numbers, 2 booleans, 1 null\n")
+        self.assertEqual(run.stderr, b"json-lore: became texts: 2 decimal or large numbers, 1 null\n")
+        self.assertEqual(run.stdout.split(b"record ")[3:], [
+            b'"true",\n  ', b'"1.5",\n  ', b'"99999999999999999999",\n  ', b"true,\n  ", b"false,\n  ", b'"null"\n};\n'])
         self.assertEqual(ran("json-lore", "A", data='{"a": [1, "null"]}').stderr, b"")
+
+    def test_more_paths_than_a_new_database_takes(self):
+        def wide(outer, inner):
+            return json.dumps({f"a{i}": {f"b{j}": 1 for j in range(inner)} for i in range(outer)})
+        for outer, inner, told in ((1, 4094, b""), (64, 63, b"4097 paths of labels"), (70, 70, b"4971 paths of labels"),
+                                   (127, 128, b"16384 paths of labels")):
+            run = ran("json-lore", "A", data=wide(outer, inner))
+            self.assertEqual((run.returncode, told in run.stderr, bool(run.stderr)), (0, True, bool(told)), outer)
+            if told:
+                self.assertIn(b"`set nodes %d;`" % (1 + outer + outer * inner), run.stderr)
+        for outer, inner, told in ((128, 128, b"16384 paths"), (1, 4096, b"4096 different labels")):
+            run = ran("json-lore", "A", data=wide(outer, inner))
+            self.assertEqual((run.returncode, run.stdout, told in run.stderr), (1, b"", True), outer)
+
+    def test_flags_are_no_ids(self):
+        run = ran("json-lore", "A", "--id", "id", "--ref", "to", data='[{"id": true}, {"id": 1}, {"to": true}, {"to": [1, "true"]}]')
+        self.assertEqual(run.stdout, b'load A := { record { id true }, record &1 { id 1 }, record { to true }, '
+                                     b'record { to &1, to "true" } };\n')
 
     def test_empty_key(self):
         self.assertEqual(output("json-lore", "A", "--empty-key", "no key", data='{"": 1}'), "load A := { 'no key' 1 };\n")
@@ -383,7 +427,7 @@ class Back(unittest.TestCase):
             self.assertEqual(json.loads(output("lore-json", "--arrays", "--name", "A", data=dump)), [{"id": 1, "to": to}, second])
 
     def test_marks_that_json_lore_never_makes(self):
-        for held in ('_boolean "yes"', "_boolean 1", '_number "1.5x"', '_number "01"', '_number "1", a 2', "_array 1, b 2",
+        for held in ("_number true", "_null true, b 1", '_number "1.5x"', '_number "01"', '_number "1", a 2', "_array 1, b 2",
                      '_parts 1, part 2', "_at 0, _value 1, _value 2", "x &1 { _at 0, _value &1 }", '_null 1, b 1',
                      "_at 0, _array 0", "_at 0, _value 1, b 1", "_value 1"):
             run = ran("lore-json", "--arrays", data=Loader(f"load A := {{ {held} }};").load())
@@ -403,11 +447,11 @@ class Back(unittest.TestCase):
                          {"G": {"$id": 1, "next": {"next": {"$ref": 1}, "v": 5}}})
 
     def test_depth_and_doubling(self):
-        deep = Dump(1, 20001, 4096, "auto", ["a"], [("G", 1)], {number: None for number in range(1, 20001)},
+        deep = Dump(2, 20001, 4096, "auto", ["a"], [("G", 1)], {number: None for number in range(1, 20001)},
                     [(number, "a", number + 1) for number in range(1, 20000)])
         self.assertEqual(output("lore-json", "--name", "G", data=dump_text(deep)), '{"a": ' * 19999 + "{}" + "}" * 19999 + "\n")
         edges = [(number, label, number + 1) for number in range(1, 60) for label in "ab"]
-        wide = dump_text(Dump(1, 61, 4096, "auto", ["a", "b"], [("G", 1)], dict.fromkeys(range(1, 61)), edges))
+        wide = dump_text(Dump(2, 61, 4096, "auto", ["a", "b"], [("G", 1)], dict.fromkeys(range(1, 61)), edges))
         run = ran("lore-json", data=wide)
         self.assertEqual((run.returncode, run.stdout), (1, b""))
         self.assertIn(b"--shared ref", run.stderr)
@@ -489,12 +533,14 @@ class Sql(unittest.TestCase):
 
     def test_tables(self):
         texts = ["it's", "a\\b", "\r\n\t", "\0\x01\x7f", "ä😀", "", "x" * 4096, "null"]
-        values = dict(enumerate([None, *texts, limits.WHOLE_LEAST, limits.WHOLE_MOST, 0], 1))
-        dump = Dump(1, 99, 4096, "auto", ["b", "it's\n"], [("G", 1)], values, [(1, "it's\n", number) for number in values])
+        values = dict(enumerate([None, *texts, limits.WHOLE_LEAST, limits.WHOLE_MOST, 0, True, False], 1))
+        dump = Dump(2, 99, 4096, "auto", ["b", "it's\n"], [("G", 1)], values, [(1, "it's\n", number) for number in values])
         database = self.database(dump)
         self.assertEqual(database.execute("select number, kind, whole, text from objects order by number").fetchall(), [
-            (number, "complex", None, None) if value is None else (number, "number", value, None) if isinstance(value, int)
-            else (number, "text", None, value) for number, value in values.items()])
+            (number, "complex", None, None) if value is None
+            else (number, "flag", None, shown_value(value)) if isinstance(value, bool)
+            else (number, "number", value, None) if isinstance(value, int) else (number, "text", None, value)
+            for number, value in values.items()])
         self.assertEqual(database.execute("select * from labels order by number").fetchall(), [(1, "b"), (2, "it's\n")])
         self.assertEqual(database.execute("select * from edges order by child").fetchall(), dump.edges)
         self.assertEqual(database.execute("select * from names").fetchall(), [("G", 1)])
@@ -530,7 +576,7 @@ class Sql(unittest.TestCase):
 
     def test_postgresql(self):
         values = {1: None, 2: "a\\'\n", 3: "it's \\ :x", 4: 5}
-        dump = Dump(1, 9, 4096, "auto", ["a"], [("G", 1)], values, [(1, "a", number) for number in (2, 3, 4)])
+        dump = Dump(2, 9, 4096, "auto", ["a"], [("G", 1)], values, [(1, "a", number) for number in (2, 3, 4)])
         text = output("lore-sql", "--for", "postgresql", data=dump_text(dump))
         self.assertIn("(2, 'text', null, E'a\\\\''\\x0a'),\n(3, 'text', null, 'it''s \\ :x'),\n(4, 'number', 5, null);", text)
         dump.objects[2] = "\0"
@@ -553,7 +599,7 @@ class Manners(unittest.TestCase):
         draw = random.Random(7)
         good = dump_text(random_dump(3)).encode()
         inputs = [b"", b"\xff", b"[" * 100000, b'{"a":' * 100000, b'"\\ud800"', b"1" * 5000, b'"' + b"x" * 200000, b"NaN",
-                  b"oem 1\nnext 99999999999999999999999999\n", b"rows 99999999999999999999999\n", good[:-1]]
+                  b"oem 2\nnext 99999999999999999999999999\n", b"rows 99999999999999999999999\n", good[:-1]]
         for _ in range(3):
             spoilt = bytearray(good)
             spoilt[draw.randrange(len(good))] = draw.randrange(256)
@@ -584,7 +630,7 @@ class Manners(unittest.TestCase):
 
     def test_closed_pipe_and_full_disk(self):
         table = b"a,b\n" + b"1,xxxxxxxxxx\n" * 9000
-        large = dump_text(Dump(1, 9001, 4096, "auto", ["a"], [("G", 1)], {1: None} | {at: at for at in range(2, 9001)},
+        large = dump_text(Dump(2, 9001, 4096, "auto", ["a"], [("G", 1)], {1: None} | {at: at for at in range(2, 9001)},
                                [(1, "a", at) for at in range(2, 9001)])).encode()
         for tool, words in TOOLS.items():
             data = large if tool.startswith("lore") else table if tool == "csv-lore" else b'"%s"\n' % (b"x" * 4000) * 50

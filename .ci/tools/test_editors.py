@@ -27,13 +27,16 @@ TOKEN = re.compile(r"""
 STATEMENT_WORDS = ("load name unname update select explain guide browse sample set dump restore generate"
                    " nodes plan auto top bottom").split()
 RESERVED = "select from where and or not exists for all in like true false".split()
+FLAGS = ("true", "false")
 # The scopes of VS Code and the groups of vim of each kind of token.
 SCOPES = {"comment": {"comment.line.double-dash.lore"}, "text": {"string.quoted.double.lore"}, "label": {"entity.name.tag.lore"},
-          "number": {"constant.numeric.lore"}, "local": {"variable.language.lore"}, "name": {"variable.other.lore"},
+          "number": {"constant.numeric.lore"}, "local": {"variable.language.lore"}, "flag": {"constant.language.lore"},
+          "name": {"variable.other.lore"},
           "keyword": {"keyword.control.lore", "keyword.other.lore", "keyword.operator.word.lore", "support.function.lore"},
           "sign": {"keyword.operator.lore", "punctuation.section.braces.lore", "punctuation.separator.lore",
                    "punctuation.terminator.lore"}, "stray": {"invalid.illegal.lore"}}
 GROUPS = {"comment": {"loreComment"}, "text": {"loreText"}, "number": {"loreNumber"}, "local": {"loreLocal"},
+          "flag": {"loreFlag", "loreTruth"},
           "label": {"loreLabel", "loreMember", "loreQuoted", "loreHeld", "loreEdge"}, "name": {"loreWord", "loreNamed"},
           "keyword": {"loreStatement", "loreReserved", "loreLogic", "lorePathOf", "loreMode", "loreDump", "loreLead"},
           "stray": {"loreStray"}}
@@ -45,10 +48,13 @@ update A . 'not ; the "end' += 3--2;
 ;-- more in between
 select path-of ( P ) , A . from, A.%a_%(.or|.'it\'s'*)? from A.#@P X where X.like like "a%" -- and a comment
   and not X.in<=-3 or for all Y in X.%: (Y==X);
+update A.true := false; load A := { true true, false &9 false, 'true' true, x
+  true, false { true 1, a&3 true }, truer 1, b &4
+  false }; select A.false where true != A.true and A.x = false;
 update A.x-=B.y; set -- how many
   nodes 7; set plan bottom;
-restore oem 1 next 3 nodes 7 plan top label 'a b' label select name Menu &1 -- a name
-object &1 {} object &2 "x -- y" edge &1 'a b' &2 edge &1 select &2 end;
+restore oem 2 next 4 nodes 7 plan top label 'a b' label select label true name Menu &1 -- a name
+object &1 {} object &2 "x -- y" object &3 true edge &1 'a b' &2 edge &1 select &2 edge &1 true &3 end;
 """
 
 
@@ -62,6 +68,8 @@ class Token:
 
 def kind_of_word(word, before, first, depth):
     """The kind of a word by what stands before it, the first word of its statement, and how many braces are open."""
+    if depth and word in FLAGS and before[-1] not in "{,":
+        return "flag"
     if depth or before[-1:] == ["."]:
         return "label"
     if first in (None, "set"):
@@ -69,8 +77,8 @@ def kind_of_word(word, before, first, depth):
     if first == "restore":
         if before[-1:] == ["label"] or before[-2:-1] == ["edge"]:
             return "label"
-        return "name" if before[-1:] == ["name"] else "keyword"
-    return "keyword" if word in RESERVED else "name"
+        return "name" if before[-1:] == ["name"] else "flag" if word in FLAGS else "keyword"
+    return "flag" if word in FLAGS else "keyword" if word in RESERVED else "name"
 
 
 def tokens(script):

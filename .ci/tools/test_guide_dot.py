@@ -12,7 +12,7 @@ TOP = os.path.join(os.path.dirname(os.path.abspath(__file__)), "..", "..")
 TOOL = os.path.join(TOP, "bin", "guide-dot")
 OK = b"ok objects 2 edges 1 nodes 2\n"
 GUIDE = b"X 1\nX.a 1\nnodes 2\n"
-DUMP = b"oem 1\nnext 3\nnodes %d\nplan auto\nlabel a\nname X &1\nobject &1 {}\nobject &2 1\nedge &1 a &2\nend\n"
+DUMP = b"oem 2\nnext 3\nnodes %d\nplan auto\nlabel a\nname X &1\nobject &1 {}\nobject &2 1\nedge &1 a &2\nend\n"
 BOX = b'0 [shape = box, label = "X"];'
 
 
@@ -29,7 +29,7 @@ class Guides(unittest.TestCase):
     def test_a_dump_behind_the_guide(self):
         alone = drawn(GUIDE)
         self.assertEqual((alone.returncode, alone.stdout.count(BOX), alone.stdout.count(b"->")), (0, 1, 1))
-        for nodes, plan in ((1, b"auto"), (2, b"top"), (3, b"bottom"), (4096, b"guide")):
+        for nodes, plan in ((1, b"auto"), (2, b"top"), (3, b"bottom"), (16384, b"guide")):
             dump = (DUMP % nodes).replace(b"auto", plan)
             for replies in (OK + GUIDE + dump, dump + GUIDE + dump + OK, GUIDE + dump[6:]):
                 self.assertEqual(drawn(replies).stdout, alone.stdout, replies)

@@ -343,7 +343,7 @@ class Files(Folder):
         self.assertEqual(done.returncode, 0)
         done = self.talk(b".open shop.oem\nselect Shop.bike.price;\ndump;\n")
         self.assertEqual(done.stdout.split(b"\n")[1:4], [b"&4 950", b'&7 "1200"', b"rows 2"])
-        self.assertEqual(b"oem 1" + done.stdout.split(b"oem 1")[1], self.read("shop.oem"))
+        self.assertEqual(b"oem 2" + done.stdout.split(b"oem 2")[1], self.read("shop.oem"))
         self.assertEqual(os.listdir(self.folder), ["shop.oem"])
 
     def test_changes_of_another_session_stay(self):

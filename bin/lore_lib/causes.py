@@ -72,8 +72,6 @@ OTHERS = {
     "join": "two ranges in `from` and a condition that ties them are a join",
     "is": "`exists X in PATH : X == X` holds where something is there, `not exists ..` where nothing is",
     "null": "there are no nulls: leave the member out; `not exists X in PATH : X == X` asks for what lacks it",
-    "true": "there are no truth values: the text \"true\" can be kept and compared",
-    "false": "there are no truth values: the text \"false\" can be kept and compared",
     "between": "`X.price >= 1 and X.price <= 2` says between",
     "in": "one of several values is `X.a = 1 or X.a = 2`",
 }
@@ -235,8 +233,8 @@ UPDATING = (
     (lambda at: at.first == b"update" and at.last.text == b":=" and at.token.kind == "quoted label",
      "a text stands in double quotes; single quotes are for labels"),
     (lambda at: at.first == b"update" and at.last.text == b":=",
-     "the value is a constant, a number, a text or {}: nothing is computed or copied; an edge to an object that is there is "
-     "made by `+=`"),
+     "the value is a constant, a number, a text, a flag or {}: nothing is computed or copied; an edge to an object that is "
+     "there is made by `+=`"),
     (lambda at: at.first == b"update" and at.last.text == b"{" and at.before.text == b":=",
      "`:=` gives {} alone; members go in by `+=`, each under its label: `update PATH.LABEL += ..`"),
     (lambda at: at.first == b"update" and at.last.text == b"-=", "what is taken away is told by a path"),

@@ -20,16 +20,19 @@ NAME = re.compile(rf"name ({IDENTIFIER_FORM}) &([1-9][0-9]*)")
 OBJECT = re.compile(f"object {OBJECT_FORM}")
 EDGE = re.compile(rf"edge &([1-9][0-9]*) ({LABEL_FORM}) &([1-9][0-9]*)")
 LINES = 5 + limits.LABELS + limits.NAMES + limits.OBJECTS + limits.EDGES
+OLDEST_VERSION = 1
+FLAGS_SINCE = 2
 SHORT_TEXT = limits.TEXT_BYTES // 4
 
 
 @dataclass
 class Dump:
-    """A database. An object's value is a number, a text, or None where it is complex. Labels stand in the order in which
+    """A database. An object's value is a number, a text, a flag, which is True or False, or None where
+    it is complex. Labels stand in the order in which
     they came, and edges, which are (parent, label, child), in that of parents, labels and children."""
     version: int = limits.DUMP_VERSION
     next: int = 1
-    nodes: int = limits.NODES
+    nodes: int = limits.START_NODES
     plan: str = "auto"
     labels: list = field(default_factory=list)
     names: list = field(default_factory=list)
@@ -38,7 +41,8 @@ class Dump:
 
 
 class Reader:
-    """The lines of a dump, one after another. `first` is the number of the first line in the whole of the replies."""
+    """The lines of a dump of either version, one after another. `first` is the number of the first line in the whole of the
+    replies."""
 
     def __init__(self, lines, first):
         self.lines = lines
@@ -103,15 +107,19 @@ class Reader:
             if not last < number < dump.next:
                 raise self.fault("numbers of objects don't ascend, or one isn't below the next")
             last = number
-            dump.objects[number] = self.value(found)
+            dump.objects[number] = self.value(found, dump.version)
 
-    def value(self, found):
+    def value(self, found, version):
         """The value of an object's line."""
         if found.group(2):
             whole = int(found.group(2)[:21])
             if not limits.WHOLE_LEAST <= whole <= limits.WHOLE_MOST or str(whole) != found.group(2):
                 raise self.fault("this is no number of 64 bits with a sign as a dump writes it")
             return whole
+        if found.group(4):
+            if version < FLAGS_SINCE:
+                raise self.fault(f"a dump of version {version} has no flags")
+            return found.group(4) == "true"
         if not found.group(3):
             return None
         text = unquoted(found.group(3))
@@ -136,7 +144,7 @@ class Reader:
     def dump(self):
         """The whole dump, down to its `end`."""
         dump = Dump()
-        dump.version = self.number(VERSION, "oem VERSION", limits.DUMP_VERSION, limits.DUMP_VERSION)
+        dump.version = self.number(VERSION, "oem VERSION", OLDEST_VERSION, limits.DUMP_VERSION)
         dump.next = self.number(NEXT, "next NUMBER", 1, limits.NEXT_MOST)
         dump.nodes = self.number(NODES, "nodes LIMIT", 1, limits.NODES)
         dump.plan = self.one(PLAN, "plan MODE")

@@ -21,7 +21,7 @@ lpath = name { "." label }
 
 literal = local | [ local ] atom | [ local ] "{" [ member { "," member } ] "}"
 member  = label literal
-atom    = number | text
+atom    = number | text | "true" | "false"
 
 statement = "load" name ":=" literal
           | "name" name ":=" path

@@ -20,7 +20,7 @@ STATEMENTS = {
     "explain": ("explain select ..", "how the rows of a select are found", "explain select Guide.restaurant;"),
     "dump": ("dump", "the whole database as text", "dump;"),
     "restore": ("restore DUMPTEXT", "makes the database of a dump, in a new one alone",
-                "restore oem 1 next 1 nodes 4096 plan auto end;"),
+                "restore oem 2 next 1 nodes 4096 plan auto end;"),
     "generate": ("generate SEED PERSONS", "makes a large database to try things on", "generate 7 1000;"),
 }
 COMMANDS = {

@@ -15,14 +15,19 @@ ID, REF, VALUES = "$id", "$ref", "$values"
 
 
 class Bare(str):
-    """What stands in JSON without quotes: true, false, null, or a number by its spelling."""
+    """What stands in JSON without quotes: null, or a number by its spelling."""
 
 
 def atom_json(value):
     """An atom in JSON."""
-    if isinstance(value, (int, Bare)):
+    if isinstance(value, Bare) or isinstance(value, int) and not isinstance(value, bool):
         return str(value)
     return json.dumps(value, ensure_ascii=False)
+
+
+def plain_text(value):
+    """An atom without quotes."""
+    return limits.FLAGS[value] if isinstance(value, bool) else str(value)
 
 
 class View:
@@ -86,7 +91,7 @@ class View:
         if mark == kept.NULL and len(grouped) == 1:
             return "atom", Bare("null")
         text = self.one_text(number, mark, grouped)
-        if mark == kept.BOOLEAN and text in ("true", "false") or mark == kept.NUMBER and NUMBER.fullmatch(text):
+        if mark == kept.NUMBER and NUMBER.fullmatch(text):
             return "atom", Bare(text)
         raise Fault(1, f"&{number} has the mark {mark}, but isn't made as json-lore --arrays makes it")
 
@@ -122,7 +127,7 @@ class View:
         """The position that an element tells, None for none."""
         held = [child for label, child in self.members.get(element, ()) if label == kept.AT]
         value = self.values[held[0]] if len(held) == 1 else None
-        return value if isinstance(value, int) else None
+        return value if isinstance(value, int) and not isinstance(value, bool) else None
 
     def records(self, number):
         """The members of an object, or the elements of an array, as (label, child)."""
@@ -264,6 +269,6 @@ def record_table(view, writer, records):
         for key, inner in held if kind == "object" else [("value", child)]:
             _, inner_kind, value = view.of(inner)
             columns.setdefault(key)
-            row[key] = str(value) if inner_kind == "atom" else writer.text(inner)
+            row[key] = plain_text(value) if inner_kind == "atom" else writer.text(inner)
         rows.append(row)
     return table([[row.get(column, "") for column in columns] for row in rows], list(columns))

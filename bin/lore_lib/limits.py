@@ -1,10 +1,12 @@
 """The limits of the language, each in one place: tools name them in messages and help."""
 
-OBJECTS = 65536
-NODES = 4096
+OBJECTS = 262144
+NODES = 16384
+START_NODES = 4096
+CELLS = 16777216
 LABELS = 4096
 NAMES = 1024
-EDGES = 262144
+EDGES = 1048576
 ROWS = 100000
 TEXT_BYTES = 4096
 LABEL_BYTES = 255
@@ -13,7 +15,7 @@ STATEMENT_BYTES = 67108864
 WHOLE_LEAST = -2 ** 63
 WHOLE_MOST = 2 ** 63 - 1
 NEXT_MOST = 2 ** 32
-DUMP_VERSION = 1
+DUMP_VERSION = 2
 PLANS = ("auto", "top", "bottom", "guide")
 RANGES = 8
 ITEMS = 8
@@ -26,6 +28,7 @@ SEEDS = 2147483647
 PERSONS_LEAST = 20
 PERSONS_MOST = 10000
 SCRIPT_BYTES = 1073741824
+FLAGS = ("false", "true")
 RESERVED = frozenset("select from where and or not exists for all in like true false".split())
 
 # Bounds of the tools themselves: what they read in all, of data and of replies, and what they write.

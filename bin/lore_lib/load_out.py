@@ -72,6 +72,7 @@ class Writer:
         self.place = []
         self.objects = 0
         self.nodes = {}
+        self.labels = set()
         self.trees = not self.references.used and options.into is None
         self.became = Counter()
         self.notes = []
@@ -80,12 +81,20 @@ class Writer:
         """A label and its literal, None where the value is left out. The node is that of the object whose member this is."""
         self.place.append(step)
         label_shown = label_text(self.label(label))
-        child = self.nodes.setdefault((node, label), len(self.nodes) + 1) if self.trees else 0
-        if child == limits.NODES:
-            raise Fault(1, f"there are more than {limits.NODES} paths of labels")
+        child = self.node_of(node, label) if self.trees else 0
         shown = self.literal(value, child, level)
         self.place.pop()
         return None if shown is None else f"{label_shown} {shown}"
+
+    def node_of(self, node, label):
+        """The node to which a label leads from a node, 0 being that of the name."""
+        child = self.nodes.setdefault((node, label), len(self.nodes) + 1)
+        if child == limits.NODES:
+            raise Fault(1, f"there are more than {limits.NODES} paths of labels")
+        self.labels.add(label)
+        if len(self.labels) > limits.LABELS:
+            raise Fault(1, f"there are more than {limits.LABELS} different labels")
+        return child
 
     def label(self, key):
         """The label of a key, which is the key save where it is empty."""
@@ -115,10 +124,10 @@ class Writer:
         return shown if local is None else f"&{local} {shown}"
 
     def atom(self, value):
-        """A number or a text; what was neither becomes a text."""
-        if isinstance(value, bool) or value is None:
-            self.became["null" if value is None else "boolean"] += 1
-            value = json.dumps(value)
+        """A number, a text or a flag; what was none of these becomes a text."""
+        if value is None:
+            self.became["null"] += 1
+            value = "null"
         elif isinstance(value, Spelled):
             self.became["number"] += 1
         return atom_text(value)
@@ -168,8 +177,6 @@ class Writer:
             return self.kept_array(value)
         if isinstance(value, Element):
             return self.kept_element(value)
-        if isinstance(value, bool):
-            return [("", kept.BOOLEAN, json.dumps(value))]
         if value is None:
             return [("", kept.NULL, "null")]
         return [("", kept.NUMBER, str(value))] if isinstance(value, Spelled) else None
@@ -241,12 +248,15 @@ class Writer:
 
     def told(self):
         """What is told on standard error."""
-        kinds = [("decimal or large number", "number"), ("boolean", "boolean"), ("null", "null")]
+        kinds = [("decimal or large number", "number"), ("null", "null")]
         became = [f"{self.became[kind]} {words}{'s' * (self.became[kind] > 1)}" for words, kind in kinds if self.became[kind]]
         if became:
             yield "became texts: " + ", ".join(became)
         if self.became["twice"]:
             yield f"keys that stand twice in one object, and come back as an array: {self.became['twice']}"
+        if len(self.nodes) >= limits.START_NODES:
+            yield (f"{len(self.nodes) + 1} paths of labels, more than a new database takes: "
+                   f"`set nodes {len(self.nodes) + 1};` has to stand before the load")
         yield from self.notes
         yield from self.references.notes()
 

@@ -6,7 +6,7 @@ from lore_lib import limits
 BAD_TOKEN, REAL_REFUSED, NUMBER_RANGE, TEXT_TOO_LONG, SYNTAX, UNFINISHED = range(1, 7)
 UNKNOWN_NAME, UNKNOWN_VARIABLE, DUPLICATE_VARIABLE, TOO_MANY_RANGES, DUPLICATE_LOCAL, UNDEFINED_LOCAL = range(7, 13)
 TOO_MANY_ROWS, NOT_ONE, ATOMIC_PARENT, HAS_CHILDREN, OIDS_SPENT, TOO_MANY_LABELS, TOO_MANY_NAMES = range(13, 20)
-TOO_MANY_OBJECTS, TOO_MANY_EDGES, GUIDE_NODES, LIMIT_RANGE, NOT_FRESH, BAD_RESTORE = range(20, 26)
+TOO_MANY_OBJECTS, TOO_MANY_EDGES, GUIDE_NODES, LIMIT_RANGE, NOT_FRESH, BAD_RESTORE, GUIDE_CELLS = range(20, 27)
 
 
 @dataclass(frozen=True)
@@ -35,7 +35,7 @@ ALL = [Refusal(*row) for row in (
      f"a text has more than {counted(limits.TEXT_BYTES)} bytes, or a label more than {limits.LABEL_BYTES}",
      "a long note, or a quote that is closed far behind the place where it was meant to be"),
     (SYNTAX, "Syntax", "these words are no statement",
-     "a colon behind a label; a comma behind the last member; a text in single quotes; `true` or `null` as a value; "
+     "a colon behind a label; a comma behind the last member; a text in single quotes; `null` as a value; "
      "capitals, as in `SELECT`; a word that is no statement, as `delete`; a comment that begins with `#`; a `;` that "
      "is missing or stands twice"),
     (UNFINISHED, "Unfinished", "the script ends inside a statement",
@@ -58,9 +58,9 @@ ALL = [Refusal(*row) for row in (
      f"{counted(limits.WORD_LABELS)} labels", "two ranges that nothing ties together, so that all pairs are rows"),
     (NOT_ONE, "NotOne", "the path of a name has to reach one object, and reaches none or several",
      "a label that stands several times, or is spelled otherwise"),
-    (ATOMIC_PARENT, "AtomicParent", "an edge would leave an object that is a number or a text",
+    (ATOMIC_PARENT, "AtomicParent", "an edge would leave an object that is a number, a text or a flag",
      "one label too many before `+=`: the last one is that of the new edge"),
-    (HAS_CHILDREN, "HasChildren", "a number or text would be given to an object that has members",
+    (HAS_CHILDREN, "HasChildren", "a number, text or flag would be given to an object that has members",
      "one label too few before `:=`: the path reaches the record and not its part"),
     (OIDS_SPENT, "OidsSpent", f"the number of a new object would pass {counted(limits.OIDS)}",
      "a very old database, or one that was restored with a very large next number"),
@@ -69,8 +69,8 @@ ALL = [Refusal(*row) for row in (
     (TOO_MANY_NAMES, "TooManyNames", f"there would be more than {counted(limits.NAMES)} names",
      "a name for each record, where one name could lead to all of them"),
     (TOO_MANY_OBJECTS, "TooManyObjects",
-     f"there would be more than {counted(limits.OBJECTS)} objects; each number and text is one",
-     "a large file: each number and text is an object, so a row of 7 columns is 8 of them"),
+     f"there would be more than {counted(limits.OBJECTS)} objects; each number, text and flag is one",
+     "a large file: each value is an object, so a row of 7 columns is 8 of them"),
     (TOO_MANY_EDGES, "TooManyEdges", f"there would be more than {counted(limits.EDGES)} edges",
      "all pairs of two ranges linked"),
     (GUIDE_NODES, "GuideNodes",
@@ -82,6 +82,9 @@ ALL = [Refusal(*row) for row in (
      "a statement before `restore` in the same run"),
     (BAD_RESTORE, "BadRestore", "the text is the dump of no database",
      "a line of the dump that was changed, lost or doubled by hand"),
+    (GUIDE_CELLS, "GuideCells",
+     f"the sets of objects that label paths reach would have more than {counted(limits.CELLS)} members together",
+     "many shared parts, or long chains, of which each step is a set of all that lies behind it"),
 )]
 BY_NUMBER = {refusal.number: refusal for refusal in ALL}
 BY_NAME = {refusal.name.lower(): refusal for refusal in ALL}

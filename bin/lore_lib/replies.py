@@ -18,7 +18,7 @@ LAST = re.compile("rows (0|[1-9][0-9]*)")
 
 @dataclass(frozen=True)
 class Cell:
-    """An object: its number, and its value, which is a number, a text, or None where it is complex."""
+    """An object: its number, and its value, which is a number, a text, a flag, or None where it is complex."""
     number: int
     value: object
 
@@ -39,9 +39,11 @@ class Word:
 
 def cell_of(found):
     """The cell that was found."""
-    number, whole, text, path = found.groups()
+    number, whole, text, flag, path = found.groups()
     if path:
         return Word(tuple(label_of(step.group(1)) for step in STEP.finditer(path)))
+    if flag:
+        return Cell(int(number[:20]), flag == "true")
     if whole:
         return Cell(int(number[:20]), int(whole[:21]))
     return Cell(int(number[:20]), unquoted(text) if text else None)

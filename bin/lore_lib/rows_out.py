@@ -2,6 +2,7 @@
 import json
 from collections import Counter
 
+from lore_lib import limits
 from lore_lib.json_out import table as csv_table
 from lore_lib.places import columns, visible
 from lore_lib.replies import Word
@@ -38,7 +39,14 @@ def distinct(names):
 def spelled(cell):
     """A cell as a text without quotes."""
     value = cell.plain()
+    if isinstance(value, bool):
+        return limits.FLAGS[value]
     return "{}" if value == {} else str(value)
+
+
+def is_number(value):
+    """Whether a value is a whole number."""
+    return isinstance(value, int) and not isinstance(value, bool)
 
 
 def literal(cell):
@@ -63,7 +71,7 @@ def as_csv(names, rows):
 def as_table(names, rows):
     """Columns side by side; numbers stand to the right, and what can't be seen is written by its number."""
     cells = [[visible(spelled(cell)) for cell in row] for row in rows]
-    right = [all(isinstance(row[place].plain(), int) for row in rows) for place in range(len(names))]
+    right = [all(is_number(row[place].plain()) for row in rows) for place in range(len(names))]
     widths = [max(map(columns, [name] + [row[place] for row in cells])) for place, name in enumerate(names)]
 
     def line(words):

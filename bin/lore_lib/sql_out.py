@@ -1,6 +1,7 @@
 """Writes a dump as SQL, for sqlite3 and PostgreSQL."""
 import re
 
+from lore_lib import limits
 from lore_lib.tool import Fault
 
 CONTROL = re.compile("[\0-\x1f\x7f]")
@@ -8,10 +9,10 @@ BATCH = 500
 
 TABLES = """create table objects (
   number bigint primary key,
-  kind text not null check (kind in ('complex', 'number', 'text')),
+  kind text not null check (kind in ('complex', 'number', 'text', 'flag')),
   whole bigint,
   text text,
-  check ((kind = 'number') = (whole is not null) and (kind = 'text') = (text is not null))
+  check ((kind = 'number') = (whole is not null) and (kind in ('text', 'flag')) = (text is not null))
 );
 create table labels (
   number integer primary key,
@@ -67,8 +68,11 @@ def inserted(table, rows):
 
 
 def object_row(number, value, text_of):
+    """The row of an object; a flag is the text of its word, of a kind of its own."""
     if value is None:
         return f"{number}, 'complex', null, null"
+    if isinstance(value, bool):
+        return f"{number}, 'flag', null, '{limits.FLAGS[value]}'"
     if isinstance(value, int):
         return f"{number}, 'number', {value}, null"
     return f"{number}, 'text', null, {text_of(value, f'the object &{number}')}"

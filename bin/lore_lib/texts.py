@@ -16,8 +16,8 @@ LABEL_FORM = IDENTIFIER_FORM + r"|'(?:[^'\\\n\r\t]|\\['\\nrt])+'"
 TEXT_FORM = r'"(?:[^"\\\n\r\t]|\\["\\nrt])*"'
 STEP = re.compile(rf"\.({LABEL_FORM})")
 
-# An object with its value, in rows and in dumps: the groups are its number, a number and a text.
-OBJECT_FORM = rf"&([1-9][0-9]*) (?:(-?[0-9]+)|({TEXT_FORM})|\{{\}})"
+# An object with its value, in rows and in dumps: the groups are its number, a number, a text and a flag.
+OBJECT_FORM = rf"&([1-9][0-9]*) (?:(-?[0-9]+)|({TEXT_FORM})|(true|false)|\{{\}})"
 
 
 def size_of(text):
@@ -51,7 +51,9 @@ def label_text(label):
 
 
 def atom_text(value):
-    """A number or a text as it is written."""
+    """A number, a text or a flag as it is written."""
+    if isinstance(value, bool):
+        return limits.FLAGS[value]
     return str(value) if isinstance(value, int) else quoted(value, *TEXT)
 
 

@@ -1,5 +1,5 @@
 """Values on their way into a load. An object is a tuple of pairs, which keeps a key that stands twice; an array is a list;
-a text, a whole number, a boolean and None are themselves. Beside these there are the classes below."""
+a text, a whole number, a flag, which is True or False, and None are themselves. Beside these there are the classes below."""
 from dataclasses import dataclass
 
 

@@ -3,12 +3,12 @@ use Rattle.std.proofs.Common.{◌≡◌, ℕ, zero, suc, ◌+◌, ◌<◌, ◌�
 use Rattle.std.proofs.lemmas.List.{get_or-map, length-map}
 use Rattle.std.proofs.lemmas.List.Sums.{get_or-le-sum_by}
 use Rattle.lore_base.specs.Paths.{path_tree, leaves}
-use Rattle.lorel_bind.specs.declared.bound.Start.{Start}
-use Rattle.lorel_bind.specs.declared.bound.Start.TheVariants as starts
-use Rattle.lorel_bind.specs.declared.bound.Range.{Range}
-use Rattle.lorel_bind.specs.declared.bound.Bound.{Bound}
-use Rattle.lorel_bind.specs.Bound.{RangeTree, range_tree, bound_tree}
-use Rattle.lorel_bind.specs.Bindings.{IsWithin, IsCellWithin, AreInOrder, IsRunnable}
+use Rattle.lorel_bound.specs.declared.bound.Start.{Start}
+use Rattle.lorel_bound.specs.declared.bound.Start.TheVariants as starts
+use Rattle.lorel_bound.specs.declared.bound.Range.{Range}
+use Rattle.lorel_bound.specs.declared.bound.Bound.{Bound}
+use Rattle.lorel_bound.specs.Bound.{RangeTree, range_tree, bound_tree}
+use Rattle.lorel_bound.specs.Runnable.{IsWithin, IsCellWithin, AreInOrder, IsRunnable}
 use Rattle.path_expr.specs.Types.{LEAVES}
 use Rattle.answers.specs.Types.{CellOf, RANGES}
 

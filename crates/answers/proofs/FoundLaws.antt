@@ -8,12 +8,11 @@ use Rattle.std.proofs.lemmas.Bool.{cases_lt}
 use Rattle.std.proofs.lemmas.List.Elements.{All-contains_itself, All-weaker, Contains-append_left, Contains-push, Contains-push_cases}
 use Rattle.std.proofs.lemmas.List.Quantifiers.{all_pairs_push}
 use Rattle.std.proofs.lemmas.Option.{get_or_from_slice_get, slice_get_within}
-use Rattle.lorel_bind.specs.CellOrder.{same_cell, tied_rows}
+use Rattle.lorel_bound.specs.CellOrder.{same_cell, tied_rows, row_cmp, rows_total, rows_ties}
 use Rattle.answers.specs.Types.{Cell}
-use Rattle.answers.specs.Answers.{row_cmp, AreAscendingRows, IsTooMuch}
+use Rattle.lorel_bound.specs.Answers.{AreAscendingRows, IsTooMuch}
 use Rattle.answers.specs.Asked.{AreRows, AreTooMany}
 use Rattle.answers.specs.inside.Finding.{Finds}
-use Rattle.answers.specs.inside.RowOrder.{rows_total, rows_ties}
 
 -- ---- rows that are tested as equal are one
 pub equal_rows : (a b : List Cell) → pointwise same_cell a b ≡ true → a ≡ b

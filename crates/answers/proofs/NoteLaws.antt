@@ -6,8 +6,8 @@ use Rattle.std.proofs.lemmas.List.{take_more}
 use Rattle.std.proofs.lemmas.List.Elements.{All-weaker, All-contains_itself, All-contains, All-take, Contains-append_left, Contains-push, Contains-push_cases}
 use Rattle.std.proofs.lemmas.List.Sorted.{Contains-permutation, IsPermutation-sym, length_permutation}
 use Rattle.std.proofs.lemmas.Option.{same_Some}
-use Rattle.lorel_bind.specs.declared.bound.Bound.{Bound}
-use Rattle.lorel_bind.specs.Bound.{bound_tree}
+use Rattle.lorel_bound.specs.declared.bound.Bound.{Bound}
+use Rattle.lorel_bound.specs.Bound.{bound_tree}
 use Rattle.answers.specs.Types.{Oid, Edge, Cell}
 use Rattle.answers.specs.Asked.{ShowsAsked, AreRows, AreTooMany}
 use Rattle.answers.specs.inside.Finding.{Finds}

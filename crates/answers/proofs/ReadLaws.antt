@@ -9,10 +9,10 @@ use Rattle.std.proofs.lemmas.List.Elements.{All-contains, All-cons, All-nil, All
 use Rattle.std.proofs.lemmas.Option.{same_Some, slice_get-map}
 use Rattle.std.proofs.lemmas.Slice.Zip.{all_zipped_more}
 use Rattle.lore_base.specs.LeastWords.{IsLeast, IsSpelledWalk}
-use Rattle.lorel_bind.specs.declared.bound.Start.{Start}
-use Rattle.lorel_bind.specs.declared.bound.Range.{Range}
-use Rattle.lorel_bind.specs.Bound.{RangeTree, range_tree}
-use Rattle.lorel_bind.specs.SlotRows.{StartsAt, ShowsSlot, IsSlotWord, IsObjectCell}
+use Rattle.lorel_bound.specs.declared.bound.Start.{Start}
+use Rattle.lorel_bound.specs.declared.bound.Range.{Range}
+use Rattle.lorel_bound.specs.Bound.{RangeTree, range_tree}
+use Rattle.lorel_bound.specs.SlotRows.{StartsAt, ShowsSlot, IsSlotWord, IsObjectCell}
 use Rattle.answers.specs.Types.{Oid, Label, Edge, CellOf, Cell}
 use Rattle.answers.specs.Types.shown
 use Rattle.answers.specs.Types.cells

@@ -5,10 +5,10 @@ use Rattle.std.specs.Cmp.Lexicographic.{pointwise, pointwise_decides}
 use Rattle.std.specs.Cmp.{unsigned_Decides}
 use Rattle.std.proofs.lemmas.Bool.{cases_Bool}
 use Rattle.lore_base.specs.Paths.{PathTree}
-use Rattle.lorel_bind.specs.declared.bound.Bound.{Bound}
-use Rattle.lorel_bind.specs.Bound.{bound_tree}
-use Rattle.lorel_bind.specs.SlotRows.{ShowsObjects}
-use Rattle.lorel_bind.specs.Plans.{StepTree, steps_of}
+use Rattle.lorel_bound.specs.declared.bound.Bound.{Bound}
+use Rattle.lorel_bound.specs.Bound.{bound_tree}
+use Rattle.lorel_bound.specs.SlotRows.{ShowsObjects}
+use Rattle.lorel_bound.specs.Plans.{StepTree, steps_of}
 use Rattle.plan_ops.specs.Steps.{StepsOver, steps_over}
 use Rattle.plan_ops.specs.Rows.{RowsLeft, HasTheSamePlan, IsToCome, ReadNothing, Gives, AnswersNext}
 use Rattle.answers.specs.Types.{Oid, Edge, ValueEntry, Cell}

@@ -5,9 +5,9 @@ use Rattle.std.proofs.lemmas.Option.{same_Some}
 use Rattle.lore_base.specs.Paths.{path_tree}
 use Rattle.lore_base.specs.LeastWords.{IsLeastIfAny, IsSpelledWalk}
 use Rattle.lore_base.proofs.LeastWordLaws.{one_least_word}
-use Rattle.lorel_bind.specs.declared.bound.Start.{Start}
-use Rattle.lorel_bind.specs.declared.bound.Start.TheVariants as starts
-use Rattle.lorel_bind.specs.SlotRows.{StartsAt}
+use Rattle.lorel_bound.specs.declared.bound.Start.{Start}
+use Rattle.lorel_bound.specs.declared.bound.Start.TheVariants as starts
+use Rattle.lorel_bound.specs.SlotRows.{StartsAt}
 use Rattle.least_words.specs.MachineWords.{word_to}
 use Rattle.answers.specs.Types.{Oid, Label}
 use Rattle.answers.specs.inside.Words.{WordsOver, AreWordsFrom, HasWord}

@@ -2,9 +2,9 @@
 use Rattle.std.specs.Prelude.{◌≢◌, ◌↔◌, ℕ, List, All, AllPairs, Contains}
 use Rattle.std.specs.List.{AllZip}
 use Rattle.answers.specs.Types.{Oid, Edge, Cell}
-use Rattle.lorel_bind.specs.Bound.{BoundTree}
-use Rattle.lorel_bind.specs.SlotRows.{ShowsSlot}
-use Rattle.answers.specs.Answers.{AreAscendingRows, IsTooMuch}
+use Rattle.lorel_bound.specs.Bound.{BoundTree}
+use Rattle.lorel_bound.specs.SlotRows.{ShowsSlot}
+use Rattle.lorel_bound.specs.Answers.{AreAscendingRows, IsTooMuch}
 
 -- the cells of a bound select show a row of these slots, over label texts and edges
 abbrev pub ShowsRow : List (List ℕ) → List Edge → BoundTree → List Oid → List Cell → Type 0

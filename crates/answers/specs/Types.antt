@@ -4,7 +4,7 @@ pub use Rattle.lore_base.specs.declared.edges.Label.{Label}
 pub use Rattle.lore_base.specs.declared.edges.Edge.{Edge}
 pub use Rattle.lore_base.specs.declared.limits.TheConstants.{RANGES, ROWS, PATH_LABELS}
 pub use Rattle.index_traits.specs.declared.entries.ValueEntry.{ValueEntry}
-pub use Rattle.lorel_bind.specs.declared.bound.CellOf.{CellOf}
-pub use Rattle.lorel_bind.specs.declared.bound.CellOf.TheVariants as shown
-pub use Rattle.lorel_bind.specs.declared.cells.Cell.{Cell}
-pub use Rattle.lorel_bind.specs.declared.cells.Cell.TheVariants as cells
+pub use Rattle.lorel_bound.specs.declared.bound.CellOf.{CellOf}
+pub use Rattle.lorel_bound.specs.declared.bound.CellOf.TheVariants as shown
+pub use Rattle.lorel_bound.specs.declared.cells.Cell.{Cell}
+pub use Rattle.lorel_bound.specs.declared.cells.Cell.TheVariants as cells

@@ -2,15 +2,14 @@ ghost use Rattle.std.specs.Prelude.{◌≡◌, ◌↔◌, ◌-◌, ◌^◌, true
 ghost use Rattle.std.specs.Prelude.{Contains, MatchOption, IsTrue, IfOk};
 ghost use Rattle.std.specs.declared.cmp.Ordering.TheVariants.{Less, Equal};
 ghost use Rattle.answers.specs.Types.{Cell as TheCell};
-ghost use Rattle.answers.specs.Answers.{AreAscendingRows, IsTooMuch, row_labels};
-ghost use Rattle.answers.specs.Answers.{cell_labels as labels_in};
+ghost use Rattle.lorel_bound.specs.Answers.{AreAscendingRows, IsTooMuch, row_labels};
+ghost use Rattle.lorel_bound.specs.Answers.{cell_labels as labels_in};
 ghost use Rattle.answers.specs.Asked.{AreRows, AreTooMany};
 ghost use Rattle.answers.specs.inside.Finding.{Finds};
 
-use crate::answers::{Answer, AnswerRow};
 use lore_base::NoMemory;
 use lore_base::limits::{PATH_LABELS, ROWS};
-use lorel_bind::Cell;
+use lorel_bound::{Answer, AnswerRow, Cell};
 use std::alloc::Global;
 use std::cmp::Ordering;
 use std::marker::Model;
@@ -40,7 +39,7 @@ pub(crate) struct FoundRows {
 impl Model for FoundRows {
     ghost use Rattle.std.specs.Prelude.{◌≡◌, ◌-◌, ◌^◌, List, IsTrue, min, sum_by};
     ghost use Rattle.answers.specs.Types.{Cell};
-    ghost use Rattle.answers.specs.Answers.{AreAscendingRows, row_labels};
+    ghost use Rattle.lorel_bound.specs.Answers.{AreAscendingRows, row_labels};
 
     ghost Value = { List (List Cell) };
 

@@ -1,16 +1,15 @@
 ghost use Rattle.std.specs.Prelude.{◌≡◌, false, length, All, IfOk, OnOk};
 ghost use Rattle.std.specs.List.{AllZip};
-ghost use Rattle.lorel_bind.specs.Bound.{bound_tree};
-ghost use Rattle.lorel_bind.specs.Bindings.{IsRunnable, IsCellWithin};
-ghost use Rattle.lorel_bind.specs.SlotRows.{IsObjectCell};
+ghost use Rattle.lorel_bound.specs.Bound.{bound_tree};
+ghost use Rattle.lorel_bound.specs.Runnable.{IsRunnable, IsCellWithin};
+ghost use Rattle.lorel_bound.specs.SlotRows.{IsObjectCell};
 ghost use Rattle.answers.specs.inside.Showing.{IsReadyObject, IsReadyWithin, IsMadeReady};
 ghost use Rattle.answers.specs.inside.Showing.{Reads, ReadsRow};
 
-use crate::answers::AnswerRow;
 use crate::slot_words::SlotWords;
 use index_traits::{Adjacent, Row};
 use lore_base::{NoMemory, Steps};
-use lorel_bind::{Bound, Cell, CellOf, Start};
+use lorel_bound::{AnswerRow, Bound, Cell, CellOf, Start};
 use oem_labels::LabelTable;
 use std::alloc::Global;
 use std::sync::ledger::Ledger;

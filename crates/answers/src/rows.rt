@@ -1,18 +1,17 @@
 ghost use Rattle.std.specs.Prelude.{◌≡◌, ◌⊎◌, List, MatchOption, IfOk, OnOk};
 ghost use Rattle.answers.specs.Types.{Oid as TheOid};
 ghost use Rattle.answers.specs.Asked.{ShowsAsked, AreRows, AreTooMany};
-ghost use Rattle.lorel_bind.specs.Bound.{bound_tree};
-ghost use Rattle.lorel_bind.specs.Bindings.{IsRunnable};
-ghost use Rattle.lorel_bind.specs.Plans.{steps_of};
-ghost use Rattle.lorel_bind.specs.SlotRows.{ShowsObjects};
+ghost use Rattle.lorel_bound.specs.Bound.{bound_tree};
+ghost use Rattle.lorel_bound.specs.Runnable.{IsRunnable};
+ghost use Rattle.lorel_bound.specs.Plans.{steps_of};
+ghost use Rattle.lorel_bound.specs.SlotRows.{ShowsObjects};
 ghost use Rattle.plan_ops.specs.Steps.{steps_over};
 ghost use Rattle.plan_ops.specs.Rows.{IsToCome, ReadNothing};
 
-use crate::answers::Answer;
 use crate::shown_rows::ShownRows;
 use index_traits::{Adjacent, Links, Paths, RowTest, Values};
 use lore_base::{NoMemory, Steps};
-use lorel_bind::Bound;
+use lorel_bound::{Answer, Bound};
 use oem_labels::LabelTable;
 use plan_ops::Rows;
 use std::alloc::Global;

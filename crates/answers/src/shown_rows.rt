@@ -1,19 +1,18 @@
 ghost use Rattle.std.specs.Prelude.{◌≡◌, ◌⊎◌, Some, [], All, Contains, IfOk, OnOk, MatchOption};
 ghost use Rattle.std.specs.Prelude.{IsPermutation};
-ghost use Rattle.lorel_bind.specs.Bound.{bound_tree};
-ghost use Rattle.lorel_bind.specs.Bindings.{IsRunnable};
-ghost use Rattle.lorel_bind.specs.SlotRows.{ShowsObjects};
+ghost use Rattle.lorel_bound.specs.Bound.{bound_tree};
+ghost use Rattle.lorel_bound.specs.Runnable.{IsRunnable};
+ghost use Rattle.lorel_bound.specs.SlotRows.{ShowsObjects};
 ghost use Rattle.answers.specs.Asked.{AreRows, AreTooMany};
 ghost use Rattle.answers.specs.inside.Finding.{Finds};
 ghost use Rattle.answers.specs.inside.Showing.{IsReadyObject, IsReadyWithin, ReadsRow, ReadsSome};
 ghost use Rattle.answers.specs.inside.Showing.{IsNoted, ShowsNext, AreNow, AreOfOne};
 
-use crate::answers::Answer;
 use crate::found_rows::FoundRows;
 use crate::ready_cells::{ReadyCell, read_row, ready_cells, show_words};
 use index_traits::{Adjacent, Row};
 use lore_base::{NoMemory, Steps};
-use lorel_bind::Bound;
+use lorel_bound::{Answer, Bound};
 use oem_labels::LabelTable;
 use std::alloc::Global;
 use std::marker::Model;
@@ -42,9 +41,9 @@ impl<'a, A: Adjacent> Model for ShownRows<'a, A> {
     ghost use Rattle.std.specs.List.{AllZip};
     ghost use Rattle.std.specs.Coded.{codes};
     ghost use Rattle.lore_base.specs.contracts.paths.Path as path_contract;
-    ghost use Rattle.lorel_bind.specs.contracts.bound.BoundCond as bound_cond_contract;
-    ghost use Rattle.lorel_bind.specs.Bound.{bound_tree};
-    ghost use Rattle.lorel_bind.specs.SlotRows.{ShowsObjects};
+    ghost use Rattle.lorel_bound.specs.contracts.conditions.BoundCond as bound_cond_contract;
+    ghost use Rattle.lorel_bound.specs.Bound.{bound_tree};
+    ghost use Rattle.lorel_bound.specs.SlotRows.{ShowsObjects};
     ghost use Rattle.answers.specs.inside.Showing.{RowsShown, IsMadeReady, IsReadyWithin};
 
     ghost Value = { RowsShown };

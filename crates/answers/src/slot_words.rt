@@ -1,7 +1,7 @@
 ghost use Rattle.std.specs.Prelude.{◌≡◌, ◌≤◌, ◌<◌, IfOk, IfSome};
 ghost use Rattle.lore_base.specs.Paths.{path_tree, leaves};
-ghost use Rattle.lorel_bind.specs.Bindings.{IsWithin};
-ghost use Rattle.lorel_bind.specs.SlotRows.{StartsAt};
+ghost use Rattle.lorel_bound.specs.Runnable.{IsWithin};
+ghost use Rattle.lorel_bound.specs.SlotRows.{StartsAt};
 ghost use Rattle.answers.specs.Types.{RANGES as THE_RANGES};
 ghost use Rattle.path_expr.specs.Types.{LEAVES};
 ghost use Rattle.answers.specs.inside.Words.{AreWordsFrom, HasWord};
@@ -9,7 +9,7 @@ ghost use Rattle.answers.specs.inside.Words.{AreWordsFrom, HasWord};
 use index_traits::{Adjacent, Row};
 use least_words::LeastWords;
 use lore_base::{NoMemory, Oid, Steps, Word};
-use lorel_bind::Range;
+use lorel_bound::Range;
 use oem_labels::LabelTable;
 use path_expr::Automaton;
 use std::alloc::Global;
@@ -34,7 +34,7 @@ impl<'a, A: Adjacent> Model for SlotWords<'a, A> {
     ghost use Rattle.lore_base.specs.Paths.{path_tree};
     ghost use Rattle.lore_base.specs.contracts.paths.Path as path_contract;
     ghost use Rattle.path_expr.specs.Machines.{StandsFor};
-    ghost use Rattle.lorel_bind.specs.Bindings.{IsWithin};
+    ghost use Rattle.lorel_bound.specs.Runnable.{IsWithin};
     ghost use Rattle.answers.specs.Types.{RANGES};
     ghost use Rattle.answers.specs.inside.Words.{WordsOver, AreWordsFrom};
 

@@ -19,7 +19,7 @@ fn printed_text(alloc: Global, text: &[u8]) -> Result<OemText, NoMemory> {
 }
 
 #[test]
-fn numbers_and_complex_values_are_printed(rt: HostRuntime) -> Result<(), Fail> {
+fn numbers_flags_and_complex_values_are_printed(rt: HostRuntime) -> Result<(), Fail> {
     for (number, wanted) in [
         (0, b"&1 0".as_slice()),
         (94_301, b"&1 94301"),
@@ -28,10 +28,13 @@ fn numbers_and_complex_values_are_printed(rt: HostRuntime) -> Result<(), Fail> {
     ] {
         assert_eq!(rt; printed_number(rt.alloc(), number)?.as_bytes(), wanted);
     }
-    assert_eq!(rt;
-        printed(rt.alloc(), &Value::Complex)?.as_bytes(),
-        b"&1 {}".as_slice()
-    );
+    for (value, wanted) in [
+        (Value::Flag(true), b"&1 true".as_slice()),
+        (Value::Flag(false), b"&1 false"),
+        (Value::Complex, b"&1 {}"),
+    ] {
+        assert_eq!(rt; printed(rt.alloc(), &value)?.as_bytes(), wanted);
+    }
     Ok(())
 }
 

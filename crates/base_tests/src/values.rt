@@ -9,19 +9,30 @@ use std::alloc::Global;
 use std::test::Fail;
 use value_index::NaiveValues;
 
-// The value that a word writes: a text behind `'`, or a whole number.
+// The flag or the whole number that a word writes.
+fn plain_value(word: &str) -> Value
+    ensures { result ≢ Complex }
+{
+    match word {
+        "true" => Value::Flag(true),
+        "false" => Value::Flag(false),
+        _ => Value::Whole(read_whole(word.as_bytes()).unwrap_or(0)),
+    }
+}
+
+// The value that a word writes: a text behind `'`, and else a flag or a whole number.
 fn value_of(alloc: Global, word: &str) -> Result<Value, NoMemory>
     ensures { IfOk result (λ value. value ≢ Complex) }
 {
     match word.strip_prefix('\'') {
         Some(text) => Ok(Value::Chars(OemText::from_bytes(alloc, text.as_bytes())?)),
-        None => Ok(Value::Whole(read_whole(word.as_bytes()).unwrap_or(0))),
+        None => Ok(plain_value(word)),
     }
 }
 
 // Numbers and texts under one label, of which some texts read as numbers; objects with a second
-// label; and a label with an empty text.
-const PRICES: [(u32, u32, &str); 10] = [
+// label; a label with an empty text; and one with flags, texts that read as flags, and others.
+const PRICES: [(u32, u32, &str); 17] = [
     (0, 2, "12"),
     (0, 3, "'9"),
     (0, 5, "'cheap"),
@@ -32,6 +43,13 @@ const PRICES: [(u32, u32, &str); 10] = [
     (1, 2, "12"),
     (1, 4, "'Saigon"),
     (3, 1, "'"),
+    (4, 1, "true"),
+    (4, 2, "'true"),
+    (4, 3, "false"),
+    (4, 4, "'false"),
+    (4, 5, "'True"),
+    (4, 6, "1"),
+    (4, 7, "'truer"),
 ];
 
 fn prices(alloc: Global) -> Result<EntryList, NoMemory> {
@@ -70,7 +88,7 @@ fn ascend(entries: &[ValueEntry]) -> bool
 // The plain list of a copy of them.
 fn values(alloc: Global) -> Result<NaiveValues, Fail> {
     let entries = prices(alloc)?.try_copy(alloc)?;
-    if !ascend(entries.as_slice()) || entries.len() > 10 {
+    if !ascend(entries.as_slice()) || entries.len() > 17 {
         return Err(Fail::new("the prices are not in order"));
     }
     Ok(NaiveValues::new(entries))
@@ -94,8 +112,9 @@ fn found(
     alloc: Global,
     values: &NaiveValues,
     label: u32,
-    (sign, word): (&str, &str),
+    asked: &str,
 ) -> Result<(u64, u32), NoMemory> {
+    let (sign, word) = asked.split_once(' ').unwrap_or((asked, ""));
     let value = value_of(alloc, word)?;
     let op = op_of(sign);
     let mut oids = OidBuf::new(alloc);
@@ -113,28 +132,34 @@ fn digits(oids: &OidBuf) -> u64 {
     digits
 }
 
-// A label, an operator and a value, and the objects and the count.
-const PROBES: [(u32, (&str, &str), u64, u32); 20] = [
-    (0, ("=", "7"), 189, 2),
-    (0, ("<", "10"), 13_689, 4),
-    (0, ("<", "9"), 1_689, 3),
-    (0, ("<=", "9"), 13_689, 4),
-    (0, (">", "9"), 12, 1),
-    (0, (">=", "9"), 123, 2),
-    (0, (">=", "9223372036854775807"), 1, 0),
-    (0, ("=", "'7"), 19, 1),
-    (0, ("=", "'9"), 13, 1),
-    (0, ("<", "'9"), 1_689, 3),
-    (0, (">=", "'9"), 12_357, 4),
-    (0, ("<=", "'cheap"), 13_578, 4),
-    (0, (">", "'cheap"), 1, 0),
-    (0, (">", "'-4"), 12_356_789, 7),
-    (1, ("<=", "12"), 12, 1),
-    (1, ("=", "'012"), 12, 1),
-    (1, (">", "'Sai"), 14, 1),
-    (2, (">=", "-3"), 1, 0),
-    (3, ("<=", "'"), 11, 1),
-    (3, ("<=", "9223372036854775807"), 1, 0),
+// A label, an operator with a value, and the objects and the count.
+const PROBES: [(u32, &str, u64, u32); 26] = [
+    (0, "= 7", 189, 2),
+    (0, "< 10", 13_689, 4),
+    (0, "< 9", 1_689, 3),
+    (0, "<= 9", 13_689, 4),
+    (0, "> 9", 12, 1),
+    (0, ">= 9", 123, 2),
+    (0, ">= 9223372036854775807", 1, 0),
+    (0, "= '7", 19, 1),
+    (0, "= '9", 13, 1),
+    (0, "< '9", 1_689, 3),
+    (0, ">= '9", 12_357, 4),
+    (0, "<= 'cheap", 13_578, 4),
+    (0, "> 'cheap", 1, 0),
+    (0, "> '-4", 12_356_789, 7),
+    (1, "<= 12", 12, 1),
+    (1, "= '012", 12, 1),
+    (1, "> 'Sai", 14, 1),
+    (2, ">= -3", 1, 0),
+    (3, "<= '", 11, 1),
+    (3, "<= 9223372036854775807", 1, 0),
+    (4, "= true", 112, 2),
+    (4, "< true", 134, 2),
+    (4, "= 'true", 112, 2),
+    (4, "> 'false", 1_127, 3),
+    (4, "< 'truer", 1_245, 3),
+    (4, "<= 1", 16, 1),
 ];
 
 #[test]

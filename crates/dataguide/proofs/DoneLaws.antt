@@ -11,7 +11,7 @@ use Rattle.lore_base.proofs.TargetLaws.{ListsInOrder-unique}
 use Rattle.lore_base.proofs.MemberLaws.{Contains-none, Contains-head}
 use Rattle.dataguide.specs.Types.{Oid, Label, Edge, Node, GuideNode}
 use Rattle.lore_base.specs.TargetSets.{LabelPath, IsTargetSet, LeavesTo, LeadsTo, AreTargetSets}
-use Rattle.dataguide.specs.PathOrder.{IsLeastPath, AreInPathOrder, ComesBefore}
+use Rattle.lore_base.specs.PathOrder.{IsLeastPath, AreInPathOrder, ComesBefore}
 use Rattle.dataguide.specs.Guides.{sets_of, HasItsSteps, StandsFor}
 use Rattle.dataguide.specs.inside.Trails.{Stop, start_path, longer, IsMet, ComesUpTo, IsSearched}
 use Rattle.dataguide.proofs.PathOrder.{upto-longer, upto-trans}
@@ -24,7 +24,7 @@ pub some-member : (set : List Oid) → set ≢ [] → (oid : Oid) × Contains se
 some-member [] some = absurd (some refl)
 some-member (oid ∷ set) some = (oid, Contains-head oid set)
 
-AllZip-maps : {X Y Z : Type 0} (f : X → Y) (g : X → Z) (R : Y → Z → Type 0) (xs : List X) → All (λ x. R (f x) (g x)) xs
+pub AllZip-maps : {X Y Z : Type 0} (f : X → Y) (g : X → Z) (R : Y → Z → Type 0) (xs : List X) → All (λ x. R (f x) (g x)) xs
     → AllZip R (map f xs) (map g xs)
 AllZip-maps f g R [] all = tt
 AllZip-maps f g R (x ∷ xs) all =

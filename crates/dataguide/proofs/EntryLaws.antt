@@ -1,7 +1,7 @@
 -- Entries: how one is found by its name, and that they fit the names that they were made of.
 use Rattle.std.proofs.Common.{◌≡◌, ℕ, ◌<◌, ◌≤◌, inl, inr, Less, Equal, Greater, Err, List, [], ◌∷◌, ◌++◌, length}
-use Rattle.std.proofs.Common.{get_or, map, true, Some, None, Contains, refl, sym, ap, ◌∙◌, subst, suc, arith}
-use Rattle.std.specs.List.{AllZip}
+use Rattle.std.proofs.Common.{get_or, true, Some, None, All, Contains, refl, sym, ap, ◌∙◌, subst, arith}
+use Rattle.std.specs.List.{AllZip, AllByRecursion}
 use Rattle.std.specs.List.Sorted.{IsStrictlySortedBy, IsNonDecreasingBy, IsBinarySearchResult}
 use Rattle.std.specs.Map.{keys_of}
 use Rattle.std.specs.Ordering.{ordering_index, eq_by_cmp}
@@ -10,13 +10,12 @@ use Rattle.std.proofs.lemmas.Bool.{cases_lt}
 use Rattle.std.proofs.lemmas.Cmp.{nat_list_cmp_total, eq_by_cmp_equiv, tied_itself}
 use Rattle.std.proofs.lemmas.Map.Keys.{IsDistinct-from_sorted}
 use Rattle.std.proofs.lemmas.Map.Lookups.{exact_bytes}
-use Rattle.std.proofs.lemmas.List.Elements.{Contains-get_or}
+use Rattle.std.proofs.lemmas.List.Elements.{All-head, All-tail, Contains-get_or}
 use Rattle.std.proofs.lemmas.Map.Views.{Contains-from_lookup, lookup-from_Contains, tells_apart}
 use Rattle.lore_base.specs.Bytes.{bytes_cmp}
 use Rattle.dataguide.specs.Types.{Oid, Node, GuideNode}
-use Rattle.dataguide.specs.Guides.{HasSet, IsEntry, node_of}
-use Rattle.dataguide.specs.inside.NodeTables.{AreAscendingEntries, AreStarts}
-use Rattle.dataguide.proofs.PlaceLaws.{AllZip-weaker}
+use Rattle.dataguide.specs.Guides.{IsEntry, node_of}
+use Rattle.dataguide.specs.inside.NodeTables.{AreAscendingEntries}
 use Rattle.dataguide.proofs.StopLaws.{keys-ascend}
 
 -- names that compare as equal are one
@@ -89,57 +88,30 @@ module _ (entries : List (List ℕ × Node)) (name : List ℕ) (ascend : AreAsce
             (Contains-from_lookup {eq = eq_by_cmp bytes_cmp} same_name name node entries is))
       ] refl
 
--- ---- entries of names
-pub entries-are : (nodes : List GuideNode) (names : List (List ℕ × Oid)) (starts : List Node)
-    (entries : List (List ℕ × Node)) → AreStarts nodes names starts → keys_of entries ≡ keys_of names
-    → map (λ entry. entry.1) entries ≡ starts → AllZip (IsEntry nodes) names entries
-entries-are nodes [] starts [] zip keys are = tt
-entries-are nodes [] starts (entry ∷ entries) zip keys are = cc
-entries-are nodes (named ∷ names) starts [] zip keys are = cc
-entries-are nodes (named ∷ names) [] (entry ∷ entries) zip keys are = cc
-entries-are nodes (named ∷ names) (start ∷ starts) (entry ∷ entries) zip keys are =
-    let name : entry.0 ≡ named.0 = cc in
-    let node : entry.1 ≡ start = cc in
-    let other_keys : keys_of entries ≡ keys_of names = cc in
-    let others : map (λ (e : List ℕ × Node). e.1) entries ≡ starts = cc in (
-      record {
-        name = name;
-        node = subst (λ (n : Node). HasSet nodes n (named.1 ∷ [])) (sym node) zip.0;
-      },
-      entries-are nodes names starts entries zip.1 other_keys others,
-    )
+-- entries of names have the names as keys
+pub entry-keys : (nodes : List GuideNode) (names : List (List ℕ × Oid)) (entries : List (List ℕ × Node))
+    → AllZip (IsEntry nodes) names entries → keys_of entries ≡ keys_of names
+entry-keys nodes [] [] zip = refl
+entry-keys nodes [] (entry ∷ entries) zip = absurd zip
+entry-keys nodes (named ∷ names) [] zip = absurd zip
+entry-keys nodes (named ∷ names) (entry ∷ entries) zip =
+    ap (λ (n : List ℕ). n ∷ keys_of entries) zip.0.name
+    ∙ ap (λ (l : List (List ℕ)). named.0 ∷ l) (entry-keys nodes names entries zip.1)
 
--- starts of objects are starts of the names that have these objects
-pub starts-of : (nodes : List GuideNode) (names : List (List ℕ × Oid)) (starts : List Node)
-    → AllZip (λ oid node. HasSet nodes node (oid ∷ [])) (map (λ named. named.1) names) starts
-    → AreStarts nodes names starts
-starts-of nodes [] [] zip = tt
-starts-of nodes [] (start ∷ starts) zip = absurd zip
-starts-of nodes (named ∷ names) [] zip = absurd zip
-starts-of nodes (named ∷ names) (start ∷ starts) zip = (zip.0, starts-of nodes names starts zip.1)
-
--- as many starts as names
-pub starts-as_many : (nodes : List GuideNode) (names : List (List ℕ × Oid)) (starts : List Node)
-    → AreStarts nodes names starts → length starts ≡ length names
-starts-as_many nodes [] [] zip = refl
-starts-as_many nodes [] (start ∷ starts) zip = absurd zip
-starts-as_many nodes (named ∷ names) [] zip = absurd zip
-starts-as_many nodes (named ∷ names) (start ∷ starts) zip = ap suc (starts-as_many nodes names starts zip.1)
-
-pub starts-stay : (nodes new : List GuideNode) (names : List (List ℕ × Oid)) (starts : List Node)
-    → ((node : Node) (set : List Oid) → HasSet nodes node set → HasSet new node set)
-    → AreStarts nodes names starts → AreStarts new names starts
-starts-stay nodes new names starts stay zip =
-    AllZip-weaker (λ (named : List ℕ × Oid) (node : Node). HasSet nodes node (named.1 ∷ []))
-    (λ (named : List ℕ × Oid) (node : Node). HasSet new node (named.1 ∷ []))
-    (λ named node has. stay node (named.1 ∷ []) has) names starts zip
-
--- where a name is left there is a name more than entries
-pub room-left : {X : Type 0} (entries : List (List ℕ × Node)) (name : List ℕ) (rest : List (List ℕ))
-    (names : List (List ℕ × X)) → keys_of entries ++ name ∷ rest ≡ keys_of names → length entries < length names
-room-left [] name rest [] is = cc
-room-left [] name rest (named ∷ names) is = omega arith
-room-left (entry ∷ entries) name rest [] is = cc
-room-left (entry ∷ entries) name rest (named ∷ names) is =
-    let later : keys_of entries ++ name ∷ rest ≡ keys_of names = cc in
-    omega (arith, room-left entries name rest names later)
+-- an entry whose name comes after all others is put behind
+pub entries-push : (entries : List (List ℕ × Node)) (entry : List ℕ × Node) → AreAscendingEntries entries
+    → All (λ e. bytes_cmp e.0 entry.0 ≡ Less) entries → AreAscendingEntries (entries ++ entry ∷ [])
+unfolding IsStrictlySortedBy
+entries-push [] entry ascend below = (tt, tt)
+entries-push (first ∷ entries) entry ascend below = (
+  behind first entries ascend.0
+      (All-head (λ (e : List ℕ × Node). bytes_cmp e.0 entry.0 ≡ Less) first entries below),
+  entries-push entries entry ascend.1
+      (All-tail (λ (e : List ℕ × Node). bytes_cmp e.0 entry.0 ≡ Less) first entries below),
+)
+  where
+    behind : (first : List ℕ × Node) (entries : List (List ℕ × Node))
+        → AllByRecursion (λ name. bytes_cmp first.0 name ≡ Less) (keys_of entries) → bytes_cmp first.0 entry.0 ≡ Less
+        → AllByRecursion (λ name. bytes_cmp first.0 name ≡ Less) (keys_of (entries ++ entry ∷ []))
+    behind first [] all less = (less, tt)
+    behind first (other ∷ entries) all less = (all.0, behind first entries all.1 less)

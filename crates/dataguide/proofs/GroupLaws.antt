@@ -1,10 +1,11 @@
 -- Arcs in order are grouped by label: one group after another is cut from their front.
 use Rattle.std.proofs.Common.{◌≡◌, ◌≢◌, ℕ, ◌+◌, ◌<◌, ◌≤◌, Less, inl, inr, List, [], ◌∷◌, ◌++◌, length, get_or, take}
-use Rattle.std.proofs.Common.{drop, map, None, AllPairs, Contains, refl, sym, ap, ◌∙◌, subst, append_assoc, arith}
+use Rattle.std.proofs.Common.{drop, map, Some, None, AllPairs, Contains, refl, sym, ap, ◌∙◌, subst, append_assoc, arith}
 use Rattle.std.proofs.Common.{length-drop}
 use Rattle.std.specs.List.{AllWithin, HoldsAt, slice_get}
 use Rattle.std.proofs.lemmas.Bool.{cases_lt}
 use Rattle.std.proofs.lemmas.List.{append-nil, get_or-take, get_or-drop, length-take, length-map, take-append-drop}
+use Rattle.std.proofs.lemmas.Option.{get_or_from_slice_get, slice_get_within}
 use Rattle.std.proofs.lemmas.List.Elements.{All-push, All-weaker, All-contains, Contains-get_or, Contains-push}
 use Rattle.std.proofs.lemmas.List.Elements.{Contains-append_left, Contains-append_right, Contains-append_cases}
 use Rattle.lore_base.specs.TargetSets.{ListsInOrder, LeavesTo, IsStep}
@@ -59,6 +60,19 @@ pub record IsGroup (rest : List (Label × Oid)) (label : Label) (len : ℕ) : Ty
   pub inside : len ≤ length rest
   pub group : AllWithin (λ arc. arc.0.0 ≡ label.0) rest 0 len
   pub end : len < length rest → HoldsAt (λ arc. arc.0.0 ≢ label.0) rest len
+
+-- what stands before the rest is a group by itself
+pub group-is : (rest : List (Label × Oid)) (first : Label × Oid) (len : ℕ) → Some first ≡ slice_get rest 0
+    → len ≤ length rest
+    → AllWithin (λ arc. arc.0.0 ≡ first.0.0) rest 0 len
+    → (len < length rest → HoldsAt (λ arc. arc.0.0 ≢ first.0.0) rest len) → IsGroup rest first.0 len
+group-is rest first len at inside group end = record {
+  first = λ d. ap (λ (a : Label × Oid). a.0) (get_or_from_slice_get rest 0 first d (sym at));
+  some = slice_get_within rest 0 first (sym at);
+  inside = inside;
+  group = group;
+  end = end;
+}
 
 module _ (rest : List (Label × Oid)) (label : Label) (len : ℕ) (ascend : AscendAsArcs rest)
     (is : IsGroup rest label len) where

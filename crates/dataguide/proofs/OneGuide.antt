@@ -7,7 +7,7 @@ use Rattle.std.proofs.lemmas.List.Elements.{All-contains, All-cons}
 use Rattle.lore_base.proofs.ListLaws.{AllPairs-unique}
 use Rattle.dataguide.specs.Types.{Oid, Label, Edge, Node, GuideNode}
 use Rattle.lore_base.specs.TargetSets.{LabelPath, IsStep, AreTargetSets}
-use Rattle.dataguide.specs.PathOrder.{IsLeastPath, AreInPathOrder, ComesBefore}
+use Rattle.lore_base.specs.PathOrder.{IsLeastPath, AreInPathOrder, ComesBefore}
 use Rattle.dataguide.specs.Guides.{sets_of, HasItsSteps, IsEntry}
 use Rattle.dataguide.specs.GuideLaws.{HasOneOrderedGuide}
 use Rattle.dataguide.specs.inside.Trails.{Stop}

@@ -8,7 +8,7 @@ use Rattle.std.proofs.lemmas.Cmp.{nat_cmp_total, on_total, lists_total, nat_list
 use Rattle.lore_base.specs.Bytes.{bytes_cmp}
 use Rattle.dataguide.specs.Types.{Label}
 use Rattle.lore_base.specs.TargetSets.{LabelPath}
-use Rattle.dataguide.specs.PathOrder.{word_cmp, ComesBefore}
+use Rattle.lore_base.specs.PathOrder.{word_cmp, ComesBefore}
 use Rattle.dataguide.specs.inside.Trails.{longer, ComesUpTo}
 
 word_total : IsTotalOrder word_cmp

@@ -5,9 +5,10 @@ use Rattle.lore_base.specs.Walks.{Walk, edge_of}
 use Rattle.lore_base.specs.Databases.{IsReached}
 use Rattle.lore_base.proofs.WalkLaws.{Walk-push}
 use Rattle.lore_base.proofs.TargetLaws.{ListsInOrder-same}
-use Rattle.lore_base.specs.TargetSets.{LabelPath, LeadsTo, IsLedTo, LeavesTo, AreTargetSets, AreMoreThan}
+use Rattle.lore_base.specs.TargetSets.{LabelPath, LeadsTo, IsLedTo, LeavesTo, AreTargetSets}
 use Rattle.dataguide.specs.Types.{Oid, Label, Edge, GuideNode}
-use Rattle.dataguide.specs.PathOrder.{IsLeastPath, AreInPathOrder}
+use Rattle.lore_base.specs.PathOrder.{IsLeastPath, AreInPathOrder}
+use Rattle.lore_base.specs.GuideLimits.{FitsGuide, AreFirstSets, PassesNodes, PassesCells}
 use Rattle.dataguide.specs.Guides.{GuideGraph, StandsFor, sets_of, HasItsSteps}
 use Rattle.dataguide.specs.GuideLaws.{AgreeWhereReached, ReachedEdgesDecide}
 use Rattle.dataguide.proofs.PlaceLaws.{AllZip-weaker, mapped}
@@ -20,13 +21,9 @@ module _ (names : List (List ℕ × Oid)) (edges others : List Edge)
   led-there : (set : List Oid) → IsLedTo names edges set → IsLedTo names others set
   led-there set led = (led.0, there led.0 set led.1)
 
-  more-there : (limit : ℕ) → AreMoreThan limit names edges → AreMoreThan limit names others
-  more-there limit more = record {
-    sets = more.sets;
-    apart = more.apart;
-    led = All-weaker (IsLedTo names edges) (IsLedTo names others) led-there more.sets more.led;
-    many = more.many;
-  }
+  fits-there : (limit : ℕ) → FitsGuide limit names others → FitsGuide limit names edges
+  fits-there limit fits sets apart led =
+      fits sets apart (All-weaker (IsLedTo names edges) (IsLedTo names others) led-there sets led)
 
   targets-there : (sets : List (List Oid)) → AreTargetSets names edges sets → AreTargetSets names others sets
   targets-there sets are = record {
@@ -50,6 +47,34 @@ module _ (names : List (List ℕ × Oid)) (edges others : List Edge)
     least = AllZip-weaker (IsLeastPath names edges) (IsLeastPath names others) least-there are.paths sets
         are.least;
     ascending = are.ascending;
+  }
+
+  first-there : (sets : List (List Oid)) → AreFirstSets names edges sets → AreFirstSets names others sets
+  first-there sets are = record {
+    paths = are.paths;
+    least = AllZip-weaker (IsLeastPath names edges) (IsLeastPath names others) least-there are.paths sets
+        are.least;
+    ascending = are.ascending;
+    others = λ path set leads. are.others path set (back path set leads);
+  }
+
+  nodes-there : (limit : ℕ) → PassesNodes limit names edges → PassesNodes limit names others
+  nodes-there limit passes = record {
+    sets = passes.sets;
+    next = passes.next;
+    first = first-there (passes.sets ++ passes.next ∷ []) passes.first;
+    kept = passes.kept;
+    passed = passes.passed;
+  }
+
+  cells-there : (limit : ℕ) → PassesCells limit names edges → PassesCells limit names others
+  cells-there limit passes = record {
+    sets = passes.sets;
+    next = passes.next;
+    first = first-there (passes.sets ++ passes.next ∷ []) passes.first;
+    kept = passes.kept;
+    room = passes.room;
+    passed = passes.passed;
   }
 
   module _ (leave : (set : List Oid) → IsLedTo names edges set → (label : Label) (oid : Oid)
@@ -185,9 +210,17 @@ reached_edges_decide names edges others agree =
     let back = leads-back names edges others agree in
     record {
       leads = λ path set. (there path set, back path set);
-      more = λ limit. (
-        more-there names edges others there back limit,
-        more-there names others edges back there limit,
+      fits = λ limit. (
+        fits-there names others edges back there limit,
+        fits-there names edges others there back limit,
+      );
+      nodes = λ limit. (
+        nodes-there names edges others there back limit,
+        nodes-there names others edges back there limit,
+      );
+      cells = λ limit. (
+        cells-there names edges others there back limit,
+        cells-there names others edges back there limit,
       );
       guides = λ guide. (
         stands-there names edges others there back (leaves-same names edges others agree) guide,

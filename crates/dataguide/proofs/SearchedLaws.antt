@@ -11,7 +11,7 @@ use Rattle.lore_base.specs.Names.{IsNameTable}
 use Rattle.lore_base.proofs.MemberLaws.{Contains-none}
 use Rattle.dataguide.specs.Types.{Oid, Label, Edge, Node, GuideNode}
 use Rattle.lore_base.specs.TargetSets.{IsStep, LeavesTo, LeadsTo}
-use Rattle.dataguide.specs.PathOrder.{ComesBefore}
+use Rattle.lore_base.specs.PathOrder.{ComesBefore}
 use Rattle.dataguide.specs.Guides.{sets_of, HasSet, AscendByLabel}
 use Rattle.dataguide.specs.inside.Arcs.{AreSteps}
 use Rattle.dataguide.specs.inside.Entering.{AreEntered}

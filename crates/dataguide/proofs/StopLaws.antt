@@ -13,7 +13,7 @@ use Rattle.lore_base.proofs.MemberLaws.{Contains-none, Contains-head, Contains-c
 use Rattle.dataguide.specs.Types.{Oid, Label, Edge, Node}
 use Rattle.dataguide.specs.Guides.{AscendByLabel}
 use Rattle.lore_base.specs.TargetSets.{LabelPath, IsTargetSet, IsStep, LeadsTo}
-use Rattle.dataguide.specs.PathOrder.{ComesBefore}
+use Rattle.lore_base.specs.PathOrder.{ComesBefore}
 use Rattle.dataguide.specs.inside.Arcs.{AreSteps}
 use Rattle.dataguide.specs.inside.Trails.{Stop, start_path, longer}
 use Rattle.dataguide.proofs.PathOrder.{before-label}

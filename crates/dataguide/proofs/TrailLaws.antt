@@ -9,7 +9,7 @@ use Rattle.lore_base.proofs.ListLaws.{AllPairs-append, AllPairs-tail, AllPairs-h
 use Rattle.lore_base.proofs.MemberLaws.{Contains-none, Contains-head, Contains-tail, Contains-cases}
 use Rattle.dataguide.specs.Types.{Oid, Edge}
 use Rattle.lore_base.specs.TargetSets.{LeadsTo}
-use Rattle.dataguide.specs.PathOrder.{ComesBefore}
+use Rattle.lore_base.specs.PathOrder.{ComesBefore}
 use Rattle.dataguide.specs.inside.Entering.{AreEntered}
 use Rattle.dataguide.specs.inside.Trails.{Stop, IsMet, IsTrail}
 use Rattle.dataguide.proofs.PlaceLaws.{unmapped}

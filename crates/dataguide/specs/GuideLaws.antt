@@ -1,11 +1,13 @@
 -- Laws of target sets and guides.
-use Rattle.std.specs.Prelude.{◌≡◌, ◌↔◌, ℕ, ◌<◌, List, [], ◌∷◌, ◌++◌, length, Contains}
+use Rattle.std.specs.Prelude.{◌≡◌, ◌↔◌, ℕ, List, [], ◌∷◌, ◌++◌, Contains}
 use Rattle.lore_base.specs.declared.change_set.Changes.{Changes}
 use Rattle.lore_base.specs.Databases.{OemGraph, IsReached}
 use Rattle.lore_base.specs.ChangeSets.{IsGraphAfter}
-use Rattle.lore_base.specs.TargetSets.{LabelPath, IsTargetSet, IsStep, LeadsTo, AreMoreThan}
+use Rattle.lore_base.specs.TargetSets.{LabelPath, IsTargetSet, IsStep, LeadsTo, AreTargetSets}
+use Rattle.lore_base.specs.PathOrder.{AreInPathOrder}
+use Rattle.lore_base.specs.GuideLimits.{KeepLimits, FitsGuide, PassesNodes, PassesCells}
 use Rattle.dataguide.specs.Types.{Oid, Label, Edge, Node}
-use Rattle.dataguide.specs.PathOrder.{AreInPathOrder}
+use Rattle.dataguide.specs.Touched.{ReadsTouched, ReadsSome, ReadsWithin}
 use Rattle.dataguide.specs.Guides.{GuideGraph, StandsFor, IsOrderedGuide, sets_of, HasSet, HasEdge}
 
 -- the target set of a longer word is the step of the shorter word's
@@ -45,11 +47,11 @@ HasAlikeGuides =
     (names : List (List ℕ × Oid)) (edges : List Edge) (guide other : GuideGraph)
     → StandsFor guide names edges → StandsFor other names edges → AreAlike guide other
 
--- a guide has more nodes than a limit exactly where label paths lead to more sets
+-- a database fits a guide exactly where the nodes of its guide keep the limits
 abbrev pub NodesAreCounted : Type 0
 NodesAreCounted =
     (limit : ℕ) (names : List (List ℕ × Oid)) (edges : List Edge) (guide : GuideGraph)
-    → StandsFor guide names edges → (limit < length guide.nodes) ↔ AreMoreThan limit names edges
+    → StandsFor guide names edges → FitsGuide limit names edges ↔ KeepLimits limit (sets_of guide.nodes)
 
 -- of what leaves the objects that names walk to along the first edges, both lists have the same
 abbrev pub AgreeWhereReached : List (List ℕ × Oid) → List Edge → List Edge → Type 0
@@ -59,7 +61,9 @@ AgreeWhereReached names edges others =
 -- label paths lead to the same sets along the one edges and along the others, so these have the same guides
 pub record HaveSameTargets (names : List (List ℕ × Oid)) (edges others : List Edge) : Type 0 where
   pub leads : (path : LabelPath) (set : List Oid) → LeadsTo names edges path set ↔ LeadsTo names others path set
-  pub more : (limit : ℕ) → AreMoreThan limit names edges ↔ AreMoreThan limit names others
+  pub fits : (limit : ℕ) → FitsGuide limit names edges ↔ FitsGuide limit names others
+  pub nodes : (limit : ℕ) → PassesNodes limit names edges ↔ PassesNodes limit names others
+  pub cells : (limit : ℕ) → PassesCells limit names edges ↔ PassesCells limit names others
   pub guides : (guide : GuideGraph) → StandsFor guide names edges ↔ StandsFor guide names others
   pub order : (sets : List (List Oid)) → AreInPathOrder names edges sets ↔ AreInPathOrder names others sets
 
@@ -74,3 +78,18 @@ abbrev pub VanishedEdgesLeadNowhere : Type 0
 VanishedEdgesLeadNowhere =
     (before : OemGraph) (changes : Changes) (after : OemGraph) (is : IsGraphAfter before changes after)
     → HaveSameTargets after.names is.between after.edges
+
+-- what is read for a guide is within the reads of the touched sets
+abbrev pub ReadsAreWithin : Type 0
+ReadsAreWithin =
+    (kept : List (List Oid)) (dirty : List Oid) (names : List (List ℕ × Oid)) (edges : List Edge)
+    (sets : List (List Oid)) (before now : ℕ)
+    → AreTargetSets names edges sets → ReadsTouched kept dirty edges sets before now
+    → ReadsWithin kept dirty names edges before now
+
+-- and so is what is read where the guide is refused
+abbrev pub SomeReadsAreWithin : Type 0
+SomeReadsAreWithin =
+    (kept : List (List Oid)) (dirty : List Oid) (limit : ℕ) (names : List (List ℕ × Oid)) (edges : List Edge)
+    (before now : ℕ)
+    → ReadsSome kept dirty limit names edges before now → ReadsWithin kept dirty names edges before now

@@ -8,7 +8,7 @@ use Rattle.std.specs.BTreeMap.{is_at}
 use Rattle.lore_base.specs.Bytes.{bytes_cmp}
 use Rattle.lore_base.specs.TargetSets.{AreTargetSets, IsStep}
 use Rattle.dataguide.specs.Types.{Oid, Label, Edge, Node, GuideNode}
-use Rattle.dataguide.specs.PathOrder.{AreInPathOrder}
+use Rattle.lore_base.specs.PathOrder.{AreInPathOrder}
 
 -- a guide: its nodes in the order of their numbers, and the nodes of the names
 pub record GuideGraph : Type 0 where

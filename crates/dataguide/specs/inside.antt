@@ -3,3 +3,5 @@ pub mod Arcs
 pub mod Entering
 pub mod NodeTables
 pub mod Trails
+pub mod Fills
+pub mod Founds

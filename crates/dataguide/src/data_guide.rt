@@ -1,32 +1,20 @@
-ghost use Rattle.std.specs.Prelude.{◌≡◌, ℕ, ◌+◌, ◌≤◌, ◌<◌, [], ◌∷◌, List, length, map, sum_by};
-ghost use Rattle.std.specs.Prelude.{Some, slice_get};
-ghost use Rattle.std.specs.Prelude.{IfSome, IfNone, IfOk, IfErr, OnOk, All, Contains};
+ghost use Rattle.std.specs.Prelude.{◌≡◌, ◌↔◌, List, [], length, Some, slice_get};
+ghost use Rattle.std.specs.Prelude.{IsTrue, IfSome, IfNone, IsOk, All, Contains};
 ghost use Rattle.std.specs.Option.{option_copied};
-ghost use Rattle.lore_base.specs.Names.{IsNameTable};
-ghost use Rattle.dataguide.specs.Types.{Oid as TheOid, Edge as TheEdge, Node as TheNode};
-ghost use Rattle.dataguide.specs.declared.faults.GuideFault.TheVariants as faults;
-ghost use Rattle.lore_base.specs.TargetSets.{AreMoreThan};
-ghost use Rattle.dataguide.specs.PathOrder.{AreInPathOrder};
-ghost use Rattle.dataguide.specs.ReadCosts.{ReadsAtMost, reads_of};
+ghost use Rattle.dataguide.specs.Types.{Edge as TheEdge, Node as TheNode};
 ghost use Rattle.dataguide.specs.Guides.{StandsFor, sets_of, node_of, edge_at, HasSet, HasEdge};
 ghost use Rattle.dataguide.specs.Guides.{AscendByLabel};
-ghost use Rattle.dataguide.specs.inside.Entering.{AreEntered, AreTooMany};
-ghost use Rattle.dataguide.specs.inside.NodeTables.{AreStarts};
-ghost use Rattle.dataguide.specs.inside.Trails.{IsExpanded, IsOverfull};
+ghost use Rattle.dataguide.specs.Deltas.{guide_then, IsReady};
+ghost use Rattle.dataguide.specs.inside.NodeTables.{IsHashed};
 
-use crate::arcs::Reader;
+use crate::delta::GuideDelta;
 use crate::entries::Entries;
-use crate::faults::GuideFault;
-use crate::found_nodes::{FoundNodes, find_node};
-use crate::groups::enter_groups;
-use crate::hash_lists::HashLists;
+use crate::fill::{Filled, fill};
 use crate::nodes::{GuideNode, Node, next_by, node_at};
-use index_traits::Adjacent;
-use lore_base::{Label, Listing, Names, OemText, OidBuf, Steps};
+use lore_base::{Label, NoMemory, OemText};
 use oem_set::OidSet;
 use std::alloc::Global;
 use std::marker::Model;
-use std::sync::ledger::Ledger;
 
 /// The strong DataGuide of a database (Goldman and Widom 1997): a node for each set of objects that
 /// a label path leads to. Contracts see it as its nodes, each with its set and its edges, ascending
@@ -35,7 +23,7 @@ use std::sync::ledger::Ledger;
 pub struct Guide {
     nodes: Vec<GuideNode>,
     entries: Entries,
-    by_hash: HashLists,
+    by_hash: Vec<(u64, Node)>,
 }
 
 impl Model for Guide {
@@ -46,7 +34,39 @@ impl Model for Guide {
 
     ghost view = { λ g. record { nodes = g.nodes.items; entries = g.entries } };
 
-    ghost invariant = { λ g. IsNodeTable g.by_hash g.nodes.items };
+    ghost invariant = { λ g. IsNodeTable g.by_hash.items g.nodes.items };
+}
+
+// Whether the node is there and has the set.
+fn has_set(nodes: &[GuideNode], node: Node, set: &OidSet) -> bool
+    ensures { IsTrue result ↔ HasSet nodes.now node set.now }
+{
+    match nodes.get(node.0 as usize) {
+        Some(there) => there.set.equal(set),
+        None => false,
+    }
+}
+
+// The node with the set, looked for among those under its hash. Takes no memory.
+fn find_node(nodes: &[GuideNode], by_hash: &[(u64, Node)], set: &OidSet) -> Option<Node>
+    requires { IsHashed by_hash.now nodes.now }
+    ensures found { IfSome result (λ node. HasSet nodes.now node set.now) }
+    ensures none { IfNone result (¬ Contains (sets_of nodes.now) set.now) }
+{
+    let hash = set.hash64();
+    let start = by_hash.partition_point(|entry| entry.0 < hash);
+    let mut place = start;
+    'run: while place < by_hash.len() {
+        let entry = by_hash[place];
+        if entry.0 != hash {
+            return None;
+        }
+        if has_set(nodes, entry.1, set) {
+            return Some(entry.1);
+        }
+        place += 1;
+    }
+    None
 }
 
 impl Guide {
@@ -59,49 +79,8 @@ impl Guide {
         Guide {
             nodes: Vec::new(alloc),
             entries: Entries::new(alloc),
-            by_hash: HashLists::new(alloc),
+            by_hash: Vec::new(alloc),
         }
-    }
-
-    /// The guide of a graph from its names on, found breadth first: sets by their least label
-    /// paths.
-    ///
-    /// `Nodes` exactly where more sets are led to than the limit. The edges of a set are read once,
-    /// also where the answer is `Nodes`; then at most as many sets as the limit were read.
-    pub fn build<A: Adjacent, L: Ledger>(
-        alloc: Global,
-        graph: &A,
-        names: &Names,
-        limit: u32,
-        steps: &mut Steps<L>,
-    ) -> Result<Guide, GuideFault>
-        ensures guide { IfOk result (λ guide. StandsFor guide names.now (A.edges graph.now)) }
-        ensures order { IfOk result
-            (λ guide. AreInPathOrder names.now (A.edges graph.now) (sets_of guide.nodes)) }
-        ensures within { IfOk result (λ guide. length guide.nodes ≤ limit) }
-        ensures few { IfOk result (λ _. ¬ AreMoreThan limit names.now (A.edges graph.now)) }
-        ensures steps { IfOk result (λ guide. steps.new
-            ≡ steps.old + sum_by (reads_of (A.edges graph.now)) (sets_of guide.nodes)) }
-        ensures full { IfErr result (λ fault. fault ≡ faults.Nodes
-            → AreMoreThan limit names.now (A.edges graph.now)) }
-        ensures reads { IfErr result (λ fault. fault ≡ faults.Nodes
-            → ReadsAtMost limit names.now (A.edges graph.now) steps.old steps.new) }
-    {
-        let mut found = FoundNodes::new(alloc);
-        let starts = enter_names(alloc, &mut found, names, limit)?;
-        let mut reader = Reader::new(alloc);
-        let mut next = 0;
-        'nodes: while next < found.len() {
-            expand(alloc, &mut found, next, graph, &mut reader, limit, steps)?;
-            next += 1;
-        }
-        let entries = Entries::of(alloc, names, starts.as_slice())?;
-        let FoundNodes { nodes, by_hash } = found;
-        Ok(Guide {
-            nodes,
-            entries,
-            by_hash,
-        })
     }
 
     /// The node of the name; None exactly where the name isn't bound. Takes no memory.
@@ -167,7 +146,7 @@ impl Guide {
             → HasSet self.now.nodes other set.now → other ≡ node) }
         ensures none { IfNone result (¬ Contains (sets_of self.now.nodes) set.now) }
     {
-        find_node(self.nodes.as_slice(), &self.by_hash, set)
+        find_node(self.nodes.as_slice(), self.by_hash.as_slice(), set)
     }
 
     /// The edge of the node at place `i` in the order of labels, counted from 0; None exactly where
@@ -179,60 +158,32 @@ impl Guide {
         let there = self.nodes.as_slice().get(node.0 as usize)?;
         there.edges.get(i as usize).copied()
     }
-}
 
-// Enters the objects of the names in the names' order, and gives their nodes, one by one.
-fn enter_names(
-    alloc: Global,
-    found: &mut FoundNodes,
-    names: &Names,
-    limit: u32,
-) -> Result<Vec<Node>, GuideFault>
-    ensures entered { OnOk result (AreEntered (sets_of found.old)
-        (map (λ named. named.1 ∷ []) names.now) (sets_of found.new)) }
-    ensures starts { IfOk result (λ starts. AreStarts found.new names.now starts.items) }
-    ensures within { length found.old ≤ limit → length found.new ≤ limit }
-    ensures full { IfErr result (λ fault. fault ≡ faults.Nodes
-        → AreTooMany limit (sets_of found.old) (map (λ named. named.1 ∷ []) names.now)) }
-    ensures table { OnOk result (IsNameTable names.now) }
-{
-    found.reserve(names.len())?;
-    let objects = names.objects()?;
-    let mut starts = Listing::with_capacity(alloc, names.len())?;
-    'names: for oid in objects.as_slice() {
-        let mut oids = OidBuf::with_capacity(alloc, 1)?;
-        oids.push(*oid)?;
-        let node = found.enter(alloc, OidSet::from_ascending(oids), limit)?;
-        starts.push(node)?;
+    /// Makes ready for `commit`. A delta has the memory that it takes, so there is nothing to do.
+    pub fn reserve(&mut self, _delta: &GuideDelta) -> Result<(), NoMemory>
+        ensures ok { IsOk result }
+        ensures same { self.new ≡ self.old }
+    {
+        Ok(())
     }
-    Ok(starts.into_items())
-}
 
-// Reads the edges of the node at a place, enters the sets that they lead to, and gives the node its
-// edges.
-fn expand<A: Adjacent, L: Ledger>(
-    alloc: Global,
-    found: &mut FoundNodes,
-    place: usize,
-    graph: &A,
-    reader: &mut Reader,
-    limit: u32,
-    steps: &mut Steps<L>,
-) -> Result<(), GuideFault>
-    requires place { place < length found.old }
-    ensures expanded { OnOk result (IsExpanded (A.edges graph.now) found.old place found.new) }
-    ensures within { length found.old ≤ limit → length found.new ≤ limit }
-    ensures steps { OnOk result ((set : List TheOid)
-        → slice_get (sets_of found.old) place ≡ Some set
-        → steps.new ≡ steps.old + reads_of (A.edges graph.now) set) }
-    ensures full { IfErr result (λ fault. fault ≡ faults.Nodes
-        → IsOverfull limit (A.edges graph.now) (sets_of found.old) place) }
-    ensures reads { IfErr result (λ fault. fault ≡ faults.Nodes
-        → (set : List TheOid) → slice_get (sets_of found.old) place ≡ Some set
-        → steps.new ≡ steps.old + reads_of (A.edges graph.now) set) }
-{
-    reader.read(graph, found.set(place), steps)?;
-    let edges = enter_groups(alloc, found, reader.arcs.as_slice(), limit)?;
-    found.put_edges(place, edges);
-    Ok(())
+    /// Becomes the planned guide. Takes no memory: sets of nodes that are kept are moved.
+    pub fn commit(&mut self, delta: GuideDelta)
+        requires { IsReady self.old.nodes delta }
+        ensures { self.new ≡ guide_then self.old.nodes delta }
+    {
+        let GuideDelta {
+            nodes,
+            entries,
+            room,
+            by_hash,
+        } = delta;
+        let alloc = self.allocator();
+        let old = std::mem::replace(&mut self.nodes, Vec::new(alloc));
+        let Filled { nodes, mut by_hash } = fill(old, nodes, room, by_hash);
+        by_hash.sort_unstable_by_key(|entry| entry.0);
+        self.nodes = nodes;
+        self.entries = entries;
+        self.by_hash = by_hash;
+    }
 }

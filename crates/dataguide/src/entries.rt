@@ -1,10 +1,11 @@
-ghost use Rattle.std.specs.Prelude.{◌≡◌, [], length, map, IfOk};
-ghost use Rattle.std.specs.Map.{keys_of};
+ghost use Rattle.std.specs.Prelude.{◌≡◌, [], ◌∷◌, ◌++◌, All, OnOk, OnErr};
+ghost use Rattle.std.specs.declared.cmp.Ordering.TheVariants.{Less};
+ghost use Rattle.lore_base.specs.Bytes.{bytes_cmp};
 ghost use Rattle.dataguide.specs.Guides.{node_of};
 ghost use Rattle.dataguide.specs.inside.NodeTables.{AreAscendingEntries};
 
 use crate::nodes::Node;
-use lore_base::{Names, NoMemory, OemText};
+use lore_base::{NoMemory, OemText, TryCopy};
 use std::alloc::Global;
 use std::marker::Model;
 
@@ -48,19 +49,23 @@ impl Entries {
         }
     }
 
-    // The names with these nodes, one by one.
-    pub(crate) fn of(alloc: Global, names: &Names, nodes: &[Node]) -> Result<Entries, NoMemory>
-        requires { length nodes.now ≡ length names.now }
-        ensures names { IfOk result (λ entries. keys_of entries ≡ keys_of names.now) }
-        ensures nodes { IfOk result (λ entries. map (λ entry. entry.1) entries ≡ nodes.now) }
+    // The entries of this list. Takes no memory.
+    pub(crate) fn of(list: Vec<(OemText, Node)>) -> Entries
+        requires { AreAscendingEntries list.items }
+        ensures { result ≡ list.items }
     {
-        let mut list = Vec::with_capacity(alloc, names.len())?;
-        let texts = names.texts()?;
-        'texts: for text in texts.into_items() {
-            let node = nodes[list.len()];
-            list.push((text, node))?;
-        }
-        Ok(Entries { list })
+        Entries { list }
+    }
+
+    // Puts an entry behind those that are there, whose names come before its own.
+    pub(crate) fn push(&mut self, name: &OemText, node: Node) -> Result<(), NoMemory>
+        requires { All (λ entry. bytes_cmp entry.0 name.now ≡ Less) self.old }
+        ensures ok { OnOk result (self.new ≡ self.old ++ (name.now, node) ∷ []) }
+        ensures err { OnErr result (self.new ≡ self.old) }
+    {
+        let text = name.try_copy(*self.list.allocator())?;
+        self.list.push((text, node))?;
+        Ok(())
     }
 
     // The names with their nodes.

@@ -5,12 +5,15 @@ use lore_base::NoMemory;
 use std::alloc::{AllocError, AllocFailed};
 use thiserror::Error;
 
-/// Why a guide can't be built.
+/// Why a guide can't be had.
 #[derive(Clone, Copy, Debug, PartialEq, Eq, Error)]
 pub enum GuideFault {
-    /// There are more non-empty target sets than the limit.
+    /// One of the first sets is one more than the limit on nodes.
     #[error("more target sets than the limit on the guide's nodes")]
     Nodes,
+    /// With one of the first sets, all sets have more members than a guide may have.
+    #[error("more members of target sets than a guide may have")]
+    Cells,
     /// Memory was refused.
     #[error("out of memory")]
     NoMemory,

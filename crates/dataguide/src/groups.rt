@@ -1,14 +1,7 @@
-ghost use Rattle.std.specs.Prelude.{◌≡◌, ◌≤◌, ◌<◌, ◌≢◌, length, map, AllPairs, IfOk, IfErr};
+ghost use Rattle.std.specs.Prelude.{◌≡◌, ◌≤◌, ◌<◌, ◌≢◌, length, map, AllPairs, IfOk};
 ghost use Rattle.std.specs.List.{AllWithin, HoldsAt};
-ghost use Rattle.lore_base.specs.Lists.{Extends};
-ghost use Rattle.dataguide.specs.declared.faults.GuideFault.TheVariants as faults;
-ghost use Rattle.dataguide.specs.Guides.{sets_of};
-ghost use Rattle.dataguide.specs.inside.Arcs.{AscendAsArcs};
-ghost use Rattle.dataguide.specs.inside.Trails.{IsRowEntered, AreTooManyGroups};
+ghost use Rattle.dataguide.specs.inside.Arcs.{AscendAsArcs, AreGroups};
 
-use crate::faults::GuideFault;
-use crate::found_nodes::FoundNodes;
-use crate::nodes::EdgeList;
 use lore_base::{Label, NoMemory, Oid, OidBuf};
 use oem_set::OidSet;
 use std::alloc::Global;
@@ -39,28 +32,22 @@ fn children(alloc: Global, arcs: &[(Label, Oid)]) -> Result<OidSet, NoMemory>
     Ok(OidSet::from_ascending(oids))
 }
 
-// Enters the sets that the arcs lead to, label by label, and gives the labels with their nodes.
-pub(crate) fn enter_groups(
+// The sets that the arcs lead to, label by label.
+pub(crate) fn group_arcs(
     alloc: Global,
-    found: &mut FoundNodes,
     arcs: &[(Label, Oid)],
-    limit: u32,
-) -> Result<EdgeList, GuideFault>
+) -> Result<Vec<(Label, OidSet)>, NoMemory>
     requires { AscendAsArcs arcs.now }
-    ensures row { IfOk result (IsRowEntered arcs.now found.old found.new) }
-    ensures kept { Extends found.old found.new }
-    ensures within { length found.old ≤ limit → length found.new ≤ limit }
-    ensures full { IfErr result (λ fault. fault ≡ faults.Nodes
-        → AreTooManyGroups limit arcs.now (sets_of found.old)) }
+    ensures { IfOk result (λ groups. AreGroups arcs.now groups.items) }
 {
-    let mut row = EdgeList::new(alloc);
+    let mut groups = Vec::new(alloc);
     let mut rest = arcs;
     'groups: while let Some(first) = rest.first() {
         let label = first.0;
         let (group, others) = rest.split_at(group_length(rest, label));
-        let node = found.enter(alloc, children(alloc, group)?, limit)?;
-        row.push((label, node))?;
+        let set = children(alloc, group)?;
+        groups.push((label, set))?;
         rest = others;
     }
-    Ok(row)
+    Ok(groups)
 }

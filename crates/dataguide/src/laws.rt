@@ -3,6 +3,7 @@
 ghost use Rattle.dataguide.specs.GuideLaws.{LongerWordsStep, HasAlikeGuides, HasOneOrderedGuide};
 ghost use Rattle.dataguide.specs.GuideLaws.{NodesAreCounted, ReachedEdgesDecide};
 ghost use Rattle.dataguide.specs.GuideLaws.{VanishedEdgesLeadNowhere};
+ghost use Rattle.dataguide.specs.GuideLaws.{ReadsAreWithin, SomeReadsAreWithin};
 
 /// The target set of a longer word is the step of the shorter word's, by the last label.
 pub fn longer_words_step()
@@ -19,7 +20,7 @@ pub fn one_ordered_guide()
     ensures { HasOneOrderedGuide }
 {}
 
-/// A guide has more nodes than a limit exactly where label paths lead to more sets.
+/// A database fits a guide exactly where the nodes of its guide keep the limits.
 pub fn nodes_are_counted()
     ensures { NodesAreCounted }
 {}
@@ -34,4 +35,14 @@ pub fn reached_edges_decide()
 /// vanished, lead to the same target sets.
 pub fn vanished_edges_lead_nowhere()
     ensures { VanishedEdgesLeadNowhere }
+{}
+
+/// What is read for a guide is within the reads of the touched sets.
+pub fn reads_are_within()
+    ensures { ReadsAreWithin }
+{}
+
+/// So is what is read where the guide is refused.
+pub fn some_reads_are_within()
+    ensures { SomeReadsAreWithin }
 {}

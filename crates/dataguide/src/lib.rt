@@ -7,15 +7,22 @@
 #![tactic(auto)]
 
 pub use data_guide::Guide;
+pub use delta::GuideDelta;
 pub use faults::GuideFault;
 pub use nodes::{EdgeList, GuideNode, Node};
+pub use planned_nodes::{DeltaNode, Origin};
 
 mod arcs;
 mod data_guide;
+mod delta;
 mod entries;
+mod explore;
 mod faults;
-mod found_nodes;
+mod fill;
+mod found;
 mod groups;
+mod guide_plans;
 mod hash_lists;
 pub mod laws;
 mod nodes;
+mod planned_nodes;

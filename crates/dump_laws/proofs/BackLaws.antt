@@ -6,7 +6,7 @@ use Rattle.dump_laws.specs.Types.kinds as k
 use Rattle.dump_laws.specs.Laws.{AreTexts, IsReadAs, DumpsReadBack, DumpsAreSound}
 use Rattle.lore_base.specs.Databases.{Database}
 use Rattle.lorel_lex.specs.Gaps.{is_blank}
-use Rattle.lorel_lex.specs.Tokens.{HasForm}
+use Rattle.lorel_tokens.specs.Forms.{HasForm}
 use Rattle.lorel_lex.specs.Writing.{IsUtf8Token, HasKinds}
 use Rattle.lorel_lex.proofs.ReadBackLaws.{read_back}
 use Rattle.lorel_trees.specs.Trees.{restore}
@@ -14,9 +14,9 @@ use Rattle.lorel_trees.specs.Grammar as g
 use Rattle.lorel_trees.specs.Tokens.{HasTokens}
 use Rattle.lorel_trees.proofs.FormLaws.{formed_all}
 use Rattle.lorel_ast.specs.Printing.{print_dump, print_statement}
-use Rattle.lorel_ast.proofs.PrintFormLaws.{statement_printed}
+use Rattle.grammar_laws.proofs.PrintFormLaws.{statement_printed}
 use Rattle.dump_text.specs.Dumps.{dump_tree, printed_dump}
-use Rattle.dump_text.specs.Restores.{IsRestorable}
+use Rattle.lore_base.specs.Databases.{IsRestorable}
 use Rattle.dump_laws.proofs.FormedLaws.{formed_dump}
 use Rattle.dump_laws.proofs.DerivedLaws.{dump_derived}
 use Rattle.dump_laws.proofs.LineLaws.{blank_before, token, dump_written}

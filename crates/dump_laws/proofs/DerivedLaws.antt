@@ -10,7 +10,7 @@ use Rattle.lorel_trees.specs.Statements.{spell_mode, spell_oid, spell_dump_name,
 use Rattle.lorel_trees.specs.Formed.{IsFormedName, IsFormedEdge, IsFormedDump}
 use Rattle.lore_base.specs.Names.{IsLabel}
 use Rattle.lorel_ast.specs.Printing.{print_label, print_dump_labels, print_dump_name, print_dump_names, print_dump_edge, print_dump}
-use Rattle.lorel_ast.proofs.CanonPathLaws.{canon_label}
+use Rattle.grammar_laws.proofs.CanonPathLaws.{canon_label}
 
 -- a derivation that spells the canonical tokens of this, and stands for it
 pub record IsDerived {D T : Type 0} (spell : D → List Kind → List Kind) (tree : D → T) (print : T → List Kind → List Kind) (wanted : T) : Type 0 where

@@ -10,7 +10,7 @@ use Rattle.lore_base.specs.Names.{IsLabel}
 use Rattle.lore_base.specs.Databases.{Database, OemGraph, IsLive, IsLinked, IsWellFormed}
 use Rattle.lorel_trees.specs.Formed.{IsLocalNumber, IsFormedEdge, IsFormedDump}
 use Rattle.dump_text.specs.Dumps.{text_of, spelled_edge, dump_tree}
-use Rattle.dump_text.specs.Restores.{IsRestorable}
+use Rattle.lore_base.specs.Databases.{IsRestorable}
 
 fits : (number : ℕ) → number ≤ 4294967296 → FitsSigned w64 (pos number)
 fits number small = record { sfits = omega arith }
@@ -36,7 +36,7 @@ formed_dump db is =
     let graph = db.graph in
     let well = is.rooted.well_formed in
     record {
-      version = fits 1 (omega arith);
+      version = fits 2 (omega arith);
       next = fits graph.next well.ordered.next_numbered.1;
       nodes = fits db.nodes (omega (arith, is.nodes_limited.1));
       labels = is.labels_formed;

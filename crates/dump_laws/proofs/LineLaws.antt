@@ -3,12 +3,13 @@ use Rattle.std.proofs.Common.{◌≡◌, ℕ, ℤ, Bool, true, false, if◌then�
 use Rattle.std.specs.Fmt.{signed_decimal}
 use Rattle.std.specs.List.{list_all}
 use Rattle.std.proofs.lemmas.Bool.{and_from}
-use Rattle.dump_laws.specs.Types.{Oid, Value, Whole, Chars, Complex, Mode, Auto, Top, Bottom, Guided, Kind, DumpTree}
+use Rattle.dump_laws.specs.Types.{Oid, Value, Whole, Chars, Flag, Complex, Mode, Auto, Top, Bottom, Guided, Kind, DumpTree}
 use Rattle.dump_laws.specs.Types.kinds as k
 use Rattle.dump_laws.specs.Types.signs as s
 use Rattle.lore_base.specs.Names.{is_identifier}
 use Rattle.lore_base.specs.Printed.{printed, label_text}
 use Rattle.lore_base.specs.Quotes.{in_quotes}
+use Rattle.lore_base.specs.Comparisons.{flag_text}
 use Rattle.lorel_lex.specs.Gaps.{is_blank}
 use Rattle.lorel_lex.specs.Writing.{token_text, is_apart, AreWritten}
 use Rattle.lorel_trees.specs.Repetitions.{spell_each}
@@ -48,6 +49,7 @@ label_written text = label_by (is_identifier text) text
 value_written : (value : Value) → Writes (spell_value value) (printed value)
 value_written (Whole number) = token (k.Number number)
 value_written (Chars text) = token (k.Chars text)
+value_written (Flag flag) = token (k.Word (flag_text flag))
 value_written Complex = λ rest more apart written. ([], codes "}" ++ rest, refl, refl, inr refl, token (k.Symbol s.RightBrace) rest more apart written)
 
 mode_written : (mode : Mode) → Writes (spell_mode mode) (mode_text mode)

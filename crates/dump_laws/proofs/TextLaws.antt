@@ -8,12 +8,13 @@ use Rattle.std.proofs.lemmas.Bool.Decides.{nat_tests}
 use Rattle.std.proofs.lemmas.List.Elements.{All-nil, All-cons, All-head, All-tail, All-map}
 use Rattle.std.proofs.lemmas.Str.{IsUtf8-from_ascii}
 use Rattle.std.proofs.lemmas.Str.Ascii.{IsAscii-nil, IsAscii-cons}
-use Rattle.dump_laws.specs.Types.{Oid, Value, Whole, Chars, Complex, Mode, Auto, Top, Bottom, Guided, Kind}
+use Rattle.dump_laws.specs.Types.{Oid, Value, Whole, Chars, Flag, Complex, Mode, Auto, Top, Bottom, Guided, Kind}
 use Rattle.dump_laws.specs.Types.kinds as k
 use Rattle.dump_laws.specs.Types.signs as s
 use Rattle.dump_laws.specs.Laws.{IsText, AreTexts}
 use Rattle.lore_base.specs.Names.{is_word_byte, is_identifier, IsIdentifier, IsName}
 use Rattle.lore_base.specs.Databases.{Database}
+use Rattle.lore_base.specs.Comparisons.{flag_text}
 use Rattle.lore_base.proofs.WordLaws.{identifier_tested}
 use Rattle.lorel_lex.specs.Writing.{IsUtf8Token}
 use Rattle.lorel_lex.proofs.WordLaws.{identifier_run}
@@ -22,7 +23,7 @@ use Rattle.lorel_trees.specs.Literals.{spell_value}
 use Rattle.lorel_trees.specs.Statements.{spell_mode, spell_dump_object, spell_dump_objects}
 use Rattle.lorel_ast.specs.Printing.{label_token, print_label, print_dump_labels, print_dump_name, print_dump_names, print_dump_edge, print_dump_edges, print_dump}
 use Rattle.dump_text.specs.Dumps.{spelled_edge, dump_tree}
-use Rattle.dump_text.specs.Restores.{IsRestorable}
+use Rattle.lore_base.specs.Databases.{IsRestorable}
 use Rattle.dump_laws.proofs.FormedLaws.{text_among}
 
 -- identifiers
@@ -44,6 +45,10 @@ keyword text is = identifier_utf8 text ((identifier_tested text).1 is)
 
 pub restore_utf8 : IsUtf8 (codes "restore")
 restore_utf8 = keyword (codes "restore") refl
+
+flag_utf8 : (flag : Bool) → IsUtf8 (flag_text flag)
+flag_utf8 true = keyword (codes "true") refl
+flag_utf8 false = keyword (codes "false") refl
 
 -- tokens
 
@@ -75,6 +80,7 @@ name_texts entry rest named behind =
 value_texts : (value : Value) (rest : List Kind) → IsText value → AllTexts rest → AllTexts (spell_value value rest)
 value_texts (Whole number) rest is behind = texts (k.Number number) rest tt behind
 value_texts (Chars text) rest is behind = texts (k.Chars text) rest is behind
+value_texts (Flag flag) rest is behind = texts (k.Word (flag_text flag)) rest (flag_utf8 flag) behind
 value_texts Complex rest is behind = texts (k.Symbol s.LeftBrace) (k.Symbol s.RightBrace ∷ rest) tt (texts (k.Symbol s.RightBrace) rest tt behind)
 
 object_texts : (entry : Oid × Value) (rest : List Kind) → IsText entry.1 → AllTexts rest → AllTexts (spell_dump_object entry rest)

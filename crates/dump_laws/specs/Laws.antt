@@ -3,7 +3,7 @@ use Rattle.std.specs.Prelude.{◌≡◌, ℕ, List, [], ◌∷◌, ◌++◌, cod
 use Rattle.dump_laws.specs.Types.{Value, Chars, Kind}
 use Rattle.lore_base.specs.Databases.{Database}
 use Rattle.lorel_lex.specs.Gaps.{is_blank}
-use Rattle.lorel_lex.specs.Tokens.{HasForm}
+use Rattle.lorel_tokens.specs.Forms.{HasForm}
 use Rattle.lorel_lex.specs.Writing.{HasKinds}
 use Rattle.lorel_trees.specs.Trees.{StatementTree, restore}
 use Rattle.lorel_trees.specs.Grammar.{DumpText}
@@ -11,7 +11,7 @@ use Rattle.lorel_trees.specs.Statements.{spell_dump_text, tree_dump_text}
 use Rattle.lorel_trees.specs.Tokens.{HasTokens}
 use Rattle.lorel_trees.specs.Sound.{IsSoundDump}
 use Rattle.dump_text.specs.Dumps.{dump_tree, printed_dump}
-use Rattle.dump_text.specs.Restores.{IsRestorable}
+use Rattle.lore_base.specs.Databases.{IsRestorable}
 
 -- a value is UTF-8 where it is a text
 abbrev pub IsText : Value → Type 0

@@ -1,6 +1,6 @@
 -- A tree that keeps the rules of dump texts is the dump of a restorable database, and the dump of such a database keeps
 -- them.
-use Rattle.std.proofs.Common.{◌≡◌, ◌≢◌, ◌↔◌, ℕ, ◌<◌, ◌≤◌, pos, Bool, List, [], ◌∷◌, length, map, Option, Some, slice_get, slice_index_or, All, AllPairs, Contains, refl, sym, ap, ◌∙◌, subst, arith}
+use Rattle.std.proofs.Common.{◌≡◌, ◌≢◌, ◌↔◌, inl, ℕ, ◌<◌, ◌≤◌, pos, Bool, List, [], ◌∷◌, length, map, Option, Some, slice_get, slice_index_or, All, AllPairs, Contains, refl, sym, ap, ◌∙◌, subst, arith}
 use Rattle.std.specs.Bool.{IsTrue}
 use Rattle.std.specs.Option.{unwrap_or}
 use Rattle.std.proofs.lemmas.List.{length-map}
@@ -12,12 +12,13 @@ use Rattle.lore_base.specs.Walks.{edge_of}
 use Rattle.lore_base.proofs.MemberLaws.{Contains-same}
 use Rattle.oem_graph.proofs.ObjectLaws.{one_value}
 use Rattle.oem_labels.specs.Labels.{place_in, label_in}
-use Rattle.dump_text.specs.Types.{Oid, Label, Edge, Value, Complex, DumpTree}
-use Rattle.dump_text.specs.Dumps.{text_of, spelled_edge, dump_tree}
+use Rattle.dump_text.specs.Types.{Oid, Label, Edge, Value, Complex, DumpTree, Restored}
+use Rattle.dump_text.specs.Dumps.{text_of, spelled_edge, dump_tree, IsVersion, in_version_two}
 use Rattle.dump_text.specs.Rules.{AreNumbered, numbered_edge, numbered_edges, KeepsRules}
-use Rattle.dump_text.specs.Restores.{IsRestorable, IsDumpOf, IsBad, IsRestored, database_from}
+use Rattle.dump_text.specs.Restores.{IsDumpOf, IsBad, IsRestored}
+use Rattle.lore_base.specs.Restores.{database_from}
+use Rattle.lore_base.specs.Databases.{IsRestorable}
 use Rattle.dump_text.specs.inside.RuleParts.{IsHead, KeepsHead, KeepsLists, KeepsOrder, KeepsEdges, IsGraph, AreChanges}
-use Rattle.dump_text.specs.declared.restored.Restored.{Restored}
 use Rattle.dump_text.proofs.PlaceLaws.{place_in-at, label_in-at}
 
 -- ---- labels that stand once, and their texts
@@ -87,7 +88,7 @@ restorable_keeps db is =
     let ordered = formed.ordered in
     let same : numbered_edges (dump_tree db) ≡ graph.edges = numbered-spelled db.labels is.labels_distinct graph.edges is.labelled in
     record {
-      version = refl;
+      version = inl refl;
       next = (graph.next, refl, ordered.next_numbered.0, ordered.next_numbered.1);
       nodes = (db.nodes, refl, is.nodes_limited.0, is.nodes_limited.1);
       few = record {
@@ -111,6 +112,27 @@ restorable_keeps db is =
       named = formed.names_live;
       reached = subst (λ (edges : List Edge). All (λ object. IsReached graph.names edges object.0) graph.objects) (sym same) is.rooted.reached;
     }
+
+-- the rules in version 2 are those in each version that is read
+kept_in_version : (tree : DumpTree) → IsVersion tree → KeepsRules (in_version_two tree) → KeepsRules tree
+kept_in_version tree version keeps = record {
+  version = version;
+  next = keeps.next;
+  nodes = keeps.nodes;
+  few = record { labels = keeps.few.labels; names = keeps.few.names; objects = keeps.few.objects; edges = keeps.few.edges };
+  formed = record { labels = keeps.formed.labels; names = keeps.formed.names; values = keeps.formed.values };
+  labels = keeps.labels;
+  names = keeps.names;
+  objects = record { ascend = keeps.objects.ascend; numbered = keeps.objects.numbered };
+  labelled = keeps.labelled;
+  edges = keeps.edges;
+  linked = keeps.linked;
+  named = keeps.named;
+  reached = keeps.reached;
+}
+
+dumped_keeps : (tree : DumpTree) (db : Database) → IsDumpOf tree db → IsRestorable db → KeepsRules tree
+dumped_keeps tree db dumped is = kept_in_version tree dumped.version (subst KeepsRules dumped.parts (restorable_keeps db is))
 
 -- ---- the rules in the parts in which they are tested
 pub head_kept : (tree : DumpTree) (next nodes : ℕ) → IsHead tree next nodes → KeepsHead tree
@@ -252,15 +274,18 @@ module _ (tree : DumpTree) (next nodes : ℕ) (head : IsHead tree next nodes) (k
   keeps_dumped : IsDumpOf tree (database_of tree next nodes)
   keeps_dumped =
       let edges = spelled-numbered tree.labels keeps.labels tree.edges keeps.labelled in
-      λ i. record {
-        version = sym head.version i;
-        next = sym head.next_is i;
-        nodes = sym head.nodes_is i;
-        mode = tree.mode;
-        labels = tree.labels;
-        names = tree.names;
-        objects = tree.objects;
-        edges = edges i;
+      record {
+        version = head.version;
+        parts = λ i. record {
+          version = pos 2;
+          next = sym head.next_is i;
+          nodes = sym head.nodes_is i;
+          mode = tree.mode;
+          labels = tree.labels;
+          names = tree.names;
+          objects = tree.objects;
+          edges = edges i;
+        };
       }
 
   keeps_restorable : IsRestorable (database_of tree next nodes)
@@ -313,7 +338,7 @@ keeps_restored tree restored head mode changes keeps =
 
 -- a tree that breaks a rule is no dump
 pub broken_bad : (tree : DumpTree) → (KeepsRules tree → ⊥) → IsBad tree
-broken_bad tree breaks db dumped restorable = breaks (subst KeepsRules dumped (restorable_keeps db restorable))
+broken_bad tree breaks db dumped restorable = breaks (dumped_keeps tree db dumped restorable)
 
 -- ---- the laws of dump texts
 pub rules_tell : (tree : DumpTree) → KeepsRules tree ↔ ((db : Database) × IsDumpOf tree db × IsRestorable db)
@@ -329,17 +354,17 @@ rules_tell tree = (
         nodes_ranged = (nodes.2, nodes.3);
       } in
       (database_of tree next.0 nodes.0, keeps_dumped tree next.0 nodes.0 head keeps, keeps_restorable tree next.0 nodes.0 head keeps),
-  λ dumped. subst KeepsRules dumped.1 (restorable_keeps dumped.0 dumped.2),
+  λ dumped. dumped_keeps tree dumped.0 dumped.1 dumped.2,
 )
 
 -- the edges of a database are those of its dump with the numbers of their labels
 edges_dumped : (tree : DumpTree) (db : Database) → IsDumpOf tree db → IsRestorable db → db.graph.edges ≡ numbered_edges tree
 edges_dumped tree db dumped is =
-    sym (numbered-spelled db.labels is.labels_distinct db.graph.edges is.labelled) ∙ ap (λ (t : DumpTree). numbered_edges t) dumped
+    sym (numbered-spelled db.labels is.labels_distinct db.graph.edges is.labelled) ∙ ap (λ (t : DumpTree). numbered_edges t) dumped.parts
 
 pub one_database : (tree : DumpTree) (a b : Database) → IsDumpOf tree a → IsDumpOf tree b → IsRestorable a → IsRestorable b → a ≡ b
 one_database tree a b of_a of_b is_a is_b =
-    let same : dump_tree a ≡ dump_tree b = of_a ∙ sym of_b in
+    let same : dump_tree a ≡ dump_tree b = of_a.parts ∙ sym of_b.parts in
     let labels : a.labels ≡ b.labels = ap (λ (t : DumpTree). t.labels) same in
     let names : a.graph.names ≡ b.graph.names = ap (λ (t : DumpTree). t.names) same in
     let objects : a.graph.objects ≡ b.graph.objects = ap (λ (t : DumpTree). t.objects) same in

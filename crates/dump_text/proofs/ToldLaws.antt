@@ -1,5 +1,5 @@
 -- It can be told of a tree whether it keeps the rules of dump texts, so it is the dump of a restorable database or bad.
-use Rattle.std.proofs.Common.{◌≡◌, ◌≢◌, ◌⊎◌, inl, inr, ◌&&◌, not, ℕ, suc, ℤ, pos, negsuc, ◌<◌, ◌≤◌, int_eq, Less, Equal, Greater, List, [], ◌∷◌, length, map, All, AllPairs, Contains, refl, sym, subst, arith}
+use Rattle.std.proofs.Common.{◌≡◌, ◌≢◌, ◌⊎◌, inl, inr, Bool, ◌&&◌, not, ℕ, suc, ℤ, pos, negsuc, ◌<◌, ◌≤◌, int_eq, Less, Equal, Greater, List, [], ◌∷◌, length, map, All, AllPairs, Contains, refl, sym, subst, arith}
 use Rattle.std.specs.Int.{w64, int_wrap}
 use Rattle.std.specs.Prelude.{FitsSigned, nat_le}
 use Rattle.std.specs.List.{AllByRecursion}
@@ -17,18 +17,19 @@ use Rattle.lore_base.specs.Walks.{edge_cmp}
 use Rattle.lore_base.specs.Databases.{Database, IsSized, IsLive, IsComplex, IsLinked, IsReached}
 use Rattle.lore_base.proofs.ListLaws.{AllPairs-tail}
 use Rattle.lore_base.proofs.WordLaws.{name_tested}
-use Rattle.dump_text.specs.Types.{Oid, Edge, Value, Complex, LABELS, NAMES, OBJECTS, EDGES, NODES, NEXT_NUMBER, DumpTree}
+use Rattle.dump_text.specs.Types.{Oid, Edge, Value, Flag, Complex, LABELS, NAMES, OBJECTS, EDGES, NODES, NEXT_NUMBER, DumpTree}
 use Rattle.lore_base.specs.declared.values.Value.TheVariants.{Whole, Chars}
 use Rattle.lore_base.specs.declared.limits.TheConstants.{WORD_BYTES, TEXT_BYTES}
+use Rattle.dump_text.specs.Dumps.{IsVersion}
 use Rattle.dump_text.specs.Rules.{IsUpTo, AreNumbered, AreFew, AreFormed, numbered_edges, KeepsRules}
-use Rattle.dump_text.specs.Restores.{IsRestorable, IsDumpOf, IsBad}
+use Rattle.dump_text.specs.Restores.{IsDumpOf, IsBad}
+use Rattle.lore_base.specs.Databases.{IsRestorable}
 use Rattle.dump_text.specs.inside.RuleParts.{KeepsHead, KeepsLists, KeepsOrder, KeepsEdges, IsGraph}
 use Rattle.dump_text.proofs.RuleLaws.{same_number, numbered_below, below_numbered, keeps_head, keeps_lists, keeps_edges, keeps_all, broken_bad, rules_tell}
 use Rattle.lore_base.proofs.MemberLaws.{Contains-same}
-use Rattle.oem_changes.proofs.ToldLaws.{IsTold, told_by, told_same, told_not, told_both, told_member, told_some, told_oid, told_bytes, told_below}
-use Rattle.oem_changes.proofs.ToldCauseLaws.{told_complex}
+use Rattle.lore_base.proofs.ToldLaws.{IsTold, told_by, told_same, told_not, told_both, told_either, told_member, told_some, told_oid, told_bytes, told_below, told_complex}
 use Rattle.oem_changes.proofs.RootedLaws.{told_live}
-use Rattle.oem_changes.proofs.ClosureLaws.{told_walked}
+use Rattle.oem_changes.proofs.ClosureLaws.{IsWalkedTo, told_walked}
 use Rattle.dump_text.proofs.ReachLaws.{walked_reached}
 
 -- ---- numbers, and what is told of each item of a list
@@ -89,7 +90,14 @@ told_label text = told_both (told_most 1 (length text)) (told_most (length text)
 told_sized : (value : Value) → IsTold (IsSized value)
 told_sized (Whole number) = told_fits number
 told_sized (Chars text) = told_most (length text) TEXT_BYTES
+told_sized (Flag flag) = inl tt
 told_sized Complex = inl tt
+
+told_no_flag : (value : Value) → IsTold ((flag : Bool) → value ≢ Flag flag)
+told_no_flag (Whole number) = inl (λ flag same. cc)
+told_no_flag (Chars text) = inl (λ flag same. cc)
+told_no_flag (Flag other) = inr (λ none. none other refl)
+told_no_flag Complex = inl (λ flag same. cc)
 
 told_complex_in : (objects : List (Oid × Value)) (oid : Oid) → IsTold (IsComplex objects oid)
 told_complex_in objects oid =
@@ -105,14 +113,24 @@ told_linked objects edge =
 
 told_reached : (names : List (List ℕ × Oid)) (edges : List Edge) (oid : Oid) → IsTold (IsReached names edges oid)
 told_reached names edges oid =
+    let starts = map (λ (entry : List ℕ × Oid). entry.1) names in
     let reached = walked_reached edges names oid in
-    told_same reached.0 reached.1 (told_walked edges (map (λ entry. entry.1) names) oid)
+    told_same (λ (walked : IsWalkedTo edges starts oid). reached.0 (walked.start, walked.word, walked.starts_there, walked.walked))
+    (λ (is : IsReached names edges oid).
+    let walked = reached.1 is in
+    record { start = walked.0; word = walked.1; starts_there = walked.2; walked = walked.3 })
+    (told_walked edges starts oid)
 
 module _ (tree : DumpTree) where
+  told_version : IsTold (IsVersion tree)
+  told_version =
+      told_either (told_integer tree.version (pos 2)) (told_both (told_integer tree.version (pos 1))
+      (told_all (λ (object : Oid × Value). (flag : Bool) → object.1 ≢ Flag flag) (λ object. told_no_flag object.1) tree.objects))
+
   told_head : IsTold (KeepsHead tree)
   told_head =
       told_same (λ all. record { version = all.0; next = all.1.0; nodes = all.1.1 }) (λ (h : KeepsHead tree). (h.version, (h.next, h.nodes)))
-      (told_both (told_integer tree.version (pos 1)) (told_both (told_up_to NEXT_NUMBER tree.next) (told_up_to NODES tree.nodes)))
+      (told_both told_version (told_both (told_up_to NEXT_NUMBER tree.next) (told_up_to NODES tree.nodes)))
 
   told_few : IsTold (AreFew tree)
   told_few =

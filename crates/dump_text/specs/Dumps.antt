@@ -1,9 +1,9 @@
 -- The dump of a database: the tree that stands for it, the lines of a tree, without line ends, and what is printed.
-use Rattle.std.specs.Prelude.{ℕ, ℤ, pos, List, [], ◌∷◌, ◌++◌, map, slice_get, codes}
+use Rattle.std.specs.Prelude.{◌≡◌, ◌≢◌, ◌⊎◌, ℕ, ℤ, pos, Bool, List, [], ◌∷◌, ◌++◌, map, slice_get, codes, All}
 use Rattle.std.specs.Option.{unwrap_or}
 use Rattle.std.specs.List.{flat_map}
 use Rattle.std.specs.Fmt.{decimal, signed_decimal}
-use Rattle.dump_text.specs.Types.{Oid, Label, Edge, Value, Mode, Auto, Top, Bottom, Guided, DumpTree}
+use Rattle.dump_text.specs.Types.{Oid, Label, Edge, Value, Flag, Mode, Auto, Top, Bottom, Guided, DumpTree}
 use Rattle.lore_base.specs.Databases.{Database}
 use Rattle.lore_base.specs.Printed.{printed, label_text}
 
@@ -20,7 +20,7 @@ spelled_edge labels edge = (edge.parent, text_of labels edge.label, edge.child)
 -- the tree of a database: all of it, labels that no edge has too
 abbrev pub dump_tree : Database → DumpTree
 dump_tree db = record {
-  version = pos 1;
+  version = pos 2;
   next = pos db.graph.next;
   nodes = pos db.nodes;
   mode = db.mode;
@@ -28,6 +28,27 @@ dump_tree db = record {
   names = db.graph.names;
   objects = db.graph.objects;
   edges = map (spelled_edge db.labels) db.graph.edges;
+}
+
+-- Versions: 2 is the one that is written. Version 1 has no flags.
+abbrev pub HasNoFlags : List (Oid × Value) → Type 0
+HasNoFlags objects = All (λ object. (flag : Bool) → object.1 ≢ Flag flag) objects
+
+-- the version is read
+abbrev pub IsVersion : DumpTree → Type 0
+IsVersion tree = (tree.version ≡ pos 2) ⊎ ((tree.version ≡ pos 1) × HasNoFlags tree.objects)
+
+-- the tree in the version that is written
+abbrev pub in_version_two : DumpTree → DumpTree
+in_version_two tree = record {
+  version = pos 2;
+  next = tree.next;
+  nodes = tree.nodes;
+  mode = tree.mode;
+  labels = tree.labels;
+  names = tree.names;
+  objects = tree.objects;
+  edges = tree.edges;
 }
 
 -- Lines.

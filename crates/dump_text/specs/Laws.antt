@@ -3,7 +3,8 @@ use Rattle.std.specs.Prelude.{◌≡◌, ◌↔◌, ◌⊎◌}
 use Rattle.dump_text.specs.Types.{DumpTree}
 use Rattle.lore_base.specs.Databases.{Database}
 use Rattle.dump_text.specs.Rules.{KeepsRules}
-use Rattle.dump_text.specs.Restores.{IsRestorable, IsDumpOf, IsBad}
+use Rattle.dump_text.specs.Restores.{IsDumpOf, IsBad}
+use Rattle.lore_base.specs.Databases.{IsRestorable}
 
 -- the tree is the dump of some database that is valid, the number of its target sets left aside
 abbrev pub IsDump : DumpTree → Type 0

@@ -7,6 +7,7 @@ use Rattle.lore_base.specs.Walks.{edge_of}
 use Rattle.lore_base.specs.Databases.{AreAscendingObjects, AreAscendingEdges, IsSized}
 use Rattle.lore_base.specs.Databases.{IsLive, IsLinked, IsReached}
 use Rattle.oem_labels.specs.Labels.{label_in}
+use Rattle.dump_text.specs.Dumps.{IsVersion}
 
 -- a number from 1 to the greatest
 abbrev pub IsUpTo : ℕ → ℤ → Type 0
@@ -37,11 +38,11 @@ pub record AreFormed (tree : DumpTree) : Type 0 where
   pub names : All (λ entry. IsName entry.0) tree.names
   pub values : All (λ object. IsSized object.1) tree.objects
 
--- the version is 1, and the next number and the node limit are in their ranges; limits and forms are kept; no label stands
+-- the version is read, and the next number and the node limit are in their ranges; limits and forms are kept; no label stands
 -- twice; names, objects and edges ascend, edges by their labels' numbers; each edge has one of the labels, joins live
 -- objects and leaves a complex one; and names lead to live objects, and to all of them along edges
 pub record KeepsRules (tree : DumpTree) : Type 0 where
-  pub version : tree.version ≡ pos 1
+  pub version : IsVersion tree
   pub next : IsUpTo NEXT_NUMBER tree.next
   pub nodes : IsUpTo NODES tree.nodes
   pub few : AreFew tree

@@ -3,8 +3,9 @@ pub use Rattle.lore_base.specs.declared.edges.Oid.{Oid}
 pub use Rattle.lore_base.specs.declared.edges.Label.{Label}
 pub use Rattle.lore_base.specs.declared.edges.Edge.{Edge}
 pub use Rattle.lore_base.specs.declared.values.Value.{Value}
-pub use Rattle.lore_base.specs.declared.values.Value.TheVariants.{Complex}
+pub use Rattle.lore_base.specs.declared.values.Value.TheVariants.{Flag, Complex}
 pub use Rattle.lore_base.specs.declared.change_set.Changes.{Changes}
+pub use Rattle.lore_base.specs.declared.restored.Restored.{Restored}
 pub use Rattle.lore_base.specs.declared.modes.Mode.{Mode}
 pub use Rattle.lore_base.specs.declared.modes.Mode.TheVariants.{Auto, Top, Bottom, Guided}
 pub use Rattle.lore_base.specs.declared.refusals.Refusal.{Refusal}

@@ -1,4 +1,2 @@
--- Definitions that no public contract cites: the rules of dump texts in the parts in which they are tested, and what the
--- objects of a text are reached over.
-pub mod Searches
+-- Definitions that no public contract cites: the rules of dump texts in the parts in which they are tested.
 pub mod RuleParts

@@ -7,7 +7,6 @@
 pub use faults::DumpFault;
 pub use printed::PrintedDump;
 pub use reading::read_dump;
-pub use restored::Restored;
 pub use writing::dump;
 
 mod edges;
@@ -17,6 +16,5 @@ mod lines;
 mod printed;
 mod reach;
 mod reading;
-mod restored;
 mod rules;
 mod writing;

@@ -1,4 +1,5 @@
 ghost use Rattle.std.specs.Prelude.{◌≡◌, ◌↔◌, pos, IsTrue, IfOk, OnOk, IfErr, IfSome, IfNone};
+ghost use Rattle.dump_text.specs.Dumps.{IsVersion};
 ghost use Rattle.dump_text.specs.Restores.{IsBad, IsRestored};
 ghost use Rattle.lore_base.specs.Names.{IsNameTable};
 ghost use Rattle.dump_text.specs.Rules.{KeepsRules, AreFew, numbered_edges};
@@ -9,12 +10,11 @@ ghost use Rattle.dump_text.specs.declared.faults.DumpFault.TheVariants as dump;
 use crate::edges::{label_table, numbered_edges};
 use crate::faults::DumpFault;
 use crate::reach::are_reached;
-use crate::restored::Restored;
 use crate::rules::{
     are_ascending_edges, are_ascending_names, are_few, are_formed, are_linked, are_named,
-    are_numbered, next_of, nodes_of,
+    are_numbered, have_no_flags, next_of, nodes_of,
 };
-use lore_base::{Changes, Edge, EdgeBuf, Names, NoMemory, OemText, Oid, TryCopy};
+use lore_base::{Changes, Edge, EdgeBuf, Names, NoMemory, OemText, Oid, Restored, TryCopy};
 use lorel_trees::DumpTree;
 use std::alloc::Global;
 
@@ -49,17 +49,28 @@ pub fn read_dump(alloc: Global, tree: &DumpTree) -> Result<Restored, DumpFault>
 }
 
 // The next number and the node limit; None exactly where one of them isn't in its range, or the
-// version isn't 1.
+// version isn't read.
 fn head_of(tree: &DumpTree) -> Option<(u64, u32)>
     ensures some { IfSome result (λ head. IsHead tree.now head.0 head.1) }
     ensures none { IfNone result (¬ KeepsHead tree.now) }
 {
-    if tree.version != 1 {
+    if !is_version(tree) {
         return None;
     }
     let next = next_of(tree)?;
     let nodes = nodes_of(tree)?;
     Some((next, nodes))
+}
+
+// Whether the version is 2, or 1 and no object has a flag.
+fn is_version(tree: &DumpTree) -> bool
+    ensures { IsTrue result ↔ IsVersion tree.now }
+{
+    match tree.version {
+        2 => true,
+        1 => have_no_flags(tree.objects.as_slice()),
+        _ => false,
+    }
 }
 
 // Whether limits and forms are kept, and the order of names and objects.

@@ -1,8 +1,10 @@
-ghost use Rattle.std.specs.Prelude.{◌≡◌, ◌↔◌, pos, ◌<◌, ◌≤◌, All, Contains, IsTrue, IfSome, IfNone};
+ghost use Rattle.std.specs.Prelude.{◌≡◌, ◌≢◌, ◌↔◌, Bool, pos, ◌<◌, ◌≤◌, All, Contains};
+ghost use Rattle.std.specs.Prelude.{IsTrue, IfSome, IfNone};
 ghost use Rattle.lore_base.specs.Names.{IsNameTable, IsName, IsLabel};
 ghost use Rattle.lore_base.specs.Databases.{AreAscendingObjects, AreAscendingEdges, IsSized};
 ghost use Rattle.lore_base.specs.Databases.{IsLinked, IsLive, IsComplex};
-ghost use Rattle.dump_text.specs.Types.{Complex, NEXT_NUMBER as THE_NEXT, NODES as THE_NODES};
+ghost use Rattle.dump_text.specs.Types.{Flag, Complex, NEXT_NUMBER as THE_NEXT, NODES as THE_NODES};
+ghost use Rattle.dump_text.specs.Dumps.{HasNoFlags};
 ghost use Rattle.dump_text.specs.Rules as rules;
 ghost use Rattle.dump_text.specs.Rules.{IsUpTo};
 
@@ -12,7 +14,7 @@ use lore_base::limits::{
 use lore_base::{Edge, OemText, Oid, Value, is_name};
 use lorel_trees::DumpTree;
 
-// The next number of an object; None exactly where it isn't 1 to 4,294,967,296.
+// The next number of an object; None exactly where it isn't 1 to `NEXT_NUMBER`.
 pub(crate) fn next_of(tree: &DumpTree) -> Option<u64>
     ensures some { IfSome result (λ next. tree.now.next ≡ pos next) }
     ensures ranged { IfSome result (λ next. (1 ≤ next) × (next ≤ THE_NEXT)) }
@@ -28,7 +30,7 @@ pub(crate) fn next_of(tree: &DumpTree) -> Option<u64>
     }
 }
 
-// The node limit; None exactly where it isn't 1 to 4,096.
+// The limit on the guide's nodes; None exactly where it isn't 1 to `NODES`.
 pub(crate) fn nodes_of(tree: &DumpTree) -> Option<u32>
     ensures some { IfSome result (λ nodes. tree.now.nodes ≡ pos nodes) }
     ensures ranged { IfSome result (λ nodes. (1 ≤ nodes) × (nodes ≤ THE_NODES)) }
@@ -113,8 +115,27 @@ fn is_sized(value: &Value) -> bool
             true
         }
         Value::Chars(text) => text.as_bytes().len() <= TEXT_BYTES,
-        Value::Complex => true,
+        Value::Flag(_) | Value::Complex => true,
     }
+}
+
+// Whether the value is no flag.
+fn is_no_flag(value: &Value) -> bool
+    ensures { IsTrue result ↔ ((flag : Bool) → value.now ≢ Flag flag) }
+{
+    !matches!(value, Value::Flag(_))
+}
+
+// Whether no value is a flag.
+pub(crate) fn have_no_flags(objects: &[(Oid, Value)]) -> bool
+    ensures { IsTrue result ↔ HasNoFlags objects.now }
+{
+    'objects: for object in objects {
+        if !is_no_flag(&object.1) {
+            return false;
+        }
+    }
+    true
 }
 
 // Whether each value that is a text keeps the limit of texts.

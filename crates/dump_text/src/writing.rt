@@ -51,9 +51,9 @@ pub fn dump(
 fn put_head(next: u64, nodes: u32, mode: Mode, dump: &mut PrintedDump) -> Result<(), NoMemory>
     requires { next < 2 ^ 63 }
     ensures { OnOk result (dump.new
-        ≡ dump.old ++ lines_text (head_lines (pos 1) (pos next) (pos nodes) mode)) }
+        ≡ dump.old ++ lines_text (head_lines (pos 2) (pos next) (pos nodes) mode)) }
 {
-    put_number_line(dump, b"oem", 1)?;
+    put_number_line(dump, b"oem", 2)?;
     put_number_line(dump, b"next", next as i64)?;
     put_number_line(dump, b"nodes", i64::from(nodes))?;
     put_mode_line(dump, mode)

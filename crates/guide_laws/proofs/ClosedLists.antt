@@ -3,7 +3,7 @@ use Rattle.std.proofs.Common.{◌≡◌, inl, inr, List, [], ◌∷◌, ◌++◌
 use Rattle.std.specs.List.{Contains}
 use Rattle.std.proofs.lemmas.List.Elements.{Contains-append_left, Contains-append_right, Contains-append_cases}
 use Rattle.lore_base.proofs.MemberLaws.{Contains-none, Contains-head, Contains-tail, Contains-cases, Contains-same}
-use Rattle.oem_changes.proofs.ToldLaws.{IsTold, told_member}
+use Rattle.lore_base.proofs.ToldLaws.{IsTold, told_member}
 
 -- the list has the starts and what arcs lead to from its items, and all its items pass
 pub record IsClosed {X : Type 0} (P : X → Type 0) (arcs : List (X × X)) (starts found : List X) : Type 0 where

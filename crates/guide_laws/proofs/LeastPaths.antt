@@ -15,11 +15,11 @@ use Rattle.lore_base.specs.TargetSets.{LabelPath, IsTargetSet, LeadsTo}
 use Rattle.lore_base.proofs.ListLaws.{AllPairs-head}
 use Rattle.lore_base.proofs.MemberLaws.{Contains-none, Contains-head, Contains-tail, Contains-cases}
 use Rattle.lore_base.proofs.TargetLaws.{ListsInOrder-unique}
-use Rattle.oem_changes.proofs.ToldLaws.{IsTold, told_same, told_both, told_some, told_bytes, passing, members_passing}
+use Rattle.lore_base.proofs.ToldLaws.{IsTold, told_same, told_both, told_some, told_bytes, passing, members_passing}
 use Rattle.oem_changes.proofs.AscentLaws.{IsEither, IsSetOf, some_ordered_among}
 use Rattle.oem_changes.proofs.ClosureLaws.{Contains-mapped}
 use Rattle.dataguide.specs.Types.{Oid, Label, Edge}
-use Rattle.dataguide.specs.PathOrder.{word_cmp, ComesBefore, IsLeastPath}
+use Rattle.lore_base.specs.PathOrder.{word_cmp, ComesBefore, IsLeastPath}
 use Rattle.dataguide.proofs.DoneLaws.{some-member}
 use Rattle.dataguide.proofs.PathOrder.{before-trans}
 use Rattle.guide_laws.proofs.ListLaws.{told_some_in}

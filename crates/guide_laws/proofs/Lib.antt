@@ -5,3 +5,5 @@ pub mod TargetSetLaws
 pub mod SomeGuide
 pub mod LeastPaths
 pub mod OrderedSets
+pub mod LimitLaws
+pub mod FitLaws

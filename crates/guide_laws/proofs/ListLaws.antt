@@ -1,33 +1,14 @@
--- Numbered items in order, lists that are told apart, the sublists of a list, and each item of a list once.
-use Rattle.std.proofs.Common.{◌≡◌, ◌≢◌, ◌↔◌, ℕ, ◌<◌, Bool, true, false, cond, inl, inr}
-use Rattle.std.proofs.Common.{List, [], ◌∷◌, ◌++◌, map, refl, sym, arith}
+-- Lists that are told apart, the sublists of a list, and each item of a list once.
+use Rattle.std.proofs.Common.{◌≡◌, ◌≢◌, ◌↔◌, Bool, true, false, cond, inl, inr}
+use Rattle.std.proofs.Common.{List, [], ◌∷◌, ◌++◌, map, refl, sym}
 use Rattle.std.specs.List.{AllPairs, Contains, filter}
-use Rattle.std.proofs.lemmas.Bool.{cases_lt}
 use Rattle.std.proofs.lemmas.List.Elements.{Contains-append_left, Contains-append_right}
 use Rattle.std.proofs.lemmas.List.Kept.{AllPairs-cons}
 use Rattle.lore_base.proofs.MemberLaws.{Contains-head, Contains-tail, Contains-cases, Contains-same}
-use Rattle.oem_changes.proofs.ToldLaws.{IsTold, told_member}
-use Rattle.oem_changes.proofs.AscentLaws.{IsEither, IsOrder, AllPairs-nil}
+use Rattle.lore_base.proofs.ToldLaws.{IsTold, told_member}
+use Rattle.oem_changes.proofs.AscentLaws.{AllPairs-nil}
 use Rattle.oem_changes.proofs.ClosureLaws.{Contains-mapped}
 use Rattle.dataguide.proofs.StopLaws.{All-by}
-
-module _ {X : Type 0} (number : X → ℕ) (exact : (a b : X) → number a ≡ number b → a ≡ b) where
-  either_number : (a b : X) → IsEither (λ x y. number x < number y) a b
-  either_number a b = elim (cases_lt (number a) (number b)) [
-    | inl below ↦ inl below
-    | inr not_below ↦ elim (cases_lt (number b) (number a)) [
-      | inl above ↦ inr (inr above)
-      | inr not_above ↦ inr (inl (exact a b (omega (arith, not_below, not_above))))
-    ]
-  ]
-
-  -- the order of numbers, where they tell the items apart
-  pub numbers_ordered : IsOrder (λ (a b : X). number a < number b)
-  numbers_ordered = record {
-    apart = λ a below. omega (arith, below);
-    trans = λ a b c first second. omega (arith, first, second);
-    either = either_number;
-  }
 
 -- where items can be told apart, so can lists of them
 pub told_list : {X : Type 0} → ((a b : X) → IsTold (a ≡ b)) → (xs ys : List X) → IsTold (xs ≡ ys)

@@ -10,7 +10,7 @@ use Rattle.oem_changes.proofs.TableLaws.{one_entry}
 use Rattle.oem_changes.proofs.AscentLaws.{IsEither, IsSetOf, AllPairs-within, some_ordered_among}
 use Rattle.oem_changes.proofs.ClosureLaws.{Contains-mapped, mapped_from}
 use Rattle.dataguide.specs.Types.{Oid, Edge}
-use Rattle.dataguide.specs.PathOrder.{ComesBefore, IsLeastPath, AreInPathOrder}
+use Rattle.lore_base.specs.PathOrder.{ComesBefore, IsLeastPath, AreInPathOrder}
 use Rattle.dataguide.specs.inside.Trails.{Stop}
 use Rattle.dataguide.proofs.PathOrder.{before-trans, before-itself, before-not_back}
 use Rattle.dataguide.proofs.StopLaws.{AllPairs-map}

@@ -7,7 +7,7 @@ use Rattle.lore_base.specs.Walks.{edge_of}
 use Rattle.lore_base.proofs.ListLaws.{AllPairs-head, AllPairs-tail}
 use Rattle.lore_base.proofs.MemberLaws.{Contains-none, Contains-head, Contains-tail, Contains-cases, Contains-same}
 use Rattle.lore_base.proofs.TargetLaws.{ListsInOrder-unique}
-use Rattle.oem_changes.proofs.ToldLaws.{told_member}
+use Rattle.lore_base.proofs.ToldLaws.{told_member}
 use Rattle.oem_changes.proofs.AscentLaws.{IsSetOf, AllPairs-nil, some_ordered}
 use Rattle.oem_changes.proofs.ClosureLaws.{Contains-mapped}
 use Rattle.dataguide.specs.Types.{Oid, Label, Edge}
@@ -19,10 +19,9 @@ use Rattle.dataguide.specs.inside.Trails.{start_path}
 use Rattle.dataguide.proofs.PlaceLaws.{Contains-at, at-Contains, one-place}
 use Rattle.dataguide.proofs.StopLaws.{All-by, leads-start}
 use Rattle.dataguide.proofs.DoneLaws.{some-member}
-use Rattle.dataguide.specs.PathOrder.{AreInPathOrder}
+use Rattle.lore_base.specs.PathOrder.{AreInPathOrder}
 use Rattle.guide_laws.specs.Laws.{GuidesExist, OrderedGuidesExist}
-use Rattle.guide_laws.proofs.ListLaws.{numbers_ordered}
-use Rattle.guide_laws.proofs.StepLaws.{step_of, step_is}
+use Rattle.dataguide.proofs.StepLaws.{numbers_ordered, step_of, step_is}
 use Rattle.guide_laws.proofs.TargetSetLaws.{told_set, target_sets_exist}
 use Rattle.guide_laws.proofs.OrderedSets.{ordered_sets_exist}
 

@@ -1,5 +1,5 @@
--- All sets that label paths lead to can be listed, so it can be told whether they are more than a limit.
-use Rattle.std.proofs.Common.{◌≡◌, ◌≢◌, ◌↔◌, ℕ, ◌<◌, inl, inr, List, [], ◌∷◌, ◌++◌, length, map}
+-- All sets that label paths lead to can be listed.
+use Rattle.std.proofs.Common.{◌≡◌, ◌≢◌, ◌↔◌, ℕ, ◌<◌, inl, inr, List, [], ◌∷◌, ◌++◌, map}
 use Rattle.std.proofs.Common.{refl, sym, ap, subst, arith}
 use Rattle.std.specs.List.{Contains}
 use Rattle.std.proofs.lemmas.List.Elements.{Contains-append_left, Contains-append_right, Contains-append_cases}
@@ -8,17 +8,17 @@ use Rattle.lore_base.specs.TargetSets.{ListsInOrder, LabelPath, IsTargetSet, IsL
 use Rattle.lore_base.proofs.ListLaws.{AllPairs-unique}
 use Rattle.lore_base.proofs.MemberLaws.{Contains-none, Contains-cases, Contains-same}
 use Rattle.lore_base.proofs.TargetLaws.{ListsInOrder-same}
-use Rattle.oem_changes.proofs.ToldLaws.{IsTold, told_oid, told_below, told_same, passing, members_passing}
+use Rattle.lore_base.proofs.ToldLaws.{IsTold, told_oid, passing, members_passing}
 use Rattle.oem_changes.proofs.ClosureLaws.{Contains-mapped, mapped_from}
 use Rattle.dataguide.specs.Types.{Oid, Label, Edge}
 use Rattle.dataguide.proofs.TargetSteps.{step-target}
 use Rattle.dataguide.proofs.StopLaws.{target-none}
 use Rattle.dataguide.proofs.DoneLaws.{some-member}
-use Rattle.dataguide.proofs.CountLaws.{more-counted}
-use Rattle.guide_laws.specs.Laws.{TargetSetsExist, MoreSetsAreCounted, MoreSetsAreTold}
+use Rattle.guide_laws.specs.Laws.{TargetSetsExist}
 use Rattle.guide_laws.proofs.ListLaws.{told_list, told_some_in, sublists, some_once}
 use Rattle.guide_laws.proofs.ClosedLists.{IsClosed, some_closed}
-use Rattle.guide_laws.proofs.StepLaws.{children_of, step_of, step_is, step-sublist}
+use Rattle.dataguide.proofs.StepLaws.{children_of, step_of, step_is}
+use Rattle.guide_laws.proofs.StepLaws.{step-sublist}
 
 pub told_set : (a b : List Oid) → IsTold (a ≡ b)
 told_set = told_list told_oid
@@ -188,12 +188,3 @@ target_sets_exist names edges =
     let closed = some_closed told_set (IsTarget names edges) (arcs_of names edges (candidates names edges))
     (arcs_keep names edges (candidates names edges)) (starts names edges) (start_target names edges) in
     all_found names edges closed.0 closed.1
-
-pub more_sets_are_counted : MoreSetsAreCounted
-more_sets_are_counted limit names edges sets are = more-counted limit names edges sets are
-
-pub more_sets_are_told : MoreSetsAreTold
-more_sets_are_told limit names edges =
-    let all = target_sets_exist names edges in
-    let counted = more_sets_are_counted limit names edges all.0 all.1 in
-    told_same counted.1 counted.0 (told_below limit (length all.0))

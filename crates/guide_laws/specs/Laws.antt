@@ -1,9 +1,10 @@
--- Laws of target sets and guides: that they exist, and whether there are more of them than a limit.
-use Rattle.std.specs.Prelude.{◌⊎◌, ◌↔◌, ℕ, ◌<◌, List, length}
+-- Laws of target sets and guides: that they exist, and whether they keep the limits on a guide.
+use Rattle.std.specs.Prelude.{◌⊎◌, ◌↔◌, ℕ, List}
 use Rattle.lore_base.specs.Names.{IsNameTable}
 use Rattle.dataguide.specs.Types.{Oid, Edge}
-use Rattle.lore_base.specs.TargetSets.{AreTargetSets, AreMoreThan}
-use Rattle.dataguide.specs.PathOrder.{AreInPathOrder}
+use Rattle.lore_base.specs.TargetSets.{AreTargetSets}
+use Rattle.lore_base.specs.PathOrder.{AreInPathOrder}
+use Rattle.lore_base.specs.GuideLimits.{KeepLimits, FitsGuide, PassesNodes, PassesCells}
 use Rattle.dataguide.specs.Guides.{GuideGraph, StandsFor, IsOrderedGuide}
 
 -- there is a list of all sets that label paths lead to
@@ -12,17 +13,35 @@ TargetSetsExist =
     (names : List (List ℕ × Oid)) (edges : List Edge)
     → (sets : List (List Oid)) × AreTargetSets names edges sets
 
--- there are more sets than a limit exactly where the list of them all is longer
-abbrev pub MoreSetsAreCounted : Type 0
-MoreSetsAreCounted =
+-- a guide fits exactly where the list of all sets keeps the limits
+abbrev pub FitsAreCounted : Type 0
+FitsAreCounted =
     (limit : ℕ) (names : List (List ℕ × Oid)) (edges : List Edge) (sets : List (List Oid))
-    → AreTargetSets names edges sets → AreMoreThan limit names edges ↔ (limit < length sets)
+    → AreTargetSets names edges sets → FitsGuide limit names edges ↔ KeepLimits limit sets
 
--- there are more sets than a limit, or there aren't
-abbrev pub MoreSetsAreTold : Type 0
-MoreSetsAreTold =
+-- a guide fits, or it doesn't
+abbrev pub FitsAreTold : Type 0
+FitsAreTold =
     (limit : ℕ) (names : List (List ℕ × Oid)) (edges : List Edge)
-    → AreMoreThan limit names edges ⊎ (AreMoreThan limit names edges → ⊥)
+    → FitsGuide limit names edges ⊎ (FitsGuide limit names edges → ⊥)
+
+-- where a guide doesn't fit, it passes a limit
+abbrev pub GuidesFitOrPass : Type 0
+GuidesFitOrPass =
+    (limit : ℕ) (names : List (List ℕ × Oid)) (edges : List Edge) → IsNameTable names
+    → FitsGuide limit names edges ⊎ (PassesNodes limit names edges ⊎ PassesCells limit names edges)
+
+-- a guide that fits passes none
+abbrev pub FittingPassesNone : Type 0
+FittingPassesNone =
+    (limit : ℕ) (names : List (List ℕ × Oid)) (edges : List Edge) → FitsGuide limit names edges
+    → (PassesNodes limit names edges ⊎ PassesCells limit names edges) → ⊥
+
+-- and no guide passes both
+abbrev pub OneLimitIsPassed : Type 0
+OneLimitIsPassed =
+    (limit : ℕ) (names : List (List ℕ × Oid)) (edges : List Edge)
+    → PassesNodes limit names edges → PassesCells limit names edges → ⊥
 
 -- some guide stands for each database
 abbrev pub GuidesExist : Type 0

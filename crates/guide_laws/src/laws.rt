@@ -2,8 +2,11 @@
 
 ghost use Rattle.guide_laws.specs.Laws.{
   TargetSetsExist,
-  MoreSetsAreCounted,
-  MoreSetsAreTold,
+  FitsAreCounted,
+  FitsAreTold,
+  GuidesFitOrPass,
+  FittingPassesNone,
+  OneLimitIsPassed,
   GuidesExist,
   OrderedSetsExist,
   OrderedGuidesExist,
@@ -14,14 +17,29 @@ pub fn target_sets_exist()
     ensures { TargetSetsExist }
 {}
 
-/// Label paths lead to more sets than a limit exactly where the list of them all is longer.
-pub fn more_sets_are_counted()
-    ensures { MoreSetsAreCounted }
+/// A guide fits exactly where the list of all sets that label paths lead to keeps the limits.
+pub fn fits_are_counted()
+    ensures { FitsAreCounted }
 {}
 
-/// Label paths lead to more sets than a limit, or they don't.
-pub fn more_sets_are_told()
-    ensures { MoreSetsAreTold }
+/// A guide fits, or it doesn't.
+pub fn fits_are_told()
+    ensures { FitsAreTold }
+{}
+
+/// A guide fits, or the first set that passes a limit passes the one on nodes or the one on cells.
+pub fn guides_fit_or_pass()
+    ensures { GuidesFitOrPass }
+{}
+
+/// A guide that fits passes neither limit.
+pub fn fitting_passes_none()
+    ensures { FittingPassesNone }
+{}
+
+/// The first set that passes a limit passes one of them.
+pub fn one_limit_is_passed()
+    ensures { OneLimitIsPassed }
 {}
 
 /// A guide stands for each database.

@@ -10,7 +10,7 @@ use Rattle.lore_base.specs.Walks.{Walk, edge_of}
 use Rattle.lore_base.specs.TargetSets.{LabelPath, LeadsTo, IsTargetSet, IsStep}
 use Rattle.lore_base.proofs.MemberLaws.{Contains-none}
 use Rattle.lore_base.proofs.TargetLaws.{ListsInOrder-unique}
-use Rattle.dataguide.specs.PathOrder.{ComesBefore}
+use Rattle.lore_base.specs.PathOrder.{ComesBefore}
 use Rattle.dataguide.specs.Guides.{GuideGraph, sets_of, edge_at, node_number, HasSet, HasItsSteps, IsEntry}
 use Rattle.dataguide.specs.inside.Trails.{start_path, longer}
 use Rattle.dataguide.proofs.TargetSteps.{walks-leave, longer_words_step}

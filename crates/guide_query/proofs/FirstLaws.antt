@@ -6,7 +6,7 @@ use Rattle.std.proofs.lemmas.Bool.{cases_lt}
 use Rattle.std.proofs.lemmas.List.{length-map}
 use Rattle.std.proofs.lemmas.Option.{slice_get_within, slice_get-get_or}
 use Rattle.lore_base.specs.TargetSets.{LabelPath, LeadsTo, IsStep}
-use Rattle.dataguide.specs.PathOrder.{IsLeastPath, ComesBefore}
+use Rattle.lore_base.specs.PathOrder.{IsLeastPath, ComesBefore}
 use Rattle.dataguide.specs.Guides.{GuideGraph, sets_of, edge_at, node_number}
 use Rattle.dataguide.specs.inside.Trails.{start_path, longer, ComesUpTo}
 use Rattle.dataguide.proofs.OneGuide.{one-least}

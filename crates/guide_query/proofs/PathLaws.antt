@@ -18,7 +18,7 @@ use Rattle.lore_base.proofs.MemberLaws.{Contains-none, Contains-head, Contains-c
 use Rattle.lore_base.proofs.NameLaws.{bound_found}
 use Rattle.dataguide.specs.Guides.{GuideGraph, StandsFor, IsEntry, HasSet, HasEdge, sets_of, node_of}
 use Rattle.dataguide.proofs.PlaceLaws.{Contains-at, mapped, one-place, zip-left, zip-right}
-use Rattle.guide_laws.proofs.StepLaws.{step_of, step_is}
+use Rattle.dataguide.proofs.StepLaws.{step_of, step_is}
 use Rattle.guide_query.specs.Types.{Oid, Label, Edge, Node}
 use Rattle.guide_query.specs.PathLines.{IsWalkedTo}
 use Rattle.guide_query.specs.inside.PathNodes.{IsReadable, LeavesBy, IsNodeOf, GoesOnTo, HasComeTo}

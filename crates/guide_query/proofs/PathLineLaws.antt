@@ -13,7 +13,7 @@ use Rattle.dataguide.specs.Guides.{GuideGraph, StandsFor, HasItsSteps, HasSet, s
 use Rattle.dataguide.proofs.PlaceLaws.{Contains-at, at-unmap, mapped, unmapped}
 use Rattle.dataguide.proofs.StopLaws.{AllPairs-map}
 use Rattle.dataguide.proofs.DoneLaws.{some-member}
-use Rattle.guide_laws.proofs.StepLaws.{step_of, step_is}
+use Rattle.dataguide.proofs.StepLaws.{step_of, step_is}
 use Rattle.guide_query.specs.Types.{Oid, Label, Edge, Node, GuideNode, Value}
 use Rattle.guide_query.specs.GuideLines.{path_text, size_text}
 use Rattle.guide_query.specs.PathLines.{IsWalkedTo, IsSetOfPath, AreLabelsOf, IsLabelLine, AreBrowseLines}

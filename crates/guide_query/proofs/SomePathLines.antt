@@ -16,10 +16,9 @@ use Rattle.lore_base.proofs.MemberLaws.{Contains-none, Contains-head, Contains-t
 use Rattle.lore_base.proofs.NameLaws.{bound_found}
 use Rattle.oem_changes.proofs.AscentLaws.{some_ordered}
 use Rattle.oem_changes.proofs.ClosureLaws.{Contains-mapped}
-use Rattle.oem_changes.proofs.ToldLaws.{IsTold, told_same, told_both, told_some, told_oid, told_by, told_member, told_paired}
-use Rattle.oem_changes.proofs.ToldLaws.{told_bytes, passing, members_passing, AllPairs-passing}
-use Rattle.guide_laws.proofs.ListLaws.{numbers_ordered}
-use Rattle.guide_laws.proofs.StepLaws.{step_of, step_is}
+use Rattle.lore_base.proofs.ToldLaws.{IsTold, told_same, told_both, told_some, told_oid, told_by, told_member, told_paired}
+use Rattle.lore_base.proofs.ToldLaws.{told_bytes, passing, members_passing, AllPairs-passing}
+use Rattle.dataguide.proofs.StepLaws.{numbers_ordered, step_of, step_is}
 use Rattle.guide_query.specs.Types.{Oid, Label, Edge}
 use Rattle.guide_query.specs.GuideLines.{label_text, path_text, size_text}
 use Rattle.guide_query.specs.PathLines.{IsWalkedTo, IsSetOfPath, AreLabelsOf, IsLabelLine}

@@ -8,7 +8,7 @@ use Rattle.dataguide.specs.Guides.{GuideGraph, StandsFor, HasItsSteps, IsEntry, 
 use Rattle.dataguide.proofs.PlaceLaws.{Contains-at, at-Contains, at-map, at-unmap, zip-left}
 use Rattle.dataguide.proofs.StopLaws.{target-none}
 use Rattle.dataguide.proofs.TargetSteps.{step-target}
-use Rattle.guide_laws.proofs.StepLaws.{step_of, step_is}
+use Rattle.dataguide.proofs.StepLaws.{step_of, step_is}
 use Rattle.guide_query.specs.Types.{Oid, Label, Edge, Node, GuideNode}
 use Rattle.guide_query.specs.GuideReaches.{LeadsAlong, IsMember, TellsOf}
 use Rattle.guide_query.proofs.GuideWalkLaws.{member-set}

@@ -4,7 +4,7 @@ use Rattle.std.specs.List.{AllZip, flat_map}
 use Rattle.lore_base.specs.Names.{IsNameTable}
 pub use Rattle.lore_base.specs.Printed.{label_text}
 use Rattle.lore_base.specs.TargetSets.{LabelPath, HasTexts, AreTargetSets}
-use Rattle.dataguide.specs.PathOrder.{IsLeastPath, AreInPathOrder}
+use Rattle.lore_base.specs.PathOrder.{IsLeastPath, AreInPathOrder}
 use Rattle.dataguide.specs.Guides.{GuideGraph, IsOrderedGuide}
 use Rattle.guide_query.specs.Types.{Oid, Edge}
 

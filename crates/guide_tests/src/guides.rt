@@ -1,4 +1,5 @@
-ghost use Rattle.std.specs.Prelude.{◌≡◌, ◌<◌};
+ghost use Rattle.std.specs.Prelude.{◌≡◌, ◌<◌, IfOk};
+ghost use Rattle.lore_base.specs.Databases.{AreAscendingEdges};
 
 use crate::sets::set_of;
 use dataguide::{Guide, GuideFault, Node};
@@ -10,14 +11,14 @@ use std::sync::ledger::{Blank, Ledger};
 use std::test::Fail;
 
 // Names, each with the digit of its object, and edges as the digits of parent, label and child.
-type Shape = (&'static str, &'static str);
+pub(crate) type Shape = (&'static str, &'static str);
 
 // Two restaurants (0), each with a name (1) and a price (2). Objects are numbered otherwise than
 // paths are ordered.
-const RESTAURANTS: Shape = ("Guide8", "809 803 917 922 316 325");
+pub(crate) const RESTAURANTS: Shape = ("Guide8", "809 803 917 922 316 325");
 
 // A ring of two objects, and a third one that hangs on it.
-const RING: Shape = ("Guide1", "102 201 213");
+pub(crate) const RING: Shape = ("Guide1", "102 201 213");
 
 // Two names of one object, and an edge that no path reaches.
 const TWO_NAMES: Shape = ("Home4 Guide4", "104 414");
@@ -38,7 +39,7 @@ fn number(digit: u8) -> u32 {
     u32::from(digit.saturating_sub(b'0'))
 }
 
-fn names_of(alloc: Global, words: &str) -> Result<Names, NoMemory> {
+pub(crate) fn names_of(alloc: Global, words: &str) -> Result<Names, NoMemory> {
     let mut names = Names::new(alloc);
     for word in words.as_bytes().split(|byte| *byte == b' ') {
         if let Some((digit, name)) = word.split_last() {
@@ -48,7 +49,10 @@ fn names_of(alloc: Global, words: &str) -> Result<Names, NoMemory> {
     Ok(names)
 }
 
-fn graph_of(alloc: Global, words: &str) -> Result<NaiveEdges, NoMemory> {
+// The edges of a shape in order.
+pub(crate) fn edges_of(alloc: Global, words: &str) -> Result<EdgeBuf, NoMemory>
+    ensures { IfOk result AreAscendingEdges }
+{
     let mut edges = EdgeBuf::new(alloc);
     for word in words.as_bytes().split(|byte| *byte == b' ') {
         if let [parent, label, child] = word {
@@ -60,7 +64,7 @@ fn graph_of(alloc: Global, words: &str) -> Result<NaiveEdges, NoMemory> {
         }
     }
     edges.sort_set();
-    Ok(NaiveEdges::new(edges))
+    Ok(edges)
 }
 
 fn built<L: Ledger>(
@@ -73,7 +77,7 @@ fn built<L: Ledger>(
     requires parts { blank.parts ≡ L.parts }
     requires some { 0 < blank.parts }
 {
-    let graph = graph_of(alloc, shape.1)?;
+    let graph = NaiveEdges::new(edges_of(alloc, shape.1)?);
     let names = names_of(alloc, shape.0)?;
     Guide::build(alloc, &graph, &names, limit, &mut Steps::<L>::new(blank))
 }
@@ -147,7 +151,7 @@ fn sets_are_those_of_these_nodes(rt: HostRuntime) -> Result<(), Fail> {
 
 // The edges of the first ten nodes by their first four places: the digits of node, label and next
 // node, behind a 1.
-fn edges_by_place(guide: &Guide) -> u64 {
+pub(crate) fn edges_by_place(guide: &Guide) -> u64 {
     let mut edges = 1_u64;
     for at in 0..40 {
         if let Some((label, next)) = guide.labels_of(Node(at / 4), at % 4) {

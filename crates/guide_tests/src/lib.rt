@@ -1,10 +1,12 @@
 //! Tests of sets of objects, and of guides of small graphs: where they pass a limit, which node
-//! has a set, and their edges in order.
+//! has a set, their edges in order, and what they become after a change.
 //!
 //! Values are from outside the program. Whole scripts test what a guide tells of paths.
 #![tactic(auto)]
 
 #[cfg(test)]
 mod guides;
+#[cfg(test)]
+mod plans;
 #[cfg(test)]
 mod sets;

@@ -14,7 +14,8 @@ use Rattle.std.proofs.lemmas.Map.Views.{All-insert_key}
 use Rattle.lore_base.proofs.ListLaws.{AllPairs-unique, AllPairs-tail}
 use Rattle.lore_base.proofs.MemberLaws.{Contains-none, Contains-head, Contains-tail, Contains-cases, Contains-same}
 use Rattle.lore_base.specs.Databases.{AreAscendingObjects}
-use Rattle.index_traits.specs.Types.{Oid, Label, Edge, Value, Whole, Chars, Complex}
+use Rattle.lore_base.proofs.ToldLaws.{told_complex}
+use Rattle.index_traits.specs.Types.{Oid, Label, Edge, Value, Complex}
 use Rattle.index_traits.specs.declared.entries.ValueEntry.{ValueEntry}
 use Rattle.index_traits.specs.Entries.{link_cmp, entry_of, entry_cmp, IsValueEntry, AreValueEntries}
 use Rattle.index_laws.specs.EntryLaws.{LinksAreDetermined, EntriesAreDetermined, LinksExist, EntriesExist}
@@ -136,11 +137,6 @@ one_value objects ascend oid a b first second =
       ]
     ]
 
-complex_or_atom : (value : Value) → (value ≡ Complex) ⊎ (value ≢ Complex)
-complex_or_atom (Whole number) = inr (λ same. cc)
-complex_or_atom (Chars text) = inr (λ same. cc)
-complex_or_atom Complex = inl refl
-
 -- an object is live with an atomic value, or it has none
 atom_or_none : (objects : List (Oid × Value)) (oid : Oid)
     → ((value : Value) × Contains objects (oid, value) × (value ≢ Complex)) ⊎ ((value : Value) → Contains objects (oid, value) → value ≢ Complex → ⊥)
@@ -154,7 +150,7 @@ atom_or_none (object ∷ objects) oid = elim (atom_or_none objects oid) [
             let number : object.0.0 ≡ oid.0 = grind (arith, nat_tests) in
             let is : object ≡ (oid, object.1) = λ i. (same_oid object.0 oid number i, object.1) in
             let here = Contains-same (object ∷ objects) object (oid, object.1) is (Contains-head object objects) in
-            elim (complex_or_atom object.1) [
+            elim (told_complex object.1) [
               | inl complex ↦ inr (λ value at atom. elim (Contains-cases object objects (oid, value) at) [
                 | inl first ↦ atom (sym (ap (λ (o : Oid × Value). o.1) first) ∙ complex)
                 | inr later ↦ none value later atom

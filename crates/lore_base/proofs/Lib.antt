@@ -14,3 +14,4 @@ pub mod ValueLaws
 pub mod SpellLaws
 pub mod QuoteLaws
 pub mod WildcardLaws
+pub mod ToldLaws

@@ -3,7 +3,7 @@ use Rattle.std.specs.Prelude.{◌≢◌, ℕ, ◌+◌, ◌<◌, List, length, Co
 use Rattle.lore_base.specs.Types.{Oid, Edge, Value, Complex, Changes, Refusal}
 use Rattle.lore_base.specs.Types.{NEXT_NUMBER, LABELS, NAMES, OBJECTS, EDGES}
 use Rattle.lore_base.specs.Types.refusals
-use Rattle.lore_base.specs.TargetSets.{AreMoreThan}
+use Rattle.lore_base.specs.GuideLimits.{PassesNodes, PassesCells}
 use Rattle.lore_base.specs.Databases.{OemGraph, Database}
 use Rattle.lore_base.specs.ChangeSets.{HasChildren, IsGraphAfter}
 
@@ -43,9 +43,15 @@ ChangeCause labels graph changes _ = ⊥
 -- in the graph after the changes label paths lead to more sets than the limit
 abbrev pub LeadsToMore : OemGraph → Changes → ℕ → Type 0
 LeadsToMore graph changes limit =
-    (after : OemGraph) × IsGraphAfter graph changes after × AreMoreThan limit after.names after.edges
+    (after : OemGraph) × IsGraphAfter graph changes after × PassesNodes limit after.names after.edges
+
+-- here they lead to sets that have too many members, before there are more sets than the limit
+abbrev pub LeadsToLarger : OemGraph → Changes → ℕ → Type 0
+LeadsToLarger graph changes limit =
+    (after : OemGraph) × IsGraphAfter graph changes after × PassesCells limit after.names after.edges
 
 -- the cause of each refusal of changes of a database
 abbrev pub DatabaseCause : Database → Changes → Refusal → Type 0
 DatabaseCause db changes refusals.GuideNodes = LeadsToMore db.graph changes db.nodes
+DatabaseCause db changes refusals.GuideCells = LeadsToLarger db.graph changes db.nodes
 DatabaseCause db changes refusal = ChangeCause db.labels db.graph changes refusal

@@ -6,6 +6,7 @@ use Rattle.lore_base.specs.Types.{Oid, Label, Edge, Value, Complex, Changes, NEX
 use Rattle.lore_base.specs.Names.{IsName, IsLabel, IsNameTable}
 use Rattle.lore_base.specs.Walks.{Walk}
 use Rattle.lore_base.specs.Databases.{OemGraph, Database, IsLive, IsSized, AreAscendingObjects, AreAscendingEdges}
+use Rattle.lore_base.specs.Deltas.{IsOnlyIn}
 
 -- Names, objects and edges then.
 
@@ -130,10 +131,6 @@ pub record AreDead (before : OemGraph) (changes : Changes) (dead : List Oid) : T
       → IsLiveThen before.objects changes oid × (¬ IsReachedThen before.names changes between oid)
   pub stay : (oid : Oid) → IsLiveThen before.objects changes oid
       → Contains dead oid ⊎ IsReachedThen before.names changes between oid
-
--- the edge is in the first list and not in the second
-abbrev pub IsOnlyIn : List Edge → List Edge → Edge → Type 0
-IsOnlyIn edges others edge = Contains edges edge × (¬ Contains others edge)
 
 -- the edges then, with those of before that are lost and those that are fresh
 pub record IsOverlay (edges : List Edge) (changes : Changes) (between lost fresh : List Edge) : Type 0 where

@@ -1,12 +1,12 @@
 -- Databases: the graph of objects that names reach, its labels and its limits, and which of them are valid.
-use Rattle.std.specs.Prelude.{◌≡◌, ◌≢◌, ℕ, ◌<◌, ◌≤◌, List, [], length, FitsSigned, All, AllPairs, Contains}
+use Rattle.std.specs.Prelude.{◌≡◌, ◌≢◌, Bool, true, false, ℕ, ◌<◌, ◌≤◌, List, [], length, FitsSigned, All, AllPairs, Contains}
 use Rattle.std.specs.Int.{w64}
 use Rattle.std.specs.declared.cmp.Ordering.TheVariants.{Less}
-use Rattle.lore_base.specs.Types.{Oid, Label, Edge, Value, Whole, Chars, Complex, Mode, Auto}
-use Rattle.lore_base.specs.Types.{TEXT_BYTES, LABELS, NAMES, OBJECTS, EDGES, NEXT_NUMBER, NODES}
+use Rattle.lore_base.specs.Types.{Oid, Label, Edge, Value, Whole, Chars, Flag, Complex, Mode, Auto}
+use Rattle.lore_base.specs.Types.{TEXT_BYTES, LABELS, NAMES, OBJECTS, EDGES, NEXT_NUMBER, NODES, START_NODES}
 use Rattle.lore_base.specs.Names.{IsNameTable, IsName, IsLabel}
 use Rattle.lore_base.specs.Walks.{Walk, edge_cmp}
-use Rattle.lore_base.specs.TargetSets.{AreMoreThan}
+use Rattle.lore_base.specs.GuideLimits.{FitsGuide}
 
 -- the graph of a database: its names, objects and edges, and the number that the next object gets
 pub record OemGraph : Type 0 where
@@ -29,7 +29,12 @@ new_graph = record { names = []; objects = []; edges = []; next = 1 }
 
 -- the new database has nothing
 abbrev pub new_database : Database
-new_database = record { labels = []; graph = new_graph; nodes = NODES; mode = Auto }
+new_database = record { labels = []; graph = new_graph; nodes = START_NODES; mode = Auto }
+
+-- whether it is the value of a complex object
+abbrev pub is_complex : Value → Bool
+is_complex Complex = true
+is_complex value = false
 
 -- an object is live where it has a value
 abbrev pub IsLive : List (Oid × Value) → Oid → Type 0
@@ -42,6 +47,7 @@ IsComplex objects oid = Contains objects (oid, Complex)
 abbrev pub IsSized : Value → Type 0
 IsSized (Whole number) = FitsSigned w64 number
 IsSized (Chars text) = length text ≤ TEXT_BYTES
+IsSized (Flag flag) = Unit {0}
 IsSized Complex = Unit {0}
 
 -- objects ascend by their numbers, and edges by parent, label and child
@@ -80,22 +86,25 @@ pub record IsReached (names : List (List ℕ × Oid)) (edges : List Edge) (oid :
   pub named : Contains names (name, start)
   pub walked : Walk edges start word oid
 
--- the database is valid: distinct labels, a well-formed graph whose edges have labels of the table and whose
--- objects are all reached from names, and each limit kept, that on the sets that label paths lead to among them
-pub record IsValid (db : Database) : Type 0 where
+-- the graph of a valid database: well-formed, and each object reached from a name
+pub record IsRooted (graph : OemGraph) : Type 0 where
+  pub well_formed : IsWellFormed graph
+  pub reached : All (λ object. IsReached graph.names graph.edges object.0) graph.objects
+
+-- the database is valid, what its guide would be left aside: distinct labels, a rooted graph whose edges have labels of
+-- the table, and limits kept
+pub record IsRestorable (db : Database) : Type 0 where
   pub labels_distinct : AllPairs (λ a b. a ≢ b) db.labels
   pub labels_formed : All IsLabel db.labels
-  pub well_formed : IsWellFormed db.graph
+  pub rooted : IsRooted db.graph
   pub labelled : All (λ edge. edge.label.0 < length db.labels) db.graph.edges
-  pub reached : All (λ object. IsReached db.graph.names db.graph.edges object.0) db.graph.objects
   pub few_labels : length db.labels ≤ LABELS
   pub few_names : length db.graph.names ≤ NAMES
   pub few_objects : length db.graph.objects ≤ OBJECTS
   pub few_edges : length db.graph.edges ≤ EDGES
   pub nodes_limited : (1 ≤ db.nodes) × (db.nodes ≤ NODES)
-  pub few_sets : ¬ AreMoreThan db.nodes db.graph.names db.graph.edges
 
--- the graph of a valid database: well-formed, and each object reached from a name
-pub record IsRooted (graph : OemGraph) : Type 0 where
-  pub well_formed : IsWellFormed graph
-  pub reached : All (λ object. IsReached graph.names graph.edges object.0) graph.objects
+-- the database is valid: the sets of its guide keep their limits too
+pub record IsValid (db : Database) : Type 0 where
+  pub restorable : IsRestorable db
+  pub fits : FitsGuide db.nodes db.graph.names db.graph.edges

@@ -22,3 +22,7 @@ pub mod Databases
 pub mod TargetSets
 pub mod LeastWords
 pub mod ChangeSets
+pub mod PathOrder
+pub mod GuideLimits
+pub mod Deltas
+pub mod Restores

@@ -3,13 +3,15 @@ use Rattle.std.specs.Prelude.{ℕ, ◌==◌, List, ◌++◌, if◌then◌else◌
 use Rattle.std.specs.Map.{lookup}
 use Rattle.std.specs.Fmt.{signed_decimal}
 use Rattle.lore_base.specs.Names.{is_identifier}
-use Rattle.lore_base.specs.Types.{Oid, Value, Whole, Chars, Complex}
+use Rattle.lore_base.specs.Types.{Oid, Value, Whole, Chars, Flag, Complex}
 use Rattle.lore_base.specs.Quotes.{in_quotes}
+use Rattle.lore_base.specs.Comparisons.{flag_text}
 
--- a value: decimal digits, a text in quotes, or empty braces for any complex object
+-- a value: decimal digits, a text in quotes, `true` or `false`, or empty braces for any complex object
 abbrev pub printed : Value → List ℕ
 printed (Whole number) = signed_decimal number
 printed (Chars text) = in_quotes 34 text
+printed (Flag flag) = flag_text flag
 printed Complex = codes "{}"
 
 -- a label: bare where it is an identifier, a reserved word too, and else in single quotes with escapes

@@ -5,7 +5,8 @@ use Rattle.lore_base.specs.Types.{BadToken, RealRefused, NumberRange, TextTooLon
 use Rattle.lore_base.specs.Types.{UnknownName, UnknownVariable, DuplicateVariable, TooManyRanges}
 use Rattle.lore_base.specs.Types.{DuplicateLocal, UndefinedLocal, TooManyRows, NotOne, AtomicParent}
 use Rattle.lore_base.specs.Types.{HasChildren, OidsSpent, TooManyLabels, TooManyNames, TooManyObjects}
-use Rattle.lore_base.specs.Types.{TooManyEdges, GuideNodes, LimitRange, NotFresh, BadRestore}
+use Rattle.lore_base.specs.Types.{TooManyEdges, GuideNodes, LimitRange, NotFresh, BadRestore, GuideCells}
+use Rattle.lore_base.specs.Types.{HistoryFull, NoHistory, MomentRange, TooManyViews, UnknownView}
 
 -- the number that a reply shows
 abbrev pub number_of : Refusal → ℕ
@@ -34,6 +35,12 @@ number_of GuideNodes = 22
 number_of LimitRange = 23
 number_of NotFresh = 24
 number_of BadRestore = 25
+number_of GuideCells = 26
+number_of HistoryFull = 27
+number_of NoHistory = 28
+number_of MomentRange = 29
+number_of TooManyViews = 30
+number_of UnknownView = 31
 
 -- the name that a reply shows behind it
 abbrev pub text_of : Refusal → List ℕ
@@ -62,3 +69,9 @@ text_of GuideNodes = codes "GuideNodes"
 text_of LimitRange = codes "LimitRange"
 text_of NotFresh = codes "NotFresh"
 text_of BadRestore = codes "BadRestore"
+text_of GuideCells = codes "GuideCells"
+text_of HistoryFull = codes "HistoryFull"
+text_of NoHistory = codes "NoHistory"
+text_of MomentRange = codes "MomentRange"
+text_of TooManyViews = codes "TooManyViews"
+text_of UnknownView = codes "UnknownView"

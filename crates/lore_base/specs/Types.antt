@@ -4,7 +4,7 @@ pub use Rattle.lore_base.specs.declared.edges.Oid.{Oid}
 pub use Rattle.lore_base.specs.declared.edges.Label.{Label}
 pub use Rattle.lore_base.specs.declared.edges.Edge.{Edge}
 pub use Rattle.lore_base.specs.declared.values.Value.{Value}
-pub use Rattle.lore_base.specs.declared.values.Value.TheVariants.{Whole, Chars, Complex}
+pub use Rattle.lore_base.specs.declared.values.Value.TheVariants.{Whole, Chars, Flag, Complex}
 pub use Rattle.lore_base.specs.declared.modes.Mode.{Mode}
 pub use Rattle.lore_base.specs.declared.modes.Mode.TheVariants.{Auto, Top, Bottom, Guided}
 pub use Rattle.lore_base.specs.declared.operators.Op.{Op}
@@ -12,6 +12,8 @@ pub use Rattle.lore_base.specs.declared.operators.Op.TheVariants.{Eq, Ne, Lt, Le
 pub use Rattle.lore_base.specs.declared.paths.Pattern.{Pattern}
 pub use Rattle.lore_base.specs.declared.paths.Pattern.TheVariants.{Plain, Wild}
 pub use Rattle.lore_base.specs.declared.change_set.Changes.{Changes}
+pub use Rattle.lore_base.specs.declared.deltas.Delta.{Delta}
+pub use Rattle.lore_base.specs.declared.restored.Restored.{Restored}
 pub use Rattle.lore_base.specs.declared.refusals.Refusal.{Refusal}
 pub use Rattle.lore_base.specs.declared.refusals.Refusal.TheVariants as refusals
 pub use Rattle.lore_base.specs.declared.refusals.Refusal.TheVariants.{BadToken, RealRefused, NumberRange}
@@ -23,7 +25,12 @@ pub use Rattle.lore_base.specs.declared.refusals.Refusal.TheVariants.{TooManyRow
 pub use Rattle.lore_base.specs.declared.refusals.Refusal.TheVariants.{HasChildren, OidsSpent, TooManyLabels}
 pub use Rattle.lore_base.specs.declared.refusals.Refusal.TheVariants.{TooManyNames, TooManyObjects}
 pub use Rattle.lore_base.specs.declared.refusals.Refusal.TheVariants.{TooManyEdges, GuideNodes, LimitRange}
-pub use Rattle.lore_base.specs.declared.refusals.Refusal.TheVariants.{NotFresh, BadRestore}
+pub use Rattle.lore_base.specs.declared.refusals.Refusal.TheVariants.{NotFresh, BadRestore, GuideCells}
+pub use Rattle.lore_base.specs.declared.refusals.Refusal.TheVariants.{HistoryFull, NoHistory, MomentRange}
+pub use Rattle.lore_base.specs.declared.refusals.Refusal.TheVariants.{TooManyViews, UnknownView}
 pub use Rattle.lore_base.specs.declared.limits.TheConstants.{TEXT_BYTES, WORD_BYTES, LABELS, NAMES, OBJECTS, EDGES}
 pub use Rattle.lore_base.specs.declared.limits.TheConstants.{NEXT_NUMBER, NODES, NESTING, LEAVES, CHUNK_BYTES}
 pub use Rattle.lore_base.specs.declared.limits.TheConstants.{SCRIPT_BYTES, RANGES, ITEMS, ROWS, PATH_LABELS}
+pub use Rattle.lore_base.specs.declared.limits.TheConstants.{START_NODES, CELLS, SAMPLE, SEED}
+pub use Rattle.lore_base.specs.declared.limits.TheConstants.{FEWEST_PERSONS, MOST_PERSONS}
+pub use Rattle.lore_base.specs.declared.limits.TheConstants.{MOMENTS, HISTORY_WEIGHT, VIEWS}

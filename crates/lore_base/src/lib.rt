@@ -8,6 +8,7 @@
 
 pub use change_set::Changes;
 pub use decimals::read_whole;
+pub use deltas::Delta;
 pub use edges::{Edge, Label, Oid};
 pub use faults::Fault;
 pub use leaf_counts::{leaf_count, path_leaf_count};
@@ -22,12 +23,14 @@ pub use names::{is_identifier, is_name, is_reserved};
 pub use operators::Op;
 pub use paths::{LabelTest, Path, PathList, Pattern};
 pub use refusals::Refusal;
+pub use restored::Restored;
 pub use step_counter::Steps;
 pub use values::Value;
 pub use wildcards::{is_like, is_matched};
 
 mod change_set;
 mod decimals;
+mod deltas;
 mod edges;
 mod faults;
 pub mod laws;
@@ -40,6 +43,7 @@ mod names;
 mod operators;
 mod paths;
 mod refusals;
+mod restored;
 mod step_counter;
 mod values;
 mod wildcards;

@@ -1,5 +1,5 @@
 ghost use Rattle.std.specs.Prelude.{◌≡◌, ◌↔◌, ℕ, List, [], ◌++◌, length, map, Contains};
-ghost use Rattle.std.specs.Prelude.{IfOk, OnOk, OnErr};
+ghost use Rattle.std.specs.Prelude.{IfOk, OnOk, OnErr, IfSome, IfNone, Some, ◌≤◌, slice_get};
 ghost use Rattle.std.specs.Map.{keys_of, remove_entry};
 ghost use Rattle.std.specs.BTreeMap.{insert_entry, is_at};
 ghost use Rattle.lore_base.specs.Types.{Oid as TheOid};
@@ -57,6 +57,23 @@ impl Names {
         ensures { result ≡ object_of self.now name.now }
     {
         self.objects.get(name).copied()
+    }
+
+    /// The name at a place in the names' order, from 0 on, with its object; None exactly where there are
+    /// not so many names. Goes through the names before it.
+    pub fn get(&self, place: usize) -> Option<(&OemText, Oid)>
+        ensures some { IfSome result (λ entry.
+            slice_get self.now place ≡ Some (entry.0.now, entry.1)) }
+        ensures none { IfNone result (length self.now ≤ place) }
+    {
+        let mut before = 0;
+        'names: for (name, oid) in &self.objects {
+            if before == place {
+                return Some((name, *oid));
+            }
+            before += 1;
+        }
+        None
     }
 
     /// Binds the name, in place of an older binding.

@@ -55,6 +55,18 @@ pub enum Refusal {
     NotFresh,
     /// A dump stands for no valid database.
     BadRestore,
+    /// The sets of the guide would have too many members in all.
+    GuideCells,
+    /// The history would have too many moments, or too much weight.
+    HistoryFull,
+    /// No history is kept.
+    NoHistory,
+    /// The history has no such moment, or two stand in the wrong order.
+    MomentRange,
+    /// There would be too many views.
+    TooManyViews,
+    /// There is no such view.
+    UnknownView,
 }
 
 impl Refusal {
@@ -88,6 +100,12 @@ impl Refusal {
             Refusal::LimitRange => 23,
             Refusal::NotFresh => 24,
             Refusal::BadRestore => 25,
+            Refusal::GuideCells => 26,
+            Refusal::HistoryFull => 27,
+            Refusal::NoHistory => 28,
+            Refusal::MomentRange => 29,
+            Refusal::TooManyViews => 30,
+            Refusal::UnknownView => 31,
         }
     }
 
@@ -121,6 +139,12 @@ impl Refusal {
             Refusal::LimitRange => "LimitRange",
             Refusal::NotFresh => "NotFresh",
             Refusal::BadRestore => "BadRestore",
+            Refusal::GuideCells => "GuideCells",
+            Refusal::HistoryFull => "HistoryFull",
+            Refusal::NoHistory => "NoHistory",
+            Refusal::MomentRange => "MomentRange",
+            Refusal::TooManyViews => "TooManyViews",
+            Refusal::UnknownView => "UnknownView",
         }
     }
 }

@@ -11,7 +11,7 @@ use Rattle.lore_base.proofs.VerdictLaws.{clear_both}
 use Rattle.lorel_trees.specs.Trees as t
 use Rattle.lorel_trees.specs.Trees.{RootedTree, SelectTree, StatementTree, LiteralTree}
 use Rattle.lorel_bind.specs.Answers.{IsAnswer}
-use Rattle.lorel_bind.proofs.AnswerLaws.{has_one_answer}
+use Rattle.bind_laws.proofs.AnswerLaws.{has_one_answer}
 use Rattle.oem_labels.specs.Labels.{first_uses}
 use Rattle.oem_text.specs.Literals.{bodies, arcs_of, labels_of, edge_at}
 use Rattle.oem_text.specs.Parts as text
@@ -20,10 +20,10 @@ use Rattle.updates.specs.Causes.{IsUpdate}
 use Rattle.updates.proofs.RowLaws.{map_found}
 use Rattle.lore_db.specs.Types.{Oid, Edge, Value, Cell, Changes, Refusal, LABELS, NEXT_NUMBER}
 use Rattle.lore_db.specs.Types.refusals
-use Rattle.lore_db.specs.Forms.{reads, path_select, MakesChanges}
+use Rattle.lore_db.specs.Forms.{IsUnbuilt, reads, path_select, MakesChanges}
 use Rattle.lore_db.specs.Effects.{object_cells, pair_of, AreRowsOf, loading, naming, effects}
 use Rattle.lore_db.specs.Statements.{IsUnbound, IsOutOfRange, IsNotFresh, IsNoDump, ChangesCause, Cause, cause_order}
-use Rattle.lore_db.specs.inside.Stages.{bind_order, found_order, fit_order}
+use Rattle.lore_db.specs.inside.Stages.{bound_order, found_order, fit_order}
 use Rattle.lore_db.proofs.ObjectRowLaws.{one_lists}
 use Rattle.lore_db.proofs.LiteralLaws.{length-objects_of}
 use Rattle.lore_db.proofs.OrderLaws.{AreAlike, told_left, told_right, told_between, clear_between, clear_alike, told_alike}
@@ -35,7 +35,7 @@ abbrev pub locals : List Refusal
 locals = refusals.DuplicateLocal ∷ refusals.UndefinedLocal ∷ []
 
 abbrev pub sizes : List Refusal
-sizes = refusals.TooManyNames ∷ refusals.TooManyObjects ∷ refusals.TooManyEdges ∷ refusals.GuideNodes ∷ []
+sizes = refusals.TooManyNames ∷ refusals.TooManyObjects ∷ refusals.TooManyEdges ∷ refusals.GuideNodes ∷ refusals.GuideCells ∷ []
 
 abbrev pub late : List Refusal
 late = refusals.LimitRange ∷ refusals.NotFresh ∷ refusals.BadRestore ∷ []
@@ -77,7 +77,10 @@ module _ (db : Database) (statement : StatementTree) (rows : List (List Oid)) (a
     sizes_alike : AreAlike (DatabaseCause db changes) (Cause db statement) sizes
     sizes_alike = (
       given refusals.TooManyNames,
-      (given refusals.TooManyObjects, (given refusals.TooManyEdges, (given refusals.GuideNodes, tt))),
+      (
+        given refusals.TooManyObjects,
+        (given refusals.TooManyEdges, (given refusals.GuideNodes, (given refusals.GuideCells, tt))),
+      ),
     )
 
     -- how large the database gets is tried last, where the statement is a change
@@ -95,6 +98,18 @@ module _ (db : Database) (statement : StatementTree) (rows : List (List Oid)) (a
         (clear_both (Cause db statement) sizes late (clear_alike (DatabaseCause db changes) (Cause db statement) sizes sizes_alike h) within)
 
 -- ---- statements that make changes
+-- they are built
+pub changing_built : (statement : StatementTree) → MakesChanges statement → IsUnbuilt statement → ⊥
+changing_built (t.history on) changing unbuilt = changing
+changing_built (t.select_at moment query) changing unbuilt = changing
+changing_built (t.changes first last) changing unbuilt = changing
+changing_built t.blocks changing unbuilt = changing
+changing_built (t.blocks_of query) changing unbuilt = changing
+changing_built (t.watch name query) changing unbuilt = changing
+changing_built (t.unwatch name) changing unbuilt = changing
+changing_built (t.show name) changing unbuilt = changing
+changing_built _ changing unbuilt = unbuilt
+
 -- they have no number out of range, and restore nothing
 changing_within : (db : Database) (statement : StatementTree) → MakesChanges statement → IsOutOfRange db statement → ⊥
 changing_within db (t.set_nodes nodes) changing outside = changing
@@ -126,14 +141,14 @@ module _ (db : Database) (valid : IsValid db) (name : List ℕ) (literal : Liter
       let arc = map_found (edge_at db.graph.next table (bodies literal)) (arcs_of literal) adds.edge adds.added in
       let number : db.graph.next + arc.0.parent ≡ adds.edge.parent.0 = ap (λ (e : Edge). e.parent.0) arc.2 in
       let old = All-contains (λ (o : Oid × Value). (1 ≤ o.0.0) × (o.0.0 < db.graph.next)) db.graph.objects (adds.edge.parent, adds.value)
-      valid.well_formed.ordered.objects_numbered adds.valued in
+      valid.restorable.rooted.well_formed.ordered.objects_numbered adds.valued in
       omega (arith, number, old.1)
 
   no_value : HidesChildren db.graph (loading db name literal) → ⊥
   no_value hides = Contains-none (hides.oid, hides.value) hides.valued
 
-  load_binds : IsClear (Cause db load_tree) bind_order
-  load_binds = (λ h. elim h [ inl unbound ↦ unbound | inr unknown ↦ unknown ], (λ h. h, (λ h. h, (λ h. h, tt))))
+  load_binds : IsClear (Cause db load_tree) bound_order
+  load_binds = (λ h. h, (λ h. elim h [ inl unbound ↦ unbound | inr unknown ↦ unknown ], (λ h. h, (λ h. h, (λ h. h, tt)))))
 
   load_between : IsClear (Cause db load_tree) (refusals.TooManyRows ∷ refusals.NotOne ∷ refusals.AtomicParent ∷ refusals.HasChildren ∷ [])
   load_between = (λ h. h, (λ h. h, (λ h. made_anew h.1.2, (λ h. no_value h.1.2, tt))))
@@ -156,7 +171,7 @@ module _ (db : Database) (valid : IsValid db) (name : List ℕ) (literal : Liter
       let back = refusals.OidsSpent ∷ refusals.TooManyLabels ∷ [] in
       let middle = refusals.TooManyRows ∷ refusals.NotOne ∷ refusals.AtomicParent ∷ refusals.HasChildren ∷ [] in
       told_left (Cause db load_tree) fit_order (sizes ++ late) told
-      (told_right (Cause db load_tree) bind_order (locals ++ (middle ++ back)) told load_binds
+      (told_right (Cause db load_tree) bound_order (locals ++ (middle ++ back)) told load_binds
       (told_between (Cause db load_tree) locals middle back told load_between
       (told_alike (text.Cause db.labels db.graph.next literal) (Cause db load_tree) text.order told load_alike h)))
 
@@ -164,7 +179,7 @@ module _ (db : Database) (valid : IsValid db) (name : List ℕ) (literal : Liter
   load_clear h =
       let back = refusals.OidsSpent ∷ refusals.TooManyLabels ∷ [] in
       let middle = refusals.TooManyRows ∷ refusals.NotOne ∷ refusals.AtomicParent ∷ refusals.HasChildren ∷ [] in
-      clear_both (Cause db load_tree) bind_order (locals ++ (middle ++ back)) load_binds
+      clear_both (Cause db load_tree) bound_order (locals ++ (middle ++ back)) load_binds
       (clear_between (Cause db load_tree) locals middle back load_between
       (clear_alike (text.Cause db.labels db.graph.next literal) (Cause db load_tree) text.order load_alike h))
 
@@ -179,15 +194,15 @@ module _ (db : Database) (valid : IsValid db) where
   named_value name (row ∷ rows) hides = Contains-none (hides.oid, hides.value) hides.valued
 
   unspent : db.graph.next + 0 ≤ NEXT_NUMBER
-  unspent = omega (arith, valid.well_formed.ordered.next_numbered.1)
+  unspent = omega (arith, valid.restorable.rooted.well_formed.ordered.next_numbered.1)
 
   named_number : (name : List ℕ) (rows : List Pair) → NEXT_NUMBER < db.graph.next + length (naming name rows).made → ⊥
   named_number name [] over = omega (arith, over, unspent)
   named_number name (row ∷ rows) over = omega (arith, over, unspent)
 
   named_label : (name : List ℕ) (rows : List Pair) → LABELS < length db.labels + length (naming name rows).labels → ⊥
-  named_label name [] over = omega (arith, over, valid.few_labels)
-  named_label name (row ∷ rows) over = omega (arith, over, valid.few_labels)
+  named_label name [] over = omega (arith, over, valid.restorable.few_labels)
+  named_label name (row ∷ rows) over = omega (arith, over, valid.restorable.few_labels)
 
   -- binding a name has no cause of its own before the changes are made
   pub name_early : (name : List ℕ) (path : RootedTree) → IsClear (Cause db (t.bind name path)) early
@@ -207,20 +222,23 @@ module _ (db : Database) (valid : IsValid db) where
     λ h. (let adds = h.1.2 in Contains-none adds.edge adds.added),
     (
       λ h. (let hides = h.1.2 in Contains-none (hides.oid, hides.value) hides.valued),
-      (λ h. (let over = h.1.2 in omega (arith, over, unspent)), (λ h. (let over = h.1.2 in omega (arith, over, valid.few_labels)), tt)),
+      (λ h. (let over = h.1.2 in omega (arith, over, unspent)), (λ h. (let over = h.1.2 in omega (arith, over, valid.restorable.few_labels)), tt)),
     ),
   )
 
   pub unname_clear : (name : List ℕ) → (IsUnbound db (t.unname name) → ⊥) → IsClear (Cause db (t.unname name)) fit_order
   unname_clear name bound =
       let first : IsClear (Cause db (t.unname name)) (found_order ++ refusals.NotOne ∷ []) = (
-        λ h. elim h [ inl unbound ↦ bound unbound | inr unknown ↦ unknown ],
-        (λ h. h, (λ h. h, (λ h. h, (λ h. h, (λ h. h, (λ h. h, (λ h. h, tt))))))),
+        λ h. h,
+        (
+          λ h. elim h [ inl unbound ↦ bound unbound | inr unknown ↦ unknown ],
+          (λ h. h, (λ h. h, (λ h. h, (λ h. h, (λ h. h, (λ h. h, (λ h. h, tt))))))),
+        ),
       ) in
       clear_both (Cause db (t.unname name)) (found_order ++ refusals.NotOne ∷ []) early first (unnamed_early name)
 
   pub unname_told : (name : List ℕ) → IsUnbound db (t.unname name) → IsToldBy (Cause db (t.unname name)) cause_order (Some refusals.UnknownName)
-  unname_told name unbound = inl (inl unbound, refl)
+  unname_told name unbound = inr (λ h. h, inl (inl unbound, refl))
 
   -- the path has one object, or not
   pub name_clear : (name : List ℕ) (path : RootedTree) (rows : List (List Cell)) → IsAnswer db (path_select path) rows → length rows ≡ 1
@@ -243,6 +261,9 @@ update_changes (t.add_new target label literal tail) update = tt
 update_changes (t.add_link target label right tail) update = tt
 update_changes (t.remove target label right tail) update = tt
 update_changes _ update = absurd (update refl)
+
+pub update_built : (statement : StatementTree) → IsUpdate statement → IsUnbuilt statement → ⊥
+update_built statement update unbuilt = changing_built statement (update_changes statement update) unbuilt
 
 -- an update needs no name of its own
 pub update_names : (db : Database) (statement : StatementTree) → IsUpdate statement → IsUnbound db statement → ⊥

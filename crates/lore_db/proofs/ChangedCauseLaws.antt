@@ -27,6 +27,7 @@ caused labels graph a b same _ h = h
 
 database_caused : (db : Database) (a b : Changes) → AreSame a b → (refusal : Refusal) → DatabaseCause db a refusal → DatabaseCause db b refusal
 database_caused db a b same refusals.GuideNodes h = (h.0, IsGraphAfter-same a b same db.graph h.0 h.1, h.2)
+database_caused db a b same refusals.GuideCells h = (h.0, IsGraphAfter-same a b same db.graph h.0 h.1, h.2)
 database_caused db a b same refusal h = caused db.labels db.graph a b same refusal h
 
 pub cause_same : (db : Database) (a b : Changes) → AreSame a b → (refusal : Refusal) → DatabaseCause db a refusal ↔ DatabaseCause db b refusal

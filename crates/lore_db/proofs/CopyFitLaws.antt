@@ -122,6 +122,6 @@ module _ (db : Database) (valid : IsValid db) (literal : LiteralTree) where
       (All-weaker (λ (edge : Edge). IsComplexThen db.graph.objects changes edge.parent × IsLive made edge.child)
       (λ (edge : Edge). IsComplexThen db.graph.objects changes edge.parent × IsAtHand db.graph changes edge.child) (λ edge h. (h.0, inr h.1)) added
       (copies_linked literal defined (IsComplexThen db.graph.objects changes) made (λ oid h. inl h) next table label parents complex (λ object at. at)))
-      (labels_come_new db.labels texts valid.labels_distinct) (labels_come_once db.labels texts valid.labels_distinct)
+      (labels_come_new db.labels texts valid.restorable.labels_distinct) (labels_come_once db.labels texts valid.restorable.labels_distinct)
       (labels_come_formed db.labels texts all_formed) (at_most (length db.labels + length new) LABELS few)
       (copies_labelled next table label low (All-tail (Contains table) text (labels_of literal) there) parents)

@@ -16,7 +16,7 @@ use Rattle.lorel_bind.specs.Refusals.{HasUnknownName, HasUnknownVariable}
 use Rattle.updates.specs.Effects.{targets}
 use Rattle.updates.specs.Causes.{IsUpdate, HasTargets}
 use Rattle.updates.proofs.RowLaws.{map_holds}
-use Rattle.lore_db.specs.Types.{Oid}
+use Rattle.lore_db.specs.Types.{Oid, FEWEST_PERSONS, MOST_PERSONS}
 use Rattle.lore_db.specs.Forms.{MakesChanges}
 use Rattle.lore_db.specs.Effects.{object_cells, pair_of, AreRowsOf, effects}
 use Rattle.lore_db.specs.Statements.{Cause}
@@ -59,53 +59,53 @@ module _ (db : Database) (valid : IsValid db) where
   pub effects_fit : (statement : StatementTree) → IsFormedStatement statement → (rows : List (List Oid)) → AreRowsOf db statement rows
       → MakesChanges statement → IsClear (Cause db statement) fit_order → Fits db (effects db statement rows)
   effects_fit (t.load name literal) formed rows are changing
-      (known, (ranged, (twice, (many, (double, (undefined, (flood, (single, (atomic, (hidden, (spent, (full, end)))))))))))) =
+      (built, (known, (ranged, (twice, (many, (double, (undefined, (flood, (single, (atomic, (hidden, (spent, (full, end))))))))))))) =
       load_fits db valid name literal formed.0 formed.1 undefined
       (λ over. (let count = length-objects_of db.graph.next literal in spent (tt, (rows, are, omega (arith, over, count))))) (λ over. full (tt, (rows, are, over)))
   effects_fit (t.bind name path) formed rows are changing
-      (known, (ranged, (twice, (many, (double, (undefined, (flood, (single, (atomic, (hidden, (spent, (full, end)))))))))))) =
+      (built, (known, (ranged, (twice, (many, (double, (undefined, (flood, (single, (atomic, (hidden, (spent, (full, end))))))))))))) =
       name_fits db valid name (map pair_of rows) formed.0
       (one_targets db rows (one_celled path (record { ranges = []; cond = None }) rows are (λ h. known (inr h)) ranged))
   effects_fit (t.unname name) formed rows are changing
-      (known, (ranged, (twice, (many, (double, (undefined, (flood, (single, (atomic, (hidden, (spent, (full, end)))))))))))) =
-      unname_fits db valid name (bound_or_not db.graph.names name valid.well_formed.ordered.names_ascend (λ unbound. known (inl unbound)))
+      (built, (known, (ranged, (twice, (many, (double, (undefined, (flood, (single, (atomic, (hidden, (spent, (full, end))))))))))))) =
+      unname_fits db valid name (bound_or_not db.graph.names name valid.restorable.rooted.well_formed.ordered.names_ascend (λ unbound. known (inl unbound)))
   effects_fit (t.assign target value tail) formed (row ∷ rows) are changing
-      (known, (ranged, (twice, (many, (double, (undefined, (flood, (single, (atomic, (hidden, (spent, (full, end)))))))))))) =
+      (built, (known, (ranged, (twice, (many, (double, (undefined, (flood, (single, (atomic, (hidden, (spent, (full, end))))))))))))) =
       let cells = one_celled target tail (row ∷ rows) are (λ h. known (inr h)) ranged in
       assign_fits db valid value (targets (map pair_of (row ∷ rows))) formed.1
       (live_targets db (map pair_of (row ∷ rows)) (one_targets db (row ∷ rows) cells))
       (targets_once db (row ∷ rows) are.ascending cells) (λ hides. hidden (tt, (row ∷ rows, are, hides)))
   effects_fit (t.add_new target label literal tail) formed (row ∷ rows) are changing
-      (known, (ranged, (twice, (many, (double, (undefined, (flood, (single, (atomic, (hidden, (spent, (full, end)))))))))))) =
+      (built, (known, (ranged, (twice, (many, (double, (undefined, (flood, (single, (atomic, (hidden, (spent, (full, end))))))))))))) =
       let cells = one_celled target tail (row ∷ rows) are (λ h. known (inr h)) ranged in
       copy_fits db valid literal label (targets (map pair_of (row ∷ rows))) formed.1 formed.2 undefined
       (live_targets db (map pair_of (row ∷ rows)) (one_targets db (row ∷ rows) cells))
       (λ adds. atomic (tt, (row ∷ rows, are, adds))) (λ over. spent (tt, (row ∷ rows, are, over))) (λ over. full (tt, (row ∷ rows, are, over)))
   effects_fit (t.add_link target label right tail) formed (row ∷ rows) are changing
-      (known, (ranged, (twice, (many, (double, (undefined, (flood, (single, (atomic, (hidden, (spent, (full, end)))))))))))) =
+      (built, (known, (ranged, (twice, (many, (double, (undefined, (flood, (single, (atomic, (hidden, (spent, (full, end))))))))))))) =
       let cells = two_celled target tail (row ∷ rows) right are (λ h. known (inr h)) ranged in
       link_fits db valid label (map pair_of (row ∷ rows)) formed.1 (two_targets db (row ∷ rows) cells) (two_rights db (row ∷ rows) cells)
       (λ adds. atomic (tt, (row ∷ rows, are, adds))) (λ over. full (tt, (row ∷ rows, are, over)))
   effects_fit (t.remove target label right tail) formed (row ∷ rows) are changing
-      (known, (ranged, (twice, (many, (double, (undefined, (flood, (single, (atomic, (hidden, (spent, (full, end)))))))))))) =
+      (built, (known, (ranged, (twice, (many, (double, (undefined, (flood, (single, (atomic, (hidden, (spent, (full, end))))))))))))) =
       let cells = two_celled target tail (row ∷ rows) right are (λ h. known (inr h)) ranged in
       unlink_fits db valid label (map pair_of (row ∷ rows)) (two_targets db (row ∷ rows) cells) (two_rights db (row ∷ rows) cells)
   effects_fit (t.generate (pos seed) (pos count)) formed rows are changing clear =
-      let persons = pos_within 20 10000 count changing.1 in
-      generated_fits db valid seed count persons.0 persons.1 (λ over. clear.1.1.1.1.1.1.1.1.1.1.0 (changing, (rows, are, over)))
-      (λ over. clear.1.1.1.1.1.1.1.1.1.1.1.0 (changing, (rows, are, over)))
+      let persons = pos_within FEWEST_PERSONS MOST_PERSONS count changing.1 in
+      generated_fits db valid seed count persons.0 persons.1 (λ over. clear.1.1.1.1.1.1.1.1.1.1.1.0 (changing, (rows, are, over)))
+      (λ over. clear.1.1.1.1.1.1.1.1.1.1.1.1.0 (changing, (rows, are, over)))
   effects_fit statement formed [] are changing clear = nothing_fits db valid
   effects_fit statement formed (row ∷ rows) are changing clear = nothing_fits db valid
 
   -- the rows of an update have live targets
   pub rows_targets : (statement : StatementTree) → IsUpdate statement → (rows : List (List Oid)) → AreRowsOf db statement rows
       → IsClear (Cause db statement) found_order → HasTargets db.graph (map pair_of rows)
-  rows_targets (t.assign target value tail) update rows are (known, (ranged, others)) =
+  rows_targets (t.assign target value tail) update rows are (built, (known, (ranged, others))) =
       one_targets db rows (one_celled target tail rows are (λ h. known (inr h)) ranged)
-  rows_targets (t.add_new target label literal tail) update rows are (known, (ranged, others)) =
+  rows_targets (t.add_new target label literal tail) update rows are (built, (known, (ranged, others))) =
       one_targets db rows (one_celled target tail rows are (λ h. known (inr h)) ranged)
-  rows_targets (t.add_link target label right tail) update rows are (known, (ranged, others)) =
+  rows_targets (t.add_link target label right tail) update rows are (built, (known, (ranged, others))) =
       two_targets db rows (two_celled target tail rows right are (λ h. known (inr h)) ranged)
-  rows_targets (t.remove target label right tail) update rows are (known, (ranged, others)) =
+  rows_targets (t.remove target label right tail) update rows are (built, (known, (ranged, others))) =
       two_targets db rows (two_celled target tail rows right are (λ h. known (inr h)) ranged)
   rows_targets _ update rows are clear = absurd (update refl)

@@ -12,9 +12,9 @@ use Rattle.lorel_trees.specs.Trees as t
 use Rattle.lorel_trees.specs.Trees.{SelectTree, StatementTree}
 use Rattle.lorel_trees.specs.Formed.{IsFormedStatement}
 use Rattle.lorel_bind.specs.Answers.{IsAnswer}
-use Rattle.lore_db.specs.Types.{Cell, Changes, Refusal, Reply, Rows}
+use Rattle.lore_db.specs.Types.{Cell, Changes, Refusal, Reply, Rows, Refused}
 use Rattle.lore_db.specs.Types.refusals
-use Rattle.lore_db.specs.Forms.{MakesChanges}
+use Rattle.lore_db.specs.Forms.{IsUnbuilt, MakesChanges}
 use Rattle.lore_db.specs.Effects.{effects}
 use Rattle.lore_db.specs.Statements.{Cause, cause_order, Counts, MakesItsChanges, Performs, Executes}
 use Rattle.lore_db.specs.Uncounted.{ReadsNoEdge}
@@ -41,14 +41,14 @@ module _ (db : Database) (query : SelectTree) where
   select_performs rows clear answer =
       inl (
         clear_both (Cause db (t.select query)) found_order change_order
-            (read_clear db (t.select query) query refl (λ h. h) refl (no_locals db (t.select query) (λ h. h)) clear) select_behind,
+            (read_clear db (t.select query) query refl (λ h. h) (λ h. h) refl (no_locals db (t.select query) (λ h. h)) clear) select_behind,
         (refl, (rows, refl, answer)),
       )
 
   pub select_told : (told : Option Refusal) → IsToldBy (ReadCause db query) read_order told → IsToldBy (Cause db (t.select query)) cause_order told
   select_told told h =
       told_left (Cause db (t.select query)) found_order change_order told
-      (read_found db (t.select query) query refl (λ h. h) refl (no_locals db (t.select query) (λ h. h)) told h)
+      (read_found db (t.select query) query refl (λ h. h) (λ h. h) refl (no_locals db (t.select query) (λ h. h)) told h)
 
 -- ---- changes
 -- changes that are equal list the same
@@ -106,7 +106,20 @@ uncounted_change db (t.sample start labels count) form quiet changing = form
 uncounted_change db (t.set_nodes nodes) form quiet changing = form
 uncounted_change db (t.set_plan mode) form quiet changing = form
 uncounted_change db (t.generate seed count) form quiet changing = quiet changing
+uncounted_change db (t.history on) form quiet changing = form
+uncounted_change db (t.select_at moment query) form quiet changing = form
+uncounted_change db (t.changes first last) form quiet changing = form
+uncounted_change db t.blocks form quiet changing = form
+uncounted_change db (t.blocks_of query) form quiet changing = form
+uncounted_change db (t.watch name query) form quiet changing = form
+uncounted_change db (t.unwatch name) form quiet changing = form
+uncounted_change db (t.show name) form quiet changing = form
 uncounted_change db _ form quiet changing = quiet
+
+-- ---- forms that aren't built
+-- they are refused, and change nothing
+pub unbuilt_refused : (db : Database) (statement : StatementTree) → IsUnbuilt statement → Executes db statement (Refused refusals.Syntax) db
+unbuilt_refused db statement unbuilt = inr (refusals.Syntax, inl (unbuilt, refl), (refl, refl))
 
 -- ---- replies
 -- what stays is the same, whatever the answer

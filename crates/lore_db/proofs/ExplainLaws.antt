@@ -7,8 +7,8 @@ use Rattle.lorel_trees.specs.Trees as t
 use Rattle.lorel_trees.specs.Trees.{SelectTree, StatementTree}
 use Rattle.oem_changes.proofs.CountLaws.{distinct_as_long}
 use Rattle.index_laws.proofs.SortedEntries.{entries_are_determined}
-use Rattle.lorel_bind.specs.Bound.{BoundTree}
-use Rattle.lorel_bind.proofs.BindingLaws.{has_one_binding}
+use Rattle.lorel_bound.specs.Bound.{BoundTree}
+use Rattle.bind_laws.proofs.BindingLaws.{has_one_binding}
 use Rattle.planner.specs.Choices.{AreCounts, kind_by}
 use Rattle.planner.proofs.OneLaws.{has_one_count}
 use Rattle.lore_base.specs.Paths.{Reaches}
@@ -16,7 +16,7 @@ use Rattle.lore_db.specs.Types.{ValueEntry, PlanKind, Refusal, Reply, PlanShown}
 use Rattle.lore_db.specs.Types.refusals
 use Rattle.lore_db.specs.Plans.{AreCountsOver, IsKindOver, ShowsPlan}
 use Rattle.lore_db.specs.Statements.{Cause, cause_order, Explains, Executes}
-use Rattle.lore_db.specs.inside.Stages.{ReadCause, bind_order}
+use Rattle.lore_db.specs.inside.Stages.{ReadCause, bind_order, bound_order}
 use Rattle.lore_db.proofs.CauseLaws.{locals, early, sizes, late}
 use Rattle.lore_db.proofs.QuietLaws.{behind_binding}
 use Rattle.lore_db.proofs.ReadLaws.{read_bound}
@@ -31,7 +31,7 @@ module _ (db : Database) (query : SelectTree) where
 
   explain_clear : IsClear (ReadCause db query) bind_order → IsClear (Cause db tree) cause_order
   explain_clear clear =
-      clear_both (Cause db tree) bind_order (behind ++ late) (read_bound db tree query refl (λ h. h) clear)
+      clear_both (Cause db tree) bound_order (behind ++ late) (read_bound db tree query refl (λ h. h) (λ h. h) clear)
       (clear_both (Cause db tree) behind late (behind_binding db tree (λ h. h) refl) (λ h. h, (λ h. h, (λ h. h, tt))))
 
   pub explained : (reply : Reply) → IsClear (ReadCause db query) bind_order → ShowsPlan db query reply → Executes db tree reply db

@@ -11,6 +11,7 @@ use Rattle.std.proofs.lemmas.List.Elements.{All-nil, All-cons, All-weaker, All-m
 use Rattle.std.proofs.lemmas.List.Kept.{AllPairs-filter}
 use Rattle.lore_base.specs.Names.{IsName, IsLabel, IsNameTable}
 use Rattle.lore_base.specs.Walks.{oid_of, edge_of}
+use Rattle.lore_base.proofs.ToldLaws.{told_complex}
 use Rattle.lore_base.specs.Databases.{OemGraph, Database, IsLive, IsComplex, IsSized, IsLinked, IsValid}
 use Rattle.lore_base.specs.ChangeSets.{IsBound, HasChildren, AreNumberedFrom, IsAtHand, IsComplexThen, Fits}
 use Rattle.lore_base.specs.ChangeCauses.{AddsToAtom, HidesChildren}
@@ -24,7 +25,7 @@ use Rattle.oem_text.specs.Literals.{Arc, bodies, arcs_of, labels_of, HasUndefine
 use Rattle.updates.specs.Effects.{Pair, no_changes, is_atomic, takers, assigning, links, linking, unlinking}
 use Rattle.updates.proofs.RowLaws.{map_holds, link_found, link_holds}
 use Rattle.lore_db.specs.Effects.{loading, naming, unnaming}
-use Rattle.lore_db.specs.Types.{Oid, Label, Edge, Value, Whole, Chars, Complex, Changes, LABELS, NEXT_NUMBER}
+use Rattle.lore_db.specs.Types.{Oid, Label, Edge, Value, Whole, Chars, Flag, Complex, Changes, LABELS, NEXT_NUMBER}
 use Rattle.lore_db.proofs.LabelFitLaws.{labels_come_new, labels_come_once, labels_come_formed, place_below, labels_there}
 use Rattle.lore_db.proofs.LiteralLaws.{values_of, numbered_on, length-objects_of, objects_sized, labels_formed, edges_linked, first_live}
 
@@ -39,25 +40,20 @@ pub one_name : (name : List ℕ) (oid : Oid) → IsNameTable ((name, oid) ∷ []
 unfolding IsStrictlySortedBy
 one_name name oid = (tt, tt)
 
-pub told_or_complex : (value : Value) → (value ≡ Complex) ⊎ (value ≢ Complex)
-told_or_complex (Whole number) = inr (λ same. cc)
-told_or_complex (Chars text) = inr (λ same. cc)
-told_or_complex Complex = inl refl
-
 pub at_most : (count limit : ℕ) → (limit < count → ⊥) → count ≤ limit
 at_most count limit few = elim (cases_lt limit count) [ inl many ↦ absurd (few many) | inr low ↦ low ]
 
 -- a live parent of an added edge is complex where no edge is added to an atomic object
 pub complex_parent : (graph : OemGraph) (changes : Changes) → (AddsToAtom graph changes → ⊥) → (edge : Edge) → Contains changes.added edge
     → IsLive graph.objects edge.parent → IsComplex graph.objects edge.parent
-complex_parent graph changes unatomic edge at live = elim (told_or_complex live.0) [
+complex_parent graph changes unatomic edge at live = elim (told_complex live.0) [
   | inl complex ↦ subst (λ (value : Value). Contains graph.objects (edge.parent, value)) complex live.1
   | inr atomic ↦ absurd (unatomic (record { edge = edge; value = live.0; added = at; valued = live.1; atomic = atomic }))
 ]
 
 module _ (db : Database) (valid : IsValid db) where
   next_low : db.graph.next ≤ NEXT_NUMBER
-  next_low = valid.well_formed.ordered.next_numbered.1
+  next_low = valid.restorable.rooted.well_formed.ordered.next_numbered.1
 
   -- what gives no value and takes nothing away
   module _ (made : List (Oid × Value)) (added : List Edge) (named : List (List ℕ × Oid)) (labels : List (List ℕ)) where
@@ -105,7 +101,7 @@ module _ (db : Database) (valid : IsValid db) where
       (formed, inl live) (All-nil (λ (entry : List ℕ × Oid). IsName entry.0 × IsAtHand db.graph (growing [] [] ((name, oid) ∷ []) []) entry.1)))
       (All-nil (λ (edge : Edge). IsComplexThen db.graph.objects (growing [] [] ((name, oid) ∷ []) []) edge.parent
       × IsAtHand db.graph (growing [] [] ((name, oid) ∷ []) []) edge.child))
-      no_text (AllPairs-nil (λ (a b : List ℕ). a ≢ b)) (All-nil IsLabel) (omega (arith, valid.few_labels))
+      no_text (AllPairs-nil (λ (a b : List ℕ). a ≢ b)) (All-nil IsLabel) (omega (arith, valid.restorable.few_labels))
       (All-nil (λ (edge : Edge). edge.label.0 < length (db.labels ++ [])))
 
   pub nothing_fits : Fits db no_changes
@@ -113,7 +109,7 @@ module _ (db : Database) (valid : IsValid db) where
       growing_fits [] [] [] [] tt (omega (arith, next_low)) (All-nil (λ (object : Oid × Value). IsSized object.1)) no_names
       (All-nil (λ (entry : List ℕ × Oid). IsName entry.0 × IsAtHand db.graph no_changes entry.1))
       (All-nil (λ (edge : Edge). IsComplexThen db.graph.objects no_changes edge.parent × IsAtHand db.graph no_changes edge.child))
-      no_text (AllPairs-nil (λ (a b : List ℕ). a ≢ b)) (All-nil IsLabel) (omega (arith, valid.few_labels))
+      no_text (AllPairs-nil (λ (a b : List ℕ). a ≢ b)) (All-nil IsLabel) (omega (arith, valid.restorable.few_labels))
       (All-nil (λ (edge : Edge). edge.label.0 < length (db.labels ++ [])))
 
   -- the name of the first row
@@ -142,7 +138,7 @@ module _ (db : Database) (valid : IsValid db) where
     labels_new = no_text;
     labels_distinct = AllPairs-nil (λ (a b : List ℕ). a ≢ b);
     labels_formed = All-nil IsLabel;
-    few_labels = omega (arith, valid.few_labels);
+    few_labels = omega (arith, valid.restorable.few_labels);
     added_labelled = All-nil (λ (edge : Edge). edge.label.0 < length (db.labels ++ []));
     removed_labelled = All-nil (λ (edge : Edge). edge.label.0 < length (db.labels ++ []));
   }
@@ -150,7 +146,7 @@ module _ (db : Database) (valid : IsValid db) where
   -- ---- values
   unhidden : (value : Value) (oids : List Oid) → (HidesChildren db.graph (assigning db.graph.objects value oids) → ⊥) → (oid : Oid)
       → Contains (takers db.graph.objects value oids) oid → (value ≡ Complex) ⊎ (¬ HasChildren db.graph.edges oid)
-  unhidden value oids shown oid at = elim (told_or_complex value) [
+  unhidden value oids shown oid at = elim (told_complex value) [
     | inl complex ↦ inl complex
     | inr atomic ↦ inr (λ parent. shown (record {
       oid = oid;
@@ -164,11 +160,13 @@ module _ (db : Database) (valid : IsValid db) where
   taken : (P : Oid → Type 0) (value : Value) (oids : List Oid) → All P oids → All P (takers db.graph.objects value oids)
   taken P (Whole number) oids h = h
   taken P (Chars text) oids h = h
+  taken P (Flag flag) oids h = h
   taken P Complex oids h = All-filter (is_atomic db.graph.objects) P oids h
 
   taken_once : (value : Value) (oids : List Oid) → AllPairs (λ a b. a ≢ b) oids → AllPairs (λ a b. a ≢ b) (takers db.graph.objects value oids)
   taken_once (Whole number) oids h = h
   taken_once (Chars text) oids h = h
+  taken_once (Flag flag) oids h = h
   taken_once Complex oids h = AllPairs-filter (λ (a b : Oid). a ≢ b) (is_atomic db.graph.objects) oids h
 
   paired_once : (value : Value) (oids : List Oid) → AllPairs (λ a b. a ≢ b) oids → AllPairs (λ (a b : Oid × Value). a.0 ≢ b.0) (map (λ oid. (oid, value)) oids)
@@ -207,7 +205,7 @@ module _ (db : Database) (valid : IsValid db) where
         labels_new = no_text;
         labels_distinct = AllPairs-nil (λ (a b : List ℕ). a ≢ b);
         labels_formed = All-nil IsLabel;
-        few_labels = omega (arith, valid.few_labels);
+        few_labels = omega (arith, valid.restorable.few_labels);
         added_labelled = All-nil (λ (edge : Edge). edge.label.0 < length (db.labels ++ []));
         removed_labelled = All-nil (λ (edge : Edge). edge.label.0 < length (db.labels ++ []));
       }
@@ -251,7 +249,7 @@ module _ (db : Database) (valid : IsValid db) where
         )),
         inl (right_live rows right parent child at),
       )))
-      (labels_come_new db.labels (text ∷ []) valid.labels_distinct) (labels_come_once db.labels (text ∷ []) valid.labels_distinct)
+      (labels_come_new db.labels (text ∷ []) valid.restorable.labels_distinct) (labels_come_once db.labels (text ∷ []) valid.restorable.labels_distinct)
       (labels_come_formed db.labels (text ∷ []) one) (at_most (length db.labels + length new) LABELS few)
       (linked_rows (λ (edge : Edge). edge.label.0 < length table) label rows (λ parent child at. low))
 
@@ -293,7 +291,7 @@ module _ (db : Database) (valid : IsValid db) where
         labels_new = no_text;
         labels_distinct = AllPairs-nil (λ (a b : List ℕ). a ≢ b);
         labels_formed = All-nil IsLabel;
-        few_labels = omega (arith, valid.few_labels);
+        few_labels = omega (arith, valid.restorable.few_labels);
         added_labelled = All-nil (λ (edge : Edge). edge.label.0 < length (db.labels ++ []));
         removed_labelled = unlinked_rows (λ (edge : Edge). edge.label.0 < length (db.labels ++ [])) text rows
             (λ known parent child at. omega (arith, place_below db.labels text known, longer));
@@ -326,6 +324,6 @@ module _ (db : Database) (valid : IsValid db) where
       (word, inr (first_live db.graph.next literal defined)) (All-nil (λ (entry : List ℕ × Oid). IsName entry.0 × IsAtHand db.graph changes entry.1)))
       (All-weaker (IsLinked made) (λ (edge : Edge). IsComplexThen db.graph.objects changes edge.parent × IsAtHand db.graph changes edge.child)
       (λ edge linked. (inl linked.parent, inr linked.child)) added (edges_linked made db.graph.next table literal defined (λ object at. at)))
-      (labels_come_new db.labels (labels_of literal) valid.labels_distinct) (labels_come_once db.labels (labels_of literal) valid.labels_distinct)
+      (labels_come_new db.labels (labels_of literal) valid.restorable.labels_distinct) (labels_come_once db.labels (labels_of literal) valid.restorable.labels_distinct)
       (labels_come_formed db.labels (labels_of literal) (labels_formed literal formed)) (at_most (length db.labels + length new) LABELS few)
       (arcs_labelled db.graph.next table literal (labels_there db.labels (labels_of literal)))

@@ -1,6 +1,6 @@
 -- Generated objects as a load: what refuses them, and what they change.
 use Rattle.std.proofs.Common.{◌≡◌, inl, inr, ℕ, ◌+◌, ◌<◌, ◌≤◌, List, [], ◌∷◌, ◌++◌, Option, refl, ap, subst, ◌∙◌, arith}
-use Rattle.std.specs.Prelude.{ℤ, pos, ◌^◌, codes}
+use Rattle.std.specs.Prelude.{ℤ, pos, codes}
 use Rattle.std.proofs.lemmas.List.Elements.{All-contains}
 use Rattle.lore_base.specs.Databases.{Database, IsValid}
 use Rattle.lore_base.specs.ChangeCauses.{AddsToAtom, HidesChildren}
@@ -15,13 +15,13 @@ use Rattle.oem_text.specs.Generated.{generated_values, generated_arcs, generated
 use Rattle.oem_text.specs.declared.parts.Part.{Part}
 use Rattle.oem_text.proofs.GeneratedPlaces.{generated_length}
 use Rattle.updates.proofs.RowLaws.{map_found}
-use Rattle.lore_db.specs.Types.{Oid, Edge, Value, Changes, Refusal}
+use Rattle.lore_db.specs.Types.{Oid, Edge, Value, Changes, Refusal, SEED, FEWEST_PERSONS, MOST_PERSONS}
 use Rattle.lore_db.specs.Types.refusals
 use Rattle.lore_db.specs.Forms.{AreGenerable}
 use Rattle.lore_db.specs.Effects.{generating}
 use Rattle.lore_db.specs.Statements.{Cause, cause_order}
 use Rattle.lore_db.specs.inside.Listed.{ListsChanges}
-use Rattle.lore_db.specs.inside.Stages.{loading_part, bind_order, fit_order}
+use Rattle.lore_db.specs.inside.Stages.{loading_part, bound_order, fit_order}
 use Rattle.lore_db.proofs.LiteralLaws.{length-numbered}
 use Rattle.lore_db.proofs.OrderLaws.{AreAlike, told_left, told_right, clear_alike, told_alike}
 use Rattle.lore_db.proofs.CauseLaws.{sizes, late}
@@ -41,14 +41,14 @@ module _ (db : Database) (valid : IsValid db) (seed count : ℕ) (within : AreGe
       let arc = map_found (edge_from db.graph.next table) (generated_arcs count) adds.edge adds.added in
       let number : db.graph.next + arc.0.parent ≡ adds.edge.parent.0 = ap (λ (e : Edge). e.parent.0) arc.2 in
       let old = All-contains (λ (o : Oid × Value). (1 ≤ o.0.0) × (o.0.0 < db.graph.next)) db.graph.objects (adds.edge.parent, adds.value)
-      valid.well_formed.ordered.objects_numbered adds.valued in
+      valid.restorable.rooted.well_formed.ordered.objects_numbered adds.valued in
       omega (arith, number, old.1)
 
   no_value : HidesChildren db.graph (generating db seed count) → ⊥
   no_value hides = Contains-none (hides.oid, hides.value) hides.valued
 
-  binds : IsClear (Cause db tree) bind_order
-  binds = (λ h. elim h [ inl unbound ↦ unbound | inr unknown ↦ unknown ], (λ h. h, (λ h. h, (λ h. h, tt))))
+  binds : IsClear (Cause db tree) bound_order
+  binds = (λ h. h, (λ h. elim h [ inl unbound ↦ unbound | inr unknown ↦ unknown ], (λ h. h, (λ h. h, (λ h. h, tt)))))
 
   abbrev middle : List Refusal
   middle =
@@ -69,13 +69,13 @@ module _ (db : Database) (valid : IsValid db) (seed count : ℕ) (within : AreGe
       → IsToldBy (Cause db tree) cause_order told
   generate_told told h =
       told_left (Cause db tree) fit_order (sizes ++ late) told
-      (told_right (Cause db tree) bind_order (middle ++ generated_order) told binds
+      (told_right (Cause db tree) bound_order (middle ++ generated_order) told binds
       (told_right (Cause db tree) middle generated_order told between
       (told_alike (GeneratedCause db.labels db.graph.next count) (Cause db tree) generated_order told alike h)))
 
   generate_clear : IsClear (GeneratedCause db.labels db.graph.next count) generated_order → IsClear (Cause db tree) fit_order
   generate_clear h =
-      clear_both (Cause db tree) bind_order (middle ++ generated_order) binds
+      clear_both (Cause db tree) bound_order (middle ++ generated_order) binds
       (clear_both (Cause db tree) middle generated_order between
       (clear_alike (GeneratedCause db.labels db.graph.next count) (Cause db tree) generated_order alike h))
 
@@ -95,7 +95,7 @@ module _ (db : Database) (valid : IsValid db) (seed count : ℕ) (within : AreGe
 
 -- ---- by a seed and a number that were tested
 module _ (db : Database) (valid : IsValid db) (seed count : ℤ) (own size : ℕ) (is_seed : seed ≡ pos own) (is_count : count ≡ pos size)
-    (low : own < 2 ^ 31) (few : 20 ≤ size) (many : size ≤ 10000)
+    (low : own ≤ SEED) (few : FEWEST_PERSONS ≤ size) (many : size ≤ MOST_PERSONS)
     (labels : List (List ℕ)) (next : ℕ) (table : labels ≡ db.labels) (number : next ≡ db.graph.next) where
   within : AreGenerable (pos own) (pos size)
   within = generable own size low few many

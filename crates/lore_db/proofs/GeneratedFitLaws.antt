@@ -12,7 +12,7 @@ use Rattle.oem_text.specs.Literals.{numbered}
 use Rattle.oem_text.specs.Layouts.{edges_from}
 use Rattle.oem_text.specs.Generated.{generated_values, generated_labels, generated_layout}
 use Rattle.oem_text.proofs.GeneratedSound.{generated_sound, labels_formed, numbered_linked}
-use Rattle.lore_db.specs.Types.{Oid, Edge, LABELS, NEXT_NUMBER}
+use Rattle.lore_db.specs.Types.{Oid, Edge, LABELS, NEXT_NUMBER, FEWEST_PERSONS, MOST_PERSONS}
 use Rattle.lore_db.specs.Effects.{generating}
 use Rattle.lore_db.proofs.LabelFitLaws.{labels_come_new, labels_come_once, labels_come_formed, labels_there}
 use Rattle.lore_db.proofs.LiteralLaws.{numbered_on}
@@ -21,7 +21,7 @@ use Rattle.lore_db.proofs.FitLaws.{one_name, at_most, growing_fits}
 people_named : IsName (codes "People")
 people_named = record { identifier = (refl, refl); unreserved = refl; sized = omega arith }
 
-pub generated_fits : (db : Database) → IsValid db → (seed count : ℕ) → 20 ≤ count → count ≤ 10000
+pub generated_fits : (db : Database) → IsValid db → (seed count : ℕ) → FEWEST_PERSONS ≤ count → count ≤ MOST_PERSONS
     → (NEXT_NUMBER < db.graph.next + length (numbered db.graph.next (generated_values seed count)) → ⊥)
     → (LABELS < length db.labels + length (first_uses db.labels generated_labels) → ⊥) → Fits db (generating db seed count)
 generated_fits db valid seed count least most unspent few =
@@ -40,5 +40,5 @@ generated_fits db valid seed count least most unspent few =
     (All-nil (λ (entry : List ℕ × Oid). IsName entry.0 × IsAtHand db.graph changes entry.1)))
     (All-weaker (IsLinked made) (λ (edge : Edge). IsComplexThen db.graph.objects changes edge.parent × IsAtHand db.graph changes edge.child)
     (λ edge linked. (inl linked.parent, inr linked.child)) added sound.linked)
-    (labels_come_new db.labels generated_labels valid.labels_distinct) (labels_come_once db.labels generated_labels valid.labels_distinct)
+    (labels_come_new db.labels generated_labels valid.restorable.labels_distinct) (labels_come_once db.labels generated_labels valid.restorable.labels_distinct)
     (labels_come_formed db.labels generated_labels labels_formed) (at_most (length db.labels + length new) LABELS few) sound.labelled

@@ -1,20 +1,17 @@
--- The guide as a statement, and its limit: neither is refused for what other statements are; what a store's guide tells;
--- and what is told of a limit.
-use Rattle.std.proofs.Common.{◌≡◌, inl, inr, ℕ, List, ◌++◌, Some, None}
-use Rattle.std.proofs.Common.{Result, Ok, Err, IfOk, refl, sym, ap, subst, ◌∙◌, length, arith}
-use Rattle.std.specs.Prelude.{ℤ, pos, negsuc, IfErr, OnOk}
+-- The guide as a statement, and its limit: neither is refused for what other statements are; and what a store's guide tells.
+use Rattle.std.proofs.Common.{◌≡◌, inl, ℕ, List, ◌++◌, Some, None}
+use Rattle.std.proofs.Common.{Result, Ok, Err, IfOk, refl, sym, ap, subst, ◌∙◌, length}
+use Rattle.std.specs.Prelude.{ℤ, IfErr, OnOk}
 use Rattle.std.proofs.lemmas.List.{length-map}
 use Rattle.lore_base.specs.Databases.{Database, IsValid}
 use Rattle.lore_base.specs.Verdicts.{IsClear, IsToldBy}
 use Rattle.lore_base.proofs.VerdictLaws.{clear_both}
 use Rattle.lorel_trees.specs.Trees as t
-use Rattle.oem_changes.proofs.ToldLaws.{IsTold, told_below}
-use Rattle.guide_laws.proofs.TargetSetLaws.{more_sets_are_told}
 use Rattle.dataguide.specs.declared.nodes.GuideNode.{GuideNode}
 use Rattle.dataguide.specs.Guides.{GuideGraph, sets_of}
 use Rattle.guide_query.specs.GuideLines.{IsLabelledGuide, AreGuideLines}
-use Rattle.lore_store.specs.Stores.{IsGuided, IsLimit}
-use Rattle.lore_db.specs.Types.{Oid, Edge, NODES, Reply, Changed}
+use Rattle.lore_store.specs.Stores.{IsGuided}
+use Rattle.lore_db.specs.Types.{Oid, Edge, Reply, Changed}
 use Rattle.lore_db.specs.Types.refusals
 use Rattle.lore_db.specs.Statements.{IsNoLimit, Cause, cause_order, Counts, Shows, Limits, Executes}
 use Rattle.lore_db.specs.inside.Stages.{fit_order}
@@ -23,16 +20,15 @@ use Rattle.lore_db.specs.declared.stops.Stop.{Stop}
 use Rattle.lore_db.proofs.OrderLaws.{told_right}
 use Rattle.lore_db.proofs.CauseLaws.{sizes, late}
 use Rattle.lore_db.proofs.QuietLaws.{nothing_before}
-use Rattle.lore_db.proofs.RangeLaws.{no_count}
 
 -- ---- what refuses them
 module _ (db : Database) where
   pub guide_clear : IsClear (Cause db t.guide) cause_order
-  guide_clear = clear_both (Cause db t.guide) (fit_order ++ sizes) late (nothing_before db t.guide (λ h. h) (λ h. h) refl refl) (λ h. h, (λ h. h, (λ h. h, tt)))
+  guide_clear = clear_both (Cause db t.guide) (fit_order ++ sizes) late (nothing_before db t.guide (λ h. h) (λ h. h) (λ h. h) refl refl) (λ h. h, (λ h. h, (λ h. h, tt)))
 
 module _ (db : Database) (nodes : ℤ) where
   nodes_before : IsClear (Cause db (t.set_nodes nodes)) (fit_order ++ sizes)
-  nodes_before = nothing_before db (t.set_nodes nodes) (λ h. h) (λ h. h) refl refl
+  nodes_before = nothing_before db (t.set_nodes nodes) (λ h. h) (λ h. h) (λ h. h) refl refl
 
   pub nodes_clear : (IsNoLimit db nodes → ⊥) → IsClear (Cause db (t.set_nodes nodes)) cause_order
   nodes_clear limit = clear_both (Cause db (t.set_nodes nodes)) (fit_order ++ sizes) late nodes_before (limit, (λ h. h, (λ h. h, tt)))
@@ -78,7 +74,7 @@ counted db guide guided reply is = (
 -- and they are shown, with names and label texts that are the database's
 module _ (db : Database) (valid : IsValid db) (guide : GuideGraph) (guided : IsGuided db.graph guide) where
   pub shown_guide : IsLabelledGuide guide db.labels db.graph.names db.graph.edges
-  shown_guide = record { ordered = guided; table = valid.well_formed.ordered.names_ascend; labelled = valid.labelled }
+  shown_guide = record { ordered = guided; table = valid.restorable.rooted.well_formed.ordered.names_ascend; labelled = valid.restorable.labelled }
 
   pub shown_lines : (labels : List (List ℕ)) (names : List (List ℕ × Oid)) → labels ≡ db.labels → names ≡ db.graph.names
       → (lines : List (List ℕ)) → ((edges : List Edge) → IsLabelledGuide guide labels names edges → AreGuideLines names edges labels lines)
@@ -88,42 +84,3 @@ module _ (db : Database) (valid : IsValid db) (guide : GuideGraph) (guided : IsG
       IsLabelledGuide guide l n db.graph.edges → AreGuideLines n db.graph.edges l lines in
       subst (λ (n : List (List ℕ × Oid)). Given db.labels n) bound
       (subst (λ (l : List (List ℕ)). Given l names) texts (gives db.graph.edges)) shown_guide
-
--- ---- what is told of a limit
-told_limit : (db : Database) (limit : ℕ) → IsTold (IsLimit db limit)
-told_limit db limit = elim (told_below limit 1) [
-  | inl low ↦ inr (λ is. omega (arith, low, is.low))
-  | inr low ↦ elim (told_below NODES limit) [
-    | inl high ↦ inr (λ is. omega (arith, high, is.high))
-    | inr high ↦ elim (more_sets_are_told limit db.graph.names db.graph.edges) [
-      | inl more ↦ inr (λ is. is.few more)
-      | inr few ↦ inl (record { low = omega (arith, low); high = omega (arith, high); few = few })
-    ]
-  ]
-]
-
--- a number is one limit, or none
-pub no_limit : (db : Database) (limit : ℕ) → (IsLimit db limit → ⊥) → IsNoLimit db (pos limit)
-no_limit db limit none other is =
-    let same : limit ≡ other = cc in
-    subst (λ (n : ℕ). IsLimit db n → ⊥) same none
-
-pub told_no_limit : (db : Database) (nodes : ℤ) → IsTold (IsNoLimit db nodes)
-told_no_limit db (pos limit) = elim (told_limit db limit) [
-  | inl is ↦ inr (λ none. none limit refl is)
-  | inr none ↦ inl (no_limit db limit none)
-]
-told_no_limit db (negsuc number) = inl (λ limit is. absurd (no_count number limit is))
-
--- the limit that a number is
-pub record GivesLimit (db : Database) (nodes : ℤ) : Type 0 where
-  pub limit : ℕ
-  pub is : nodes ≡ pos limit
-  pub within : IsLimit db limit
-
-pub some_limit : (db : Database) (nodes : ℤ) → (IsNoLimit db nodes → ⊥) → GivesLimit db nodes
-some_limit db (pos limit) within = elim (told_limit db limit) [
-  | inl is ↦ record { limit = limit; is = refl; within = is }
-  | inr none ↦ absurd (within (no_limit db limit none))
-]
-some_limit db (negsuc number) within = absurd (within (λ limit is. absurd (no_count number limit is)))

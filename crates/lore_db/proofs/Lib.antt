@@ -27,13 +27,7 @@ pub mod PathStatementLaws
 pub mod DumpStatementLaws
 pub mod NamingLaws
 pub mod UpdatingLaws
-pub mod TurnLaws
-pub mod LocalToldLaws
 pub mod PlanLaws
 pub mod ExplainLaws
 pub mod QuietPlanLaws
 pub mod ViewLaws
-pub mod BottomLaws
-pub mod SomePlanLaws
-pub mod OneReplyLaws
-pub mod SomeReplyLaws

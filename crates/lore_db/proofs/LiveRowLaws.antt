@@ -17,14 +17,14 @@ use Rattle.lorel_trees.specs.Trees.{RootedTree, TailTree, SelectTree}
 use Rattle.lorel_trees.specs.UpdateRows.{target_select, pair_select}
 use Rattle.lorel_ranges.specs.Places.{Place, scope_of, place_of, cell_places}
 use Rattle.lorel_ranges.specs.Ranges.{Range, places, ArePlain}
-use Rattle.lorel_bind.specs.Answers.{Leads, IsValuation, IsRow, row_cmp}
+use Rattle.lorel_bind.specs.Answers.{Leads, IsValuation, IsRow}
+use Rattle.lorel_bound.specs.CellOrder.{row_cmp, rows_total}
 use Rattle.lorel_ranges.specs.Texts.{text_places, ranged_identifiers}
 use Rattle.lorel_bind.specs.Refusals.{StartsNowhere, HasUnknownName, HasUnknownVariable}
 use Rattle.lorel_ranges.specs.inside.Orders.{AreOrdered}
-use Rattle.lorel_bind.proofs.AnswerLaws.{row_cmp_total}
 use Rattle.lorel_ranges.proofs.PlainLaws.{plain_ordered}
 use Rattle.lorel_bind.proofs.RootLaws.{IsBoundName, IsKnown, known_found, names_bound, plain_roots, cells_known}
-use Rattle.lorel_ranges.proofs.ToldLaws.{told_member, told_bytes}
+use Rattle.lore_base.proofs.ToldLaws.{told_member, told_bytes}
 use Rattle.updates.specs.Effects.{Pair, targets}
 use Rattle.updates.proofs.RowLaws.{map_found, map_holds}
 use Rattle.lore_db.specs.Types.{Oid, Label, Cell}
@@ -59,7 +59,7 @@ module _ (db : Database) (valid : IsValid db) (query : SelectTree) (somewhere : 
         let here : at place ≡ h.1 = ap at h.2 ∙ valuation.named h.0 h.1 h.3 in
         let entry = found_bound db.graph.names h.0 h.1 h.3 in
         subst (IsLive db.graph.objects) (sym here)
-        (All-contains (λ (e : List ℕ × Oid). IsLive db.graph.objects e.1) db.graph.names (h.0, h.1) valid.well_formed.names_live entry)
+        (All-contains (λ (e : List ℕ × Oid). IsLive db.graph.objects e.1) db.graph.names (h.0, h.1) valid.restorable.rooted.well_formed.names_live entry)
 
     ranges_live : (earlier : List Place) (ranges : List Range) → AreOrdered earlier ranges
         → All (λ range. IsBoundName db.graph.names range.start.root) ranges
@@ -71,7 +71,7 @@ module _ (db : Database) (valid : IsValid db) (query : SelectTree) (somewhere : 
     ranges_live earlier (range ∷ others) ordered names reached live place there =
         let known = known_found db.graph.names earlier range.start ordered.0.found (All-head (λ (r : Range). IsBoundName db.graph.names r.start.root) range others names) in
         let leads = All-head (λ (r : Range). Leads db r.parts (at r.start) (at r.place)) range others reached in
-        let own = walk_live db.graph valid.well_formed (at range.start) (place_live earlier live range.start known) leads.0 (at range.place) leads.2 in
+        let own = walk_live db.graph valid.restorable.rooted.well_formed (at range.start) (place_live earlier live range.start known) leads.0 (at range.place) leads.2 in
         let all : (earlier ++ range.place ∷ []) ++ places others ≡ earlier ++ places (range ∷ others) = append_assoc earlier (range.place ∷ []) (places others) in
         ranges_live (earlier ++ range.place ∷ []) others ordered.1
         (All-tail (λ (r : Range). IsBoundName db.graph.names r.start.root) range others names)
@@ -165,7 +165,7 @@ live_targets db rows live = All-map (IsLive db.graph.objects) (λ (row : Pair). 
 -- no row comes before itself
 no_loop : (row : List Cell) → row_cmp row row ≡ Less → ⊥
 no_loop row below =
-    let flip = row_cmp_total.antisymm row row in
+    let flip = rows_total.antisymm row row in
     let apart : Less ≡ Greater = sym below ∙ flip ∙ ap ordering_reverse below in
     cc
 

@@ -1,6 +1,6 @@
 -- Orders of refusals in parts: what is told of a part is told of the whole, also where causes that don't apply come
 -- between; and the same causes in other words.
-use Rattle.std.proofs.Common.{◌↔◌, inl, inr, List, [], ◌∷◌, ◌++◌, Option, Some, None}
+use Rattle.std.proofs.Common.{◌↔◌, ◌⊎◌, inl, inr, List, [], ◌∷◌, ◌++◌, Option, Some, None}
 use Rattle.lore_base.specs.Verdicts.{IsFirst, IsClear, IsToldBy}
 use Rattle.lore_base.proofs.VerdictLaws.{first_left, first_right, clear_left, clear_right, clear_both}
 use Rattle.lore_db.specs.Types.{Refusal}
@@ -14,6 +14,16 @@ module _ (Applies : Refusal → Type 0) where
       → IsToldBy Applies (front ++ back) told
   told_right front back None clear h = tt
   told_right front back (Some refusal) clear h = first_right Applies front back refusal clear h
+
+  -- the first of a list in two parts is the first of the one, or none of these applies and it is the first of the other
+  pub first_split : (front back : List Refusal) (first : Refusal) → IsFirst Applies (front ++ back) first
+      → IsFirst Applies front first ⊎ (IsClear Applies front × IsFirst Applies back first)
+  first_split [] back first h = inr (tt, h)
+  first_split (next ∷ front) back first (inl h) = inl (inl h)
+  first_split (next ∷ front) back first (inr h) = elim (first_split front back first h.1) [
+    | inl own ↦ inl (inr (h.0, own))
+    | inr behind ↦ inr ((h.0, behind.0), behind.1)
+  ]
 
   -- causes that don't apply, between others
   first_between : (front middle back : List Refusal) (first : Refusal) → IsClear Applies middle → IsFirst Applies (front ++ back) first

@@ -20,9 +20,9 @@ use Rattle.lore_store.specs.Stores.{IsGuided}
 use Rattle.lorel_trees.specs.Trees.{SelectTree}
 use Rattle.lorel_ranges.specs.Places.{Place}
 use Rattle.lorel_ranges.specs.Ranges.{Range}
-use Rattle.lorel_bind.specs.Bound.{RangeTree, BoundTree}
+use Rattle.lorel_bound.specs.Bound.{RangeTree, BoundTree}
 use Rattle.lorel_bind.specs.Bindings.{StandsFor as StandsForPlace, IsBoundRange, IsBinding}
-use Rattle.lorel_bind.specs.Plans.{IsChain}
+use Rattle.lorel_bound.specs.Plans.{IsChain}
 use Rattle.index_traits.specs.Entries.{AreValueEntries}
 use Rattle.planner.specs.Choices.{AreCounts}
 use Rattle.lore_db.specs.Types.{Oid, Edge, Value, ValueEntry, Start}
@@ -97,8 +97,8 @@ module _ (db : Database) (valid : IsValid db) (told : GuideOver) (stands : Stand
       let set = reached.member.0 in
       let led = (stands.nodes.exact set).0 (Contains-at (sets_of told.guide.nodes) reached.last.0 set reached.member.1) in
       let walked = (led.1.target.exact oid).0 reached.member.2 in
-      walk_live db.graph valid.well_formed led.1.start
-      (All-contains (λ (e : List ℕ × Oid). IsLive db.graph.objects e.1) db.graph.names (led.0.name, led.1.start) valid.well_formed.names_live led.1.named)
+      walk_live db.graph valid.restorable.rooted.well_formed led.1.start
+      (All-contains (λ (e : List ℕ × Oid). IsLive db.graph.objects e.1) db.graph.names (led.0.name, led.1.start) valid.restorable.rooted.well_formed.names_live led.1.named)
       led.0.word oid walked
 
   -- so no path tells more objects than there are
@@ -123,7 +123,7 @@ module _ (db : Database) (valid : IsValid db) (bound : BoundTree) (starts_named 
   counts_over labels texts read candidates found counted =
       let along = counts_told labels entries told db.graph.names db.graph.edges tells bound starts_named candidates found counted in
       record {
-        apart = valid.labels_distinct;
+        apart = valid.restorable.labels_distinct;
         entries = entries;
         are_entries = are;
         counted =

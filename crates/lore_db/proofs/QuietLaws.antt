@@ -1,5 +1,5 @@
 -- Statements that make no changes: what they are not refused for.
-use Rattle.std.proofs.Common.{◌≡◌, inl, inr, ◌∷◌, ◌++◌, Option, None, subst}
+use Rattle.std.proofs.Common.{◌≡◌, inl, inr, List, ◌∷◌, ◌++◌, Option, None, subst}
 use Rattle.std.specs.Prelude.{MatchOption}
 use Rattle.lore_base.specs.Databases.{Database}
 use Rattle.lore_base.specs.Verdicts.{IsClear}
@@ -9,8 +9,8 @@ use Rattle.lorel_bind.specs.Refusals as binding
 use Rattle.oem_text.specs.Literals.{HasDouble, HasUndefined}
 use Rattle.lore_db.specs.Types.{Refusal}
 use Rattle.lore_db.specs.Types.refusals
-use Rattle.lore_db.specs.Forms.{reads, binds, MakesChanges}
-use Rattle.lore_db.specs.Statements.{IsUnbound, HasTooManyRows, IsNotOne, ChangesCause, OfBinds, OfReads, OfMakes, Cause}
+use Rattle.lore_db.specs.Forms.{IsUnbuilt, reads, binds, MakesChanges}
+use Rattle.lore_db.specs.Statements.{IsUnbound, HasTooManyRows, IsNotOne, ChangesCause, OfBinds, OfCounted, OfMakes, Cause}
 use Rattle.lore_db.specs.inside.Stages.{fit_order}
 use Rattle.lore_db.proofs.CauseLaws.{locals, early, sizes}
 
@@ -23,6 +23,17 @@ making_changes : (statement : StatementTree) (Has : LiteralTree → Type 0) → 
 making_changes (t.load name literal) Has has = tt
 making_changes (t.add_new target label literal tail) Has has = tt
 making_changes _ Has has = absurd has
+
+-- what is tried behind a name that isn't bound, up to how large the database gets
+abbrev behind_order : List Refusal
+behind_order =
+    refusals.UnknownVariable ∷ refusals.DuplicateVariable ∷ refusals.TooManyRanges
+    ∷ (locals ++ (refusals.TooManyRows ∷ refusals.NotOne ∷ (early ++ sizes)))
+
+-- rows that are counted are those of what is read
+pub counted_read : (statement : StatementTree) (Has : SelectTree → Type 0) → OfCounted statement Has → MatchOption (reads statement) ⊥ Has
+counted_read (t.bind name path) Has h = absurd h
+counted_read _ Has h = h
 
 module _ (db : Database) (statement : StatementTree) (quiet : MakesChanges statement → ⊥) where
   caused : (refusal : Refusal) → ChangesCause db statement refusal → ⊥
@@ -47,7 +58,10 @@ module _ (db : Database) (statement : StatementTree) (quiet : MakesChanges state
             caused refusals.TooManyLabels,
             (
               caused refusals.TooManyNames,
-              (caused refusals.TooManyObjects, (caused refusals.TooManyEdges, (caused refusals.GuideNodes, tt))),
+              (
+                caused refusals.TooManyObjects,
+                (caused refusals.TooManyEdges, (caused refusals.GuideNodes, (caused refusals.GuideCells, tt))),
+              ),
             ),
           ),
         ),
@@ -57,28 +71,32 @@ module _ (db : Database) (statement : StatementTree) (quiet : MakesChanges state
 
   -- what reads nothing either is refused for no row
   module _ (reading : reads statement ≡ None) where
-    unread : OfReads statement (HasTooManyRows db) → ⊥
-    unread h = subst (λ (o : Option SelectTree). MatchOption o ⊥ (HasTooManyRows db)) reading h
+    unread : OfCounted statement (HasTooManyRows db) → ⊥
+    unread h = subst (λ (o : Option SelectTree). MatchOption o ⊥ (HasTooManyRows db)) reading (counted_read statement (HasTooManyRows db) h)
 
     pub behind_binding : IsClear (Cause db statement) (locals ++ (refusals.TooManyRows ∷ refusals.NotOne ∷ (early ++ sizes)))
     behind_binding = (no_locals.0, (no_locals.1.0, (unread, no_changes)))
 
   -- what binds nothing either is refused for no cause before its own
-  module _ (named : IsUnbound db statement → ⊥) (unbound_select : binds statement ≡ None) (reading : reads statement ≡ None) where
+  module _ (built : IsUnbuilt statement → ⊥) (named : IsUnbound db statement → ⊥) (unbound_select : binds statement ≡ None)
+      (reading : reads statement ≡ None) where
     unbound : (Has : SelectTree → Type 0) → OfBinds statement Has → ⊥
     unbound Has h = subst (λ (o : Option SelectTree). MatchOption o ⊥ Has) unbound_select h
 
-    pub nothing_before : IsClear (Cause db statement) (fit_order ++ sizes)
-    nothing_before = (
-      λ h. elim h [
-        | inl nameless ↦ named nameless
-        | inr unknown ↦ unbound (λ query. binding.Cause db.graph.names query refusals.UnknownName) unknown
-      ],
+    nameless : Cause db statement refusals.UnknownName → ⊥
+    nameless h = elim h [
+      | inl missing ↦ named missing
+      | inr unknown ↦ unbound (λ query. binding.Cause db.graph.names query refusals.UnknownName) unknown
+    ]
+
+    behind_name : IsClear (Cause db statement) behind_order
+    behind_name = (
+      unbound (λ query. binding.Cause db.graph.names query refusals.UnknownVariable),
       (
-        unbound (λ query. binding.Cause db.graph.names query refusals.UnknownVariable),
-        (
-          unbound (λ query. binding.Cause db.graph.names query refusals.DuplicateVariable),
-          (unbound (λ query. binding.Cause db.graph.names query refusals.TooManyRanges), behind_binding reading),
-        ),
+        unbound (λ query. binding.Cause db.graph.names query refusals.DuplicateVariable),
+        (unbound (λ query. binding.Cause db.graph.names query refusals.TooManyRanges), behind_binding reading),
       ),
     )
+
+    pub nothing_before : IsClear (Cause db statement) (fit_order ++ sizes)
+    nothing_before = (built, (nameless, behind_name))

@@ -10,12 +10,13 @@ use Rattle.lore_base.proofs.MemberLaws.{Contains-none}
 use Rattle.lorel_trees.specs.Trees.{SelectTree}
 use Rattle.index_traits.specs.Entries.{AreValueEntries}
 use Rattle.index_laws.proofs.SortedEntries.{entries_are_determined}
-use Rattle.lorel_ranges.specs.Conditions.{CondOf}
-use Rattle.lorel_bind.specs.Bound.{RangeTree, BoundPathTree, BoundTree}
-use Rattle.lorel_bind.specs.Bindings.{IsBinding, IsWithin, AreInOrder, IsRunnable}
-use Rattle.lorel_bind.specs.SlotRows.{ShowsObjects}
-use Rattle.lorel_bind.specs.Plans.{Probe, StepTree, from_value, steps_of, IsChain, IsCandidate, tests, along, guided_step, bottom_steps, AreBottomSteps, AreStepsOf, IsPlanOf}
-use Rattle.lorel_bind.proofs.BindingLaws.{has_one_binding}
+use Rattle.lorel_bound.specs.Conditions.{CondOf}
+use Rattle.lorel_bound.specs.Bound.{RangeTree, BoundPathTree, BoundTree}
+use Rattle.lorel_bind.specs.Bindings.{IsBinding}
+use Rattle.lorel_bound.specs.Runnable.{IsWithin, AreInOrder, IsRunnable}
+use Rattle.lorel_bound.specs.SlotRows.{ShowsObjects}
+use Rattle.lorel_bound.specs.Plans.{Probe, StepTree, from_value, steps_of, IsChain, IsCandidate, tests, along, guided_step, bottom_steps, AreBottomSteps, AreStepsOf, IsPlanOf}
+use Rattle.bind_laws.proofs.BindingLaws.{has_one_binding}
 use Rattle.planner.specs.Choices.{IsGivenCount, AreCounted}
 use Rattle.planner.proofs.OneLaws.{has_one_plan}
 use Rattle.plan_ops.specs.Steps.{StepsOver, Meets, Finishes, in_eight, IsSought, Agrees}

@@ -1,10 +1,11 @@
 -- The numbers of a statement: whether they are in their ranges, and so whether it makes changes.
-use Rattle.std.proofs.Common.{◌≡◌, ℕ, ◌<◌, ◌≤◌, ◌^◌, inl, inr, refl, subst, arith}
+use Rattle.std.proofs.Common.{◌≡◌, ℕ, ◌≤◌, inl, inr, refl, subst, arith}
 use Rattle.std.specs.Prelude.{ℤ, pos, negsuc}
 use Rattle.lore_base.specs.Databases.{Database}
-use Rattle.oem_changes.proofs.ToldLaws.{IsTold, told_both, told_below}
+use Rattle.lore_base.proofs.ToldLaws.{IsTold, told_both, told_below}
 use Rattle.lorel_trees.specs.Trees as t
 use Rattle.lorel_trees.specs.Trees.{StatementTree}
+use Rattle.lore_db.specs.Types.{SEED, FEWEST_PERSONS, MOST_PERSONS}
 use Rattle.lore_db.specs.Forms.{IsBetween, AreGenerable, MakesChanges}
 use Rattle.lore_db.specs.Statements.{IsOutOfRange}
 
@@ -41,7 +42,7 @@ pos_within least most number h =
     (omega (arith, count, h.2), omega (arith, count, h.3))
 
 pub told_generable : (seed count : ℤ) → IsTold (AreGenerable seed count)
-told_generable seed count = told_both (told_between 0 2147483647 seed) (told_between 20 10000 count)
+told_generable seed count = told_both (told_between 0 SEED seed) (told_between FEWEST_PERSONS MOST_PERSONS count)
 
 pub in_range : (db : Database) (seed count : ℤ) → (IsOutOfRange db (t.generate seed count) → ⊥) → AreGenerable seed count
 in_range db seed count within = elim (told_generable seed count) [ inl are ↦ are | inr none ↦ absurd (within none) ]
@@ -59,5 +60,5 @@ told_changing (t.generate seed count) = told_generable seed count
 told_changing _ = inr (λ h. h)
 
 -- numbers that are tested are in range
-pub generable : (seed count : ℕ) → seed < 2 ^ 31 → 20 ≤ count → count ≤ 10000 → AreGenerable (pos seed) (pos count)
-generable seed count low few many = ((seed, refl, omega arith, omega (arith, low)), (count, refl, few, many))
+pub generable : (seed count : ℕ) → seed ≤ SEED → FEWEST_PERSONS ≤ count → count ≤ MOST_PERSONS → AreGenerable (pos seed) (pos count)
+generable seed count low few many = ((seed, refl, omega arith, low), (count, refl, few, many))

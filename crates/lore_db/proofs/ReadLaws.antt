@@ -1,23 +1,24 @@
 -- A statement that is executed over a select is refused for what the select is refused for.
-use Rattle.std.proofs.Common.{◌≡◌, ◌≢◌, ◌↔◌, inl, inr, List, [], ◌∷◌, Option, Some, None, AllPairs, All, sym, subst, arith}
+use Rattle.std.proofs.Common.{◌≡◌, ◌≢◌, ◌↔◌, inl, inr, List, [], ◌∷◌, ◌++◌, Option, Some, None, AllPairs, All, sym, subst, arith}
 use Rattle.std.specs.Prelude.{MatchOption}
 use Rattle.std.specs.List.{Contains}
 use Rattle.graph_search.proofs.SumLaws.{sum_by-within, length-within}
 use Rattle.lore_base.specs.Databases.{Database}
 use Rattle.lore_base.specs.Verdicts.{IsClear, IsToldBy}
+use Rattle.lore_base.proofs.VerdictLaws.{clear_both}
 use Rattle.lorel_trees.specs.Trees.{SelectTree, StatementTree}
 use Rattle.lorel_bind.specs.Answers.{IsAnswer}
 use Rattle.lorel_bind.specs.Refusals as binding
 use Rattle.lorel_bind.specs.Refusals.{IsAccepted}
-use Rattle.lorel_bind.proofs.AnswerLaws.{has_one_answer}
-use Rattle.lorel_bind.proofs.SomeAnswerLaws.{has_some_answer}
-use Rattle.answers.specs.Answers.{row_labels, IsTooMuch}
+use Rattle.bind_laws.proofs.AnswerLaws.{has_one_answer}
+use Rattle.bind_laws.proofs.SomeAnswerLaws.{has_some_answer}
+use Rattle.lorel_bound.specs.Answers.{row_labels, IsTooMuch}
 use Rattle.lore_db.specs.Types.{Cell, Refusal}
 use Rattle.lore_db.specs.Types.refusals
-use Rattle.lore_db.specs.Forms.{reads, binds}
+use Rattle.lore_db.specs.Forms.{IsUnbuilt, counted_rows, binds}
 use Rattle.lore_db.specs.Statements.{IsUnbound, OfBinds, HasTooManyRows, Cause}
-use Rattle.lore_db.specs.inside.Stages.{ReadCause, bind_order, read_order, found_order}
-use Rattle.lore_db.proofs.OrderLaws.{AreAlike, told_between, clear_between, clear_alike, told_alike}
+use Rattle.lore_db.specs.inside.Stages.{ReadCause, bind_order, bound_order, read_order, found_order}
+use Rattle.lore_db.proofs.OrderLaws.{AreAlike, told_right, told_between, clear_between, clear_alike, told_alike}
 use Rattle.lore_db.proofs.LiveRowLaws.{starts_somewhere}
 
 -- ---- answers that are too much
@@ -49,7 +50,7 @@ accepted_from db query clear = clear
 
 -- ---- the statement
 module _ (db : Database) (statement : StatementTree) (query : SelectTree)
-    (bound_select : binds statement ≡ Some query) (named : IsUnbound db statement → ⊥) where
+    (bound_select : binds statement ≡ Some query) (built : IsUnbuilt statement → ⊥) (named : IsUnbound db statement → ⊥) where
   of_binds : (Has : SelectTree → Type 0) → Has query ↔ OfBinds statement Has
   of_binds Has = (
     λ h. subst (λ (o : Option SelectTree). MatchOption o ⊥ Has) (sym bound_select) h,
@@ -73,19 +74,21 @@ module _ (db : Database) (statement : StatementTree) (query : SelectTree)
     ),
   )
 
-  pub read_binds : (told : Option Refusal) → IsToldBy (ReadCause db query) bind_order told → IsToldBy (Cause db statement) bind_order told
-  read_binds told h = told_alike (ReadCause db query) (Cause db statement) bind_order told bind_alike h
+  pub read_binds : (told : Option Refusal) → IsToldBy (ReadCause db query) bind_order told → IsToldBy (Cause db statement) bound_order told
+  read_binds told h =
+      told_right (Cause db statement) (refusals.Syntax ∷ []) bind_order told (built, tt)
+      (told_alike (ReadCause db query) (Cause db statement) bind_order told bind_alike h)
 
-  pub read_bound : IsClear (ReadCause db query) bind_order → IsClear (Cause db statement) bind_order
-  read_bound clear = clear_alike (ReadCause db query) (Cause db statement) bind_order bind_alike clear
+  pub read_bound : IsClear (ReadCause db query) bind_order → IsClear (Cause db statement) bound_order
+  read_bound clear = (built, clear_alike (ReadCause db query) (Cause db statement) bind_order bind_alike clear)
 
-  -- where its rows are sought, and no local is wrong
-  module _ (reading : reads statement ≡ Some query)
+  -- where no local is wrong, and its rows are counted
+  module _ (counting : counted_rows statement ≡ Some query)
       (locals : IsClear (Cause db statement) (refusals.DuplicateLocal ∷ refusals.UndefinedLocal ∷ [])) where
     many_alike : ReadCause db query refusals.TooManyRows ↔ Cause db statement refusals.TooManyRows
     many_alike = (
-      λ h. subst (λ (o : Option SelectTree). MatchOption o ⊥ (HasTooManyRows db)) (sym reading) h,
-      λ h. subst (λ (o : Option SelectTree). MatchOption o ⊥ (HasTooManyRows db)) reading h,
+      λ h. subst (λ (o : Option SelectTree). MatchOption o ⊥ (HasTooManyRows db)) (sym counting) h,
+      λ h. subst (λ (o : Option SelectTree). MatchOption o ⊥ (HasTooManyRows db)) counting h,
     )
 
     read_alike : AreAlike (ReadCause db query) (Cause db statement) read_order
@@ -95,10 +98,25 @@ module _ (db : Database) (statement : StatementTree) (query : SelectTree)
 
     pub read_found : (told : Option Refusal) → IsToldBy (ReadCause db query) read_order told → IsToldBy (Cause db statement) found_order told
     read_found told h =
-        told_between (Cause db statement) bind_order (refusals.DuplicateLocal ∷ refusals.UndefinedLocal ∷ []) (refusals.TooManyRows ∷ []) told locals
-        (told_alike (ReadCause db query) (Cause db statement) read_order told read_alike h)
+        told_right (Cause db statement) (refusals.Syntax ∷ []) (bind_order ++ refusals.DuplicateLocal ∷ refusals.UndefinedLocal ∷ refusals.TooManyRows ∷ [])
+        told (built, tt)
+        (told_between (Cause db statement) bind_order (refusals.DuplicateLocal ∷ refusals.UndefinedLocal ∷ []) (refusals.TooManyRows ∷ []) told locals
+        (told_alike (ReadCause db query) (Cause db statement) read_order told read_alike h))
 
     pub read_clear : IsClear (ReadCause db query) read_order → IsClear (Cause db statement) found_order
-    read_clear clear =
-        clear_between (Cause db statement) bind_order (refusals.DuplicateLocal ∷ refusals.UndefinedLocal ∷ []) (refusals.TooManyRows ∷ []) locals
-        (clear_alike (ReadCause db query) (Cause db statement) read_order read_alike clear)
+    read_clear clear = (
+      built,
+      clear_between (Cause db statement) bind_order (refusals.DuplicateLocal ∷ refusals.UndefinedLocal ∷ []) (refusals.TooManyRows ∷ []) locals
+          (clear_alike (ReadCause db query) (Cause db statement) read_order read_alike clear),
+    )
+
+  -- where no row is counted
+  module _ (counting : counted_rows statement ≡ None)
+      (locals : IsClear (Cause db statement) (refusals.DuplicateLocal ∷ refusals.UndefinedLocal ∷ [])) where
+    uncounted : Cause db statement refusals.TooManyRows → ⊥
+    uncounted h = subst (λ (o : Option SelectTree). MatchOption o ⊥ (HasTooManyRows db)) counting h
+
+    pub uncounted_clear : IsClear (ReadCause db query) bind_order → IsClear (Cause db statement) found_order
+    uncounted_clear clear =
+        clear_both (Cause db statement) bound_order (refusals.DuplicateLocal ∷ refusals.UndefinedLocal ∷ refusals.TooManyRows ∷ [])
+        (read_bound clear) (locals.0, (locals.1.0, (uncounted, tt)))

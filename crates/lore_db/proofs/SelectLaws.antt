@@ -8,10 +8,10 @@ use Rattle.lore_base.specs.Verdicts.{IsClear, IsToldBy}
 use Rattle.lore_base.proofs.VerdictLaws.{clear_both}
 use Rattle.lorel_trees.specs.Trees as t
 use Rattle.lorel_bind.specs.Answers.{IsAnswer}
-use Rattle.lorel_bind.specs.Bound.{BoundTree}
+use Rattle.lorel_bound.specs.Bound.{BoundTree}
 use Rattle.lorel_bind.specs.Bindings.{IsBinding}
-use Rattle.lorel_bind.specs.SlotRows.{IsSlotRow}
-use Rattle.lorel_bind.proofs.SlotRowLaws.{binding_keeps_rows}
+use Rattle.lorel_bound.specs.SlotRows.{IsSlotRow}
+use Rattle.bind_laws.proofs.SlotRowLaws.{binding_keeps_rows}
 use Rattle.answers.specs.Asked.{AreRows, AreTooMany}
 use Rattle.lore_db.specs.Types.{Cell, Refusal}
 use Rattle.lore_db.specs.Types.refusals

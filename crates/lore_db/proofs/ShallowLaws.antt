@@ -78,6 +78,14 @@ derived_shallow (g.set_plan mode) query is deep = cc
 derived_shallow g.dump query is deep = cc
 derived_shallow (g.restore text) query is deep = cc
 derived_shallow (g.generate seed count) query is deep = cc
+derived_shallow (g.history on) query is deep = cc
+derived_shallow (g.select_at moment inner) query is deep = cc
+derived_shallow (g.changes first last) query is deep = cc
+derived_shallow g.blocks query is deep = cc
+derived_shallow (g.blocks_of inner) query is deep = cc
+derived_shallow (g.watch name inner) query is deep = cc
+derived_shallow (g.unwatch name) query is deep = cc
+derived_shallow (g.show name) query is deep = cc
 
 pub sound_shallow : (query : t.SelectTree) → IsSound (t.select query) → IsShallow query
 sound_shallow query sound = derived_shallow sound.spelled.by query sound.spelled.tree sound.spelled.deep
@@ -101,6 +109,14 @@ derived_plan (g.set_plan mode) query is deep = cc
 derived_plan g.dump query is deep = cc
 derived_plan (g.restore text) query is deep = cc
 derived_plan (g.generate seed count) query is deep = cc
+derived_plan (g.history on) query is deep = cc
+derived_plan (g.select_at moment inner) query is deep = cc
+derived_plan (g.changes first last) query is deep = cc
+derived_plan g.blocks query is deep = cc
+derived_plan (g.blocks_of inner) query is deep = cc
+derived_plan (g.watch name inner) query is deep = cc
+derived_plan (g.unwatch name) query is deep = cc
+derived_plan (g.show name) query is deep = cc
 
 pub explain_shallow : (query : t.SelectTree) → IsSound (t.explain query) → IsShallow query
 explain_shallow query sound = derived_plan sound.spelled.by query sound.spelled.tree sound.spelled.deep
@@ -146,6 +162,14 @@ rows_derived (g.set_plan mode) query is deep = cc
 rows_derived g.dump query is deep = cc
 rows_derived (g.restore text) query is deep = cc
 rows_derived (g.generate seed count) query is deep = cc
+rows_derived (g.history on) query is deep = cc
+rows_derived (g.select_at moment inner) query is deep = cc
+rows_derived (g.changes first last) query is deep = cc
+rows_derived g.blocks query is deep = cc
+rows_derived (g.blocks_of inner) query is deep = cc
+rows_derived (g.watch name inner) query is deep = cc
+rows_derived (g.unwatch name) query is deep = cc
+rows_derived (g.show name) query is deep = cc
 
 pub rows_shallow : (statement : t.StatementTree) (query : t.SelectTree) → IsSound statement → rows_of statement ≡ Some query → IsShallow query
 rows_shallow statement query sound is =

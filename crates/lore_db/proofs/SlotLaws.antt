@@ -7,13 +7,13 @@ use Rattle.std.proofs.lemmas.Option.{same_Some, slice_get_within}
 use Rattle.lore_base.specs.Walks.{oid_of}
 use Rattle.lore_base.specs.Comparisons.{Compares}
 use Rattle.lore_base.specs.Paths.{Reaches}
-use Rattle.lorel_bind.specs.declared.bound.BoundStart.{BoundStart}
-use Rattle.lorel_bind.specs.declared.bound.BoundStart.TheVariants as bound_starts
-use Rattle.lorel_bind.specs.Bound.{RangeTree, BoundPathTree, BoundTree}
-use Rattle.lorel_ranges.specs.Conditions.{CondOf, paths_of, paths_in}
-use Rattle.lorel_bind.specs.Bindings.{IsWithin, IsCellWithin, AreInOrder, IsBoundWithin, IsRunnable}
-use Rattle.lorel_bind.specs.SlotRows.{StartsAt, BoundStartsAt, MeetsBy, HoldsOver, AreFilled, IsSlotWord, ShowsSlot}
-use Rattle.lorel_bind.proofs.ConditionLaws.{ReachAlike, holds_like, like_itself}
+use Rattle.lorel_bound.specs.declared.conditions.BoundStart.{BoundStart}
+use Rattle.lorel_bound.specs.declared.conditions.BoundStart.TheVariants as bound_starts
+use Rattle.lorel_bound.specs.Bound.{RangeTree, BoundPathTree, BoundTree}
+use Rattle.lorel_bound.specs.Conditions.{CondOf, paths_of, paths_in}
+use Rattle.lorel_bound.specs.Runnable.{IsWithin, IsCellWithin, AreInOrder, IsBoundWithin, IsRunnable}
+use Rattle.lorel_bound.specs.SlotRows.{StartsAt, BoundStartsAt, MeetsBy, HoldsOver, AreFilled, IsSlotWord, ShowsSlot}
+use Rattle.bind_laws.proofs.ConditionLaws.{ReachAlike, holds_like, like_itself}
 use Rattle.lorel_ranges.proofs.ListLaws.{AllZip-length}
 use Rattle.plan_ops.specs.Steps.{in_eight, IsSought}
 use Rattle.answers.specs.Asked.{ShowsRow, ShowsAsked}

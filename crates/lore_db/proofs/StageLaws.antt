@@ -2,11 +2,11 @@
 use Rattle.std.proofs.Common.{◌≡◌, ◌↔◌, ◌⊎◌, inl, inr, ℕ, List, ◌∷◌, Option, Some, None, option_map, Result, Ok, Err, IfOk, All}
 use Rattle.std.specs.Prelude.{OnOk, MatchOption}
 use Rattle.lore_base.specs.Paths.{PathTree}
-use Rattle.lorel_bind.specs.declared.bound.BoundCond.{BoundCond}
-use Rattle.lorel_bind.specs.Bound.{BoundTree, bound_cond}
-use Rattle.lorel_bind.specs.Bindings.{IsRunnable}
-use Rattle.lorel_bind.specs.Plans.{StepTree, from_value, steps_of}
-use Rattle.lorel_bind.specs.SlotRows.{HoldsOver, ShowsObjects}
+use Rattle.lorel_bound.specs.declared.conditions.BoundCond.{BoundCond}
+use Rattle.lorel_bound.specs.Bound.{BoundTree, bound_cond}
+use Rattle.lorel_bound.specs.Runnable.{IsRunnable}
+use Rattle.lorel_bound.specs.Plans.{StepTree, from_value, steps_of}
+use Rattle.lorel_bound.specs.SlotRows.{HoldsOver, ShowsObjects}
 use Rattle.lorel_eval.specs.Tests.{CondOver}
 use Rattle.plan_ops.specs.Types.{Plan}
 use Rattle.plan_ops.specs.Steps.{StepsOver, steps_over, IsSought, Agrees}

@@ -8,9 +8,9 @@ use Rattle.lore_base.proofs.VerdictLaws.{clear_both, clear_left, clear_right}
 use Rattle.lorel_trees.specs.Trees as t
 use Rattle.lorel_trees.specs.Trees.{StatementTree, SelectTree, LiteralTree}
 use Rattle.lorel_trees.specs.UpdateRows.{rows_of}
-use Rattle.lorel_bind.specs.Bound.{BoundTree}
+use Rattle.lorel_bound.specs.Bound.{BoundTree}
 use Rattle.lorel_bind.specs.Bindings.{IsBinding}
-use Rattle.lorel_bind.specs.SlotRows.{IsSlotRow}
+use Rattle.lorel_bound.specs.SlotRows.{IsSlotRow}
 use Rattle.oem_text.specs.Literals.{HasDouble, HasUndefined}
 use Rattle.oem_text.specs.Parts.{LocalCause, local_order}
 use Rattle.updates.specs.Effects.{Pair, changes_by}
@@ -19,15 +19,15 @@ use Rattle.updates.specs.Causes as updating
 use Rattle.answers.specs.Asked.{AreRows, AreTooMany}
 use Rattle.lore_db.specs.Types.{Oid, Cell, Changes, Refusal}
 use Rattle.lore_db.specs.Types.refusals
-use Rattle.lore_db.specs.Forms.{reads, binds, makes}
+use Rattle.lore_db.specs.Forms.{counted_rows, reads, binds, makes}
 use Rattle.lore_db.specs.Effects.{pair_of, AreRowsOf}
 use Rattle.lore_db.specs.Statements.{OfMakes, ChangesCause, Cause, cause_order}
-use Rattle.lore_db.specs.inside.Stages.{ReadCause, bind_order, found_order, fit_order}
+use Rattle.lore_db.specs.inside.Stages.{ReadCause, bind_order, bound_order, found_order, fit_order}
 use Rattle.lore_db.proofs.OrderLaws.{AreAlike, told_left, told_right, told_between, told_behind, clear_alike, told_alike}
 use Rattle.lore_db.proofs.ChangedCauseLaws.{few_names}
 use Rattle.lore_db.proofs.ReadLaws.{read_binds, read_bound, read_found, read_clear}
 use Rattle.lore_db.proofs.SelectLaws.{rows_clear, rows_told}
-use Rattle.lore_db.proofs.CauseLaws.{locals, sizes, late, early, over_rows, update_changes, update_names, update_single, update_effects, update_named}
+use Rattle.lore_db.proofs.CauseLaws.{locals, sizes, late, early, over_rows, update_changes, update_built, update_names, update_single, update_effects, update_named}
 
 -- ---- the select
 pub update_form : (statement : StatementTree) → IsUpdate statement → reads statement ≡ rows_of statement
@@ -36,6 +36,13 @@ update_form (t.add_new target label literal tail) update = refl
 update_form (t.add_link target label right tail) update = refl
 update_form (t.remove target label right tail) update = refl
 update_form _ update = absurd (update refl)
+
+update_counts : (statement : StatementTree) → IsUpdate statement → counted_rows statement ≡ rows_of statement
+update_counts (t.assign target value tail) update = refl
+update_counts (t.add_new target label literal tail) update = refl
+update_counts (t.add_link target label right tail) update = refl
+update_counts (t.remove target label right tail) update = refl
+update_counts _ update = absurd (update refl)
 
 update_binds : (statement : StatementTree) → IsUpdate statement → binds statement ≡ rows_of statement
 update_binds (t.assign target value tail) update = refl
@@ -64,23 +71,23 @@ module _ (db : Database) (statement : StatementTree) where
 
 -- ---- before the changes
 module _ (db : Database) (statement : StatementTree) (update : IsUpdate statement) (query : SelectTree) (form : rows_of statement ≡ Some query) where
-  reading : reads statement ≡ Some query
-  reading = update_form statement update ∙ form
+  counting : counted_rows statement ≡ Some query
+  counting = update_counts statement update ∙ form
 
   bound_select : binds statement ≡ Some query
   bound_select = update_binds statement update ∙ form
 
   pub bind_stops : (told : Option Refusal) → IsToldBy (ReadCause db query) bind_order told → IsToldBy (Cause db statement) found_order told
   bind_stops told h =
-      told_left (Cause db statement) bind_order (locals ++ refusals.TooManyRows ∷ []) told
-      (read_binds db statement query bound_select (update_names db statement update) told h)
+      told_left (Cause db statement) bound_order (locals ++ refusals.TooManyRows ∷ []) told
+      (read_binds db statement query bound_select (update_built statement update) (update_names db statement update) told h)
 
   module _ (clear : IsClear (ReadCause db query) bind_order) where
     pub literal_stops : (told : Option Refusal) → IsToldBy (λ refusal. MatchOption (makes statement) ⊥ (λ tree. LocalCause tree refusal)) local_order told
         → IsToldBy (Cause db statement) found_order told
     literal_stops told h =
-        told_right (Cause db statement) bind_order (locals ++ refusals.TooManyRows ∷ []) told
-        (read_bound db statement query bound_select (update_names db statement update) clear)
+        told_right (Cause db statement) bound_order (locals ++ refusals.TooManyRows ∷ []) told
+        (read_bound db statement query bound_select (update_built statement update) (update_names db statement update) clear)
         (told_left (Cause db statement) locals (refusals.TooManyRows ∷ []) told (literal_told db statement told h))
 
     module _ (bound : BoundTree) (binds : IsBinding db.graph.names query bound)
@@ -88,12 +95,12 @@ module _ (db : Database) (statement : StatementTree) (update : IsUpdate statemen
       pub rows_stop : (told : Option Refusal)
           → IfSome told (λ refusal. (refusal ≡ refusals.TooManyRows) × AreTooMany (IsSlotRow db bound)) → IsToldBy (Cause db statement) found_order told
       rows_stop told h =
-          read_found db statement query bound_select (update_names db statement update) reading
+          read_found db statement query bound_select (update_built statement update) (update_names db statement update) counting
           (literal_clear db statement sound) told (rows_told db query bound binds clear told h)
 
       pub rows_go : (rows : List (List Cell)) → AreRows (IsSlotRow db bound) rows → IsClear (Cause db statement) found_order
       rows_go rows all =
-          read_clear db statement query bound_select (update_names db statement update) reading
+          read_clear db statement query bound_select (update_built statement update) (update_names db statement update) counting
           (literal_clear db statement sound) (rows_clear db query bound binds clear rows all)
 
 -- ---- the changes
@@ -101,7 +108,7 @@ abbrev large : List Refusal
 large = refusals.TooManyObjects ∷ refusals.TooManyEdges ∷ []
 
 abbrev guided : List Refusal
-guided = refusals.GuideNodes ∷ late
+guided = refusals.GuideNodes ∷ refusals.GuideCells ∷ late
 
 of_literal : (statement : StatementTree) (Has : LiteralTree → Type 0) → OfLiteral statement Has → OfMakes statement Has
 of_literal (t.add_new target label literal tail) Has h = h
@@ -138,7 +145,7 @@ module _ (db : Database) (valid : IsValid db) (statement : StatementTree) (updat
   sound_locals : IsClear Told locals
   sound_locals =
       let both = clear_left (Cause db statement) locals (refusals.TooManyRows ∷ [])
-      (clear_right (Cause db statement) bind_order (locals ++ refusals.TooManyRows ∷ []) clear) in
+      (clear_right (Cause db statement) bound_order (locals ++ refusals.TooManyRows ∷ []) clear) in
       (λ h. both.0 (of_literal statement HasDouble h), (λ h. both.1.0 (of_literal statement HasUndefined h), tt))
 
   single : IsClear (Cause db statement) (refusals.NotOne ∷ [])
@@ -147,7 +154,7 @@ module _ (db : Database) (valid : IsValid db) (statement : StatementTree) (updat
   names_stay : IsClear (Cause db statement) (refusals.TooManyNames ∷ [])
   names_stay =
       let kept = update_named db.labels db statement pairs in
-      (λ h. few_names db.graph given kept.0 kept.1 valid.well_formed.ordered.names_ascend valid.few_names ((its refusals.TooManyNames).1 h), tt)
+      (λ h. few_names db.graph given kept.0 kept.1 valid.restorable.rooted.well_formed.ordered.names_ascend valid.restorable.few_names ((its refusals.TooManyNames).1 h), tt)
 
   plain_told : (told : Option Refusal) → IsToldBy Told (locals ++ early) told → IsToldBy (Cause db statement) cause_order told
   plain_told told h =

@@ -7,9 +7,9 @@ use Rattle.lore_base.specs.Verdicts.{IsClear, IsToldBy}
 use Rattle.lorel_trees.specs.Trees.{SelectTree, StatementTree}
 use Rattle.lorel_trees.specs.UpdateRows.{rows_of}
 use Rattle.lorel_bind.specs.Answers.{IsAnswer}
-use Rattle.lorel_bind.specs.Bound.{BoundTree}
+use Rattle.lorel_bound.specs.Bound.{BoundTree}
 use Rattle.lorel_bind.specs.Bindings.{IsBinding}
-use Rattle.lorel_bind.specs.SlotRows.{IsSlotRow}
+use Rattle.lorel_bound.specs.SlotRows.{IsSlotRow}
 use Rattle.updates.specs.Effects.{Pair, changes_by}
 use Rattle.updates.specs.Causes.{IsUpdate, HasTargets}
 use Rattle.updates.specs.Causes as updating

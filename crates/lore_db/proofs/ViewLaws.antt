@@ -8,10 +8,10 @@ use Rattle.lore_base.specs.Databases.{OemGraph, Database}
 use Rattle.lore_base.specs.Paths.{PathTree, Reaches}
 use Rattle.index_traits.specs.Entries.{AreLinks, AreValueEntries}
 use Rattle.guide_query.specs.GuideReaches.{GuideOver, TellsReached, TellsOf}
-use Rattle.lorel_bind.specs.Bound.{BoundTree}
-use Rattle.lorel_bind.specs.Bindings.{IsRunnable}
-use Rattle.lorel_bind.specs.Plans.{steps_of, IsPlanOf}
-use Rattle.lorel_bind.specs.SlotRows.{IsSlotRow}
+use Rattle.lorel_bound.specs.Bound.{BoundTree}
+use Rattle.lorel_bound.specs.Runnable.{IsRunnable}
+use Rattle.lorel_bound.specs.Plans.{steps_of, IsPlanOf}
+use Rattle.lorel_bound.specs.SlotRows.{IsSlotRow}
 use Rattle.plan_ops.specs.Types.{Plan}
 use Rattle.plan_ops.specs.Steps.{StepsOver, IsStartOf, Agrees}
 use Rattle.answers.specs.Asked.{AreRows, AreTooMany}

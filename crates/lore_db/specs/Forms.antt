@@ -1,9 +1,24 @@
--- The forms of statement: what they bind and read, what they make, and which of them list changes of the graph.
+-- The forms of statement: which aren't built, what the others bind and read, what they make, and which of
+-- them list changes of the graph.
 use Rattle.std.specs.Prelude.{◌≡◌, ℕ, ℤ, pos, ◌≤◌, [], Option, Some, None}
+use Rattle.lore_db.specs.Types.{SEED, FEWEST_PERSONS, MOST_PERSONS}
 use Rattle.lorel_trees.specs.Trees.{LiteralTree, RootedTree}
 use Rattle.lorel_trees.specs.Trees.{SelectTree, StatementTree}
+use Rattle.lorel_trees.specs.Trees.{history, select_at, changes, blocks, blocks_of, watch, unwatch, show}
 use Rattle.lorel_trees.specs.Trees.{load, bind, unname, assign, add_new, add_link, remove, select, explain, generate}
 use Rattle.lorel_trees.specs.UpdateRows.{target_select, rows_of}
+
+-- a statement of this form isn't built: it is no statement yet
+abbrev pub IsUnbuilt : StatementTree → Type 0
+IsUnbuilt (history on) = Unit {0}
+IsUnbuilt (select_at moment query) = Unit {0}
+IsUnbuilt (changes first last) = Unit {0}
+IsUnbuilt blocks = Unit {0}
+IsUnbuilt (blocks_of query) = Unit {0}
+IsUnbuilt (watch name query) = Unit {0}
+IsUnbuilt (unwatch name) = Unit {0}
+IsUnbuilt (show name) = Unit {0}
+IsUnbuilt statement = ⊥
 
 -- the select of one path
 abbrev pub path_select : RootedTree → SelectTree
@@ -14,6 +29,11 @@ abbrev pub reads : StatementTree → Option SelectTree
 reads (bind name path) = Some (path_select path)
 reads (select query) = Some query
 reads statement = rows_of statement
+
+-- the select whose rows are counted: of a path to name any number of objects but one is refused
+abbrev pub counted_rows : StatementTree → Option SelectTree
+counted_rows (bind name path) = None
+counted_rows statement = reads statement
 
 -- the select that a statement binds: that whose rows it is executed over, or that whose plan it shows
 abbrev pub binds : StatementTree → Option SelectTree
@@ -32,7 +52,7 @@ IsBetween least most value = (number : ℕ) × (value ≡ pos number) × (least 
 
 -- a seed and a number of persons that objects are generated for
 abbrev pub AreGenerable : (seed count : ℤ) → Type 0
-AreGenerable seed count = IsBetween 0 2147483647 seed × IsBetween 20 10000 count
+AreGenerable seed count = IsBetween 0 SEED seed × IsBetween FEWEST_PERSONS MOST_PERSONS count
 
 -- a statement of this form lists changes of the graph; a restore lists none, as it puts a whole database in place, and of
 -- numbers out of range nothing is generated

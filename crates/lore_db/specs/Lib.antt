@@ -4,5 +4,4 @@ pub mod Effects
 pub mod Plans
 pub mod Statements
 pub mod Uncounted
-pub mod StatementLaws
 pub mod inside

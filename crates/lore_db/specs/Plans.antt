@@ -5,7 +5,7 @@ use Rattle.lore_base.specs.Paths.{Reaches}
 use Rattle.lore_base.specs.TargetSets.{AreTargetSets}
 use Rattle.lorel_trees.specs.Trees.{SelectTree}
 use Rattle.index_traits.specs.Entries.{AreValueEntries}
-use Rattle.lorel_bind.specs.Bound.{BoundTree}
+use Rattle.lorel_bound.specs.Bound.{BoundTree}
 use Rattle.lorel_bind.specs.Bindings.{IsBinding}
 use Rattle.planner.specs.Choices.{AreCounts, kind_by}
 use Rattle.lore_db.specs.Types.{Oid, ValueEntry, PlanKind, Reply, PlanShown}

@@ -1,6 +1,6 @@
 -- What one statement answers, and the database that it leaves.
 use Rattle.std.specs.Prelude.{◌≡◌, ◌≢◌, ℕ, ℤ, pos, ◌⊎◌, List, [], ◌∷◌, length, MatchOption}
-use Rattle.lore_db.specs.Types.{Oid, Mode, Refusal, Cell, Reply, Changed, Rows, Lines, Dump, Refused}
+use Rattle.lore_db.specs.Types.{SAMPLE, Oid, Mode, Refusal, Cell, Reply, Changed, Rows, Lines, Dump, Refused}
 use Rattle.lore_db.specs.Types.refusals
 use Rattle.lore_base.specs.Databases.{Database, IsValid, new_database}
 use Rattle.lore_base.specs.TargetSets.{AreTargetSets}
@@ -11,16 +11,18 @@ use Rattle.lorel_trees.specs.declared.dump_trees.DumpTree.{DumpTree}
 use Rattle.lorel_trees.specs.Trees.{LiteralTree, SelectTree, StatementTree}
 use Rattle.lorel_trees.specs.Trees.{bind, unname, select, explain, guide, browse, sample, set_nodes, set_plan}
 use Rattle.lorel_trees.specs.Trees.{dump, restore, generate}
+use Rattle.lorel_trees.specs.Trees.{history, select_at, changes, blocks, blocks_of, watch, unwatch, show}
 use Rattle.lorel_bind.specs.Answers.{IsAnswer}
 use Rattle.lorel_bind.specs.Refusals as binding
-use Rattle.answers.specs.Answers.{IsTooMuch}
+use Rattle.lorel_bound.specs.Answers.{IsTooMuch}
 use Rattle.oem_text.specs.Literals.{HasDouble, HasUndefined}
 use Rattle.dump_text.specs.Dumps.{printed_dump}
 use Rattle.dump_text.specs.Restores.{IsDumpOf}
 use Rattle.guide_query.specs.GuideLines.{AreGuideLines}
 use Rattle.guide_query.specs.PathLines.{AreBrowseLines, AreSampleLines}
 use Rattle.lore_store.specs.Stores.{IsLimit}
-use Rattle.lore_db.specs.Forms.{reads, binds, makes, path_select, MakesChanges, IsBetween, AreGenerable}
+use Rattle.lore_db.specs.Forms.{IsUnbuilt, counted_rows, binds, makes, path_select}
+use Rattle.lore_db.specs.Forms.{MakesChanges, IsBetween, AreGenerable}
 use Rattle.lore_db.specs.Effects.{AreRowsOf, effects}
 use Rattle.lore_db.specs.Plans.{ShowsPlan}
 
@@ -43,7 +45,7 @@ IsNotOne db (bind name path) =
     (rows : List (List Cell)) × IsAnswer db (path_select path) rows × (length rows ≢ 1)
 IsNotOne db statement = ⊥
 
--- the changes that a statement makes have this cause: one of the graph's (`ChangeCause`), or the guide's limit, which
+-- the changes that a statement makes have this cause: one of the graph's (`ChangeCause`), or a limit of the guide, which
 -- only a database has (`DatabaseCause`)
 abbrev pub ChangesCause : Database → StatementTree → Refusal → Type 0
 ChangesCause db statement refusal =
@@ -57,7 +59,7 @@ IsNoLimit db nodes = (limit : ℕ) → nodes ≡ pos limit → ¬ IsLimit db lim
 -- a number of the statement is out of its range
 abbrev pub IsOutOfRange : Database → StatementTree → Type 0
 IsOutOfRange db (set_nodes nodes) = IsNoLimit db nodes
-IsOutOfRange db (sample start labels count) = ¬ IsBetween 1 100000 count
+IsOutOfRange db (sample start labels count) = ¬ IsBetween 1 SAMPLE count
 IsOutOfRange db (generate seed count) = ¬ AreGenerable seed count
 IsOutOfRange db statement = ⊥
 
@@ -75,9 +77,9 @@ IsNoDump statement = ⊥
 abbrev pub OfBinds : StatementTree → (SelectTree → Type 0) → Type 0
 OfBinds statement Has = MatchOption (binds statement) ⊥ Has
 
--- the select whose rows a statement is executed over has this
-abbrev pub OfReads : StatementTree → (SelectTree → Type 0) → Type 0
-OfReads statement Has = MatchOption (reads statement) ⊥ Has
+-- the select whose rows are counted has this
+abbrev pub OfCounted : StatementTree → (SelectTree → Type 0) → Type 0
+OfCounted statement Has = MatchOption (counted_rows statement) ⊥ Has
 
 -- the literal that a statement makes objects of has this
 abbrev pub OfMakes : StatementTree → (LiteralTree → Type 0) → Type 0
@@ -85,6 +87,7 @@ OfMakes statement Has = MatchOption (makes statement) ⊥ Has
 
 -- the cause of each refusal of a statement; no other refusal has one
 abbrev pub Cause : Database → StatementTree → Refusal → Type 0
+Cause db statement refusals.Syntax = IsUnbuilt statement
 Cause db statement refusals.UnknownName =
     IsUnbound db statement
     ⊎ OfBinds statement (λ query. binding.Cause db.graph.names query refusals.UnknownName)
@@ -96,7 +99,7 @@ Cause db statement refusals.TooManyRanges =
     OfBinds statement (λ query. binding.Cause db.graph.names query refusals.TooManyRanges)
 Cause db statement refusals.DuplicateLocal = OfMakes statement HasDouble
 Cause db statement refusals.UndefinedLocal = OfMakes statement HasUndefined
-Cause db statement refusals.TooManyRows = OfReads statement (HasTooManyRows db)
+Cause db statement refusals.TooManyRows = OfCounted statement (HasTooManyRows db)
 Cause db statement refusals.NotOne = IsNotOne db statement
 Cause db statement refusals.AtomicParent = ChangesCause db statement refusals.AtomicParent
 Cause db statement refusals.HasChildren = ChangesCause db statement refusals.HasChildren
@@ -106,19 +109,21 @@ Cause db statement refusals.TooManyNames = ChangesCause db statement refusals.To
 Cause db statement refusals.TooManyObjects = ChangesCause db statement refusals.TooManyObjects
 Cause db statement refusals.TooManyEdges = ChangesCause db statement refusals.TooManyEdges
 Cause db statement refusals.GuideNodes = ChangesCause db statement refusals.GuideNodes
+Cause db statement refusals.GuideCells = ChangesCause db statement refusals.GuideCells
 Cause db statement refusals.LimitRange = IsOutOfRange db statement
 Cause db statement refusals.NotFresh = IsNotFresh db statement
 Cause db statement refusals.BadRestore = IsNoDump statement
 Cause db statement _ = ⊥
 
--- the order in which causes are tried: that of their numbers
+-- the order in which causes are tried: that of their numbers, but GuideCells right behind GuideNodes
 abbrev pub cause_order : List Refusal
 cause_order =
-    refusals.UnknownName ∷ refusals.UnknownVariable ∷ refusals.DuplicateVariable ∷ refusals.TooManyRanges
-    ∷ refusals.DuplicateLocal ∷ refusals.UndefinedLocal ∷ refusals.TooManyRows ∷ refusals.NotOne
-    ∷ refusals.AtomicParent ∷ refusals.HasChildren ∷ refusals.OidsSpent ∷ refusals.TooManyLabels
-    ∷ refusals.TooManyNames ∷ refusals.TooManyObjects ∷ refusals.TooManyEdges ∷ refusals.GuideNodes
-    ∷ refusals.LimitRange ∷ refusals.NotFresh ∷ refusals.BadRestore ∷ []
+    refusals.Syntax ∷ refusals.UnknownName ∷ refusals.UnknownVariable ∷ refusals.DuplicateVariable
+    ∷ refusals.TooManyRanges ∷ refusals.DuplicateLocal ∷ refusals.UndefinedLocal
+    ∷ refusals.TooManyRows ∷ refusals.NotOne ∷ refusals.AtomicParent ∷ refusals.HasChildren
+    ∷ refusals.OidsSpent ∷ refusals.TooManyLabels ∷ refusals.TooManyNames ∷ refusals.TooManyObjects
+    ∷ refusals.TooManyEdges ∷ refusals.GuideNodes ∷ refusals.GuideCells ∷ refusals.LimitRange
+    ∷ refusals.NotFresh ∷ refusals.BadRestore ∷ []
 
 -- What a statement does where nothing refuses it.
 
@@ -188,6 +193,14 @@ Performs before (set_nodes nodes) reply after = Limits before nodes reply after
 Performs before (set_plan mode) reply after = ChoosesBy before mode reply after
 Performs before dump reply after = Dumps before reply after
 Performs before (restore text) reply after = Restores text reply after
+Performs before (history on) reply after = ⊥
+Performs before (select_at moment query) reply after = ⊥
+Performs before (changes first last) reply after = ⊥
+Performs before blocks reply after = ⊥
+Performs before (blocks_of query) reply after = ⊥
+Performs before (watch name query) reply after = ⊥
+Performs before (unwatch name) reply after = ⊥
+Performs before (show name) reply after = ⊥
 Performs before statement reply after = MakesItsChanges before statement reply after
 
 -- a refusal changes nothing

@@ -3,9 +3,10 @@ use Rattle.std.specs.Prelude.{◌≡◌, ℕ, ◌≤◌, length, Option, Some, N
 use Rattle.lore_base.specs.Databases.{Database}
 use Rattle.lorel_trees.specs.Trees.{SelectTree, StatementTree, select, explain, guide, browse, sample}
 use Rattle.lorel_trees.specs.Trees.{set_nodes, set_plan, generate}
-use Rattle.lorel_bind.specs.Bound.{BoundTree}
+use Rattle.lorel_trees.specs.Trees.{history, select_at, changes, blocks, blocks_of, watch, unwatch, show}
+use Rattle.lorel_bound.specs.Bound.{BoundTree}
 use Rattle.lorel_bind.specs.Bindings.{IsBinding}
-use Rattle.lorel_bind.specs.SlotRows.{ShowsObjects}
+use Rattle.lorel_bound.specs.SlotRows.{ShowsObjects}
 use Rattle.lore_db.specs.Types.{PlanKind}
 use Rattle.lore_db.specs.Types.plan_kinds
 use Rattle.lore_db.specs.Forms.{AreGenerable}
@@ -31,8 +32,8 @@ pub record IsQuietBound (db : Database) (bound : BoundTree) : Type 0 where
 abbrev pub IsQuietSelect : Database → SelectTree → Type 0
 IsQuietSelect db query = (bound : BoundTree) × IsBinding db.graph.names query bound × IsQuietBound db bound
 
--- a select by such a plan, a plan that is shown, the guide, what is shown of it along a label path, what is set, and
--- objects that are refused since a number is out of range
+-- a select by such a plan, a plan that is shown, the guide, what is shown of it along a label path, what is
+-- set, objects that are refused since a number is out of range, and what isn't built
 abbrev pub ReadsNoEdge : Database → StatementTree → Type 0
 ReadsNoEdge db (select query) = IsQuietSelect db query
 ReadsNoEdge db (explain query) = Unit {0}
@@ -42,4 +43,12 @@ ReadsNoEdge db (sample start labels count) = Unit {0}
 ReadsNoEdge db (set_nodes nodes) = Unit {0}
 ReadsNoEdge db (set_plan mode) = Unit {0}
 ReadsNoEdge db (generate seed count) = ¬ AreGenerable seed count
+ReadsNoEdge db (history on) = Unit {0}
+ReadsNoEdge db (select_at moment query) = Unit {0}
+ReadsNoEdge db (changes first last) = Unit {0}
+ReadsNoEdge db blocks = Unit {0}
+ReadsNoEdge db (blocks_of query) = Unit {0}
+ReadsNoEdge db (watch name query) = Unit {0}
+ReadsNoEdge db (unwatch name) = Unit {0}
+ReadsNoEdge db (show name) = Unit {0}
 ReadsNoEdge db statement = ⊥

@@ -11,6 +11,7 @@ use crate::explain::plan_shown;
 use crate::replies::Reply;
 use crate::selects::select;
 use crate::stops::reply_of;
+use crate::unbuilt::unbuilt;
 use index_traits::ValueOf;
 use lore_base::{Label, NoMemory, OemText, Oid, Steps, Value};
 use lore_store::Store;
@@ -70,11 +71,11 @@ impl Db {
         self.store.labels().text(label)
     }
 
-    /// Executes a statement. A refusal, and want of memory, leave the database as it was. No step is
-    /// counted for a statement that shows a plan, the guide, or where a label path leads, or sets
-    /// something, for numbers out of range by which objects were to be generated, and for a select
-    /// for which no edge is read: where the guide tells all and no cell shows a word, or no value is
-    /// found to begin with.
+    /// Executes a statement. A refusal, and want of memory, leave the database as it was. A form that
+    /// isn't built is refused (`Syntax`). No step is counted for such a one, for a statement that shows
+    /// a plan, the guide, or where a label path leads, or sets something, for numbers out of range by
+    /// which objects were to be generated, and for a select for which no edge is read: where the guide
+    /// tells all and no cell shows a word, or no value is found to begin with.
     pub fn execute<L: Ledger>(
         &mut self,
         alloc: Global,
@@ -98,6 +99,14 @@ impl Db {
             Statement::SetPlan(mode) => Ok(self.set_plan(*mode)),
             Statement::Dump => reply_of(self.dump(alloc, steps)),
             Statement::Restore(text) => reply_of(self.restore(alloc, text, steps)),
+            Statement::History(_)
+            | Statement::At(..)
+            | Statement::ChangesList(..)
+            | Statement::Blocks
+            | Statement::BlocksSelect(_)
+            | Statement::Watch { .. }
+            | Statement::Unwatch(_)
+            | Statement::Show(_) => Ok(unbuilt(statement)),
             changing => reply_of(self.change(alloc, changing, steps)),
         }
     }

@@ -10,7 +10,7 @@ use crate::replies::Reply;
 use crate::stops::Stop;
 use dump_text::{dump, read_dump};
 use index_traits::Adjacent;
-use lore_base::limits::NODES;
+use lore_base::limits::START_NODES;
 use lore_base::{EdgeBuf, Mode, NoMemory, Refusal, Steps};
 use lorel_trees::DumpTree;
 use oem_graph::Graph;
@@ -31,7 +31,7 @@ impl Db {
     }
 
     /// Fills the new database with what a dump text stands for. Refused are another database than
-    /// the new one, and a text that is the dump of no valid database.
+    /// the new one, and a text that is the dump of no valid database: also one whose guide doesn't fit.
     pub(crate) fn restore<L: Ledger>(
         &mut self,
         alloc: Global,
@@ -58,7 +58,7 @@ impl Db {
         let store = &self.store;
         let graph = store.graph();
         let nothing = graph.names().len() == 0 && graph.objects() == 0 && graph.edges() == 0;
-        let unset = store.limit() == NODES && store.mode() == Mode::Auto;
+        let unset = store.limit() == START_NODES && store.mode() == Mode::Auto;
         nothing && unset && graph.next() == 1 && store.labels().len() == 0
     }
 }

@@ -9,7 +9,7 @@ use crate::replies::Reply;
 use crate::selects::{bound, plan_of};
 use crate::stops::Stop;
 use lore_store::Store;
-use lorel_bind::Plan;
+use lorel_bound::Plan;
 use lorel_trees::Select;
 use std::alloc::Global;
 

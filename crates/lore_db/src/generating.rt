@@ -1,24 +1,20 @@
-ghost use Rattle.std.specs.Prelude.{◌≡◌, ◌<◌, ◌≤◌, ◌^◌, pos, IfOk, IfErr, IfSome, IfNone};
+ghost use Rattle.std.specs.Prelude.{◌≡◌, ◌≤◌, pos, IfOk, IfErr, IfSome, IfNone};
 ghost use Rattle.lore_base.specs.Verdicts.{IsToldBy};
 ghost use Rattle.lorel_trees.specs.Trees.{generate};
 ghost use Rattle.lore_db.specs.Forms.{AreGenerable};
+ghost use Rattle.lore_db.specs.Types.{SEED as THE_SEED, FEWEST_PERSONS as THE_FEWEST};
+ghost use Rattle.lore_db.specs.Types.{MOST_PERSONS as THE_MOST};
 ghost use Rattle.lore_db.specs.Statements.{Cause, cause_order};
 ghost use Rattle.lore_db.specs.inside.Listed.{ListsChanges};
 ghost use Rattle.lore_db.specs.inside.Stops.{told};
 
 use crate::loads::loading;
 use crate::stops::Stop;
+use lore_base::limits::{FEWEST_PERSONS, MOST_PERSONS, SEED};
 use lore_base::{Changes, OemText, Refusal};
 use lore_store::Store;
 use oem_text::generated;
 use std::alloc::Global;
-
-// The greatest seed, and the least and the greatest number of persons.
-const GREATEST_SEED: u32 = 2_147_483_647;
-
-const FEWEST: u32 = 20;
-
-const MOST: u32 = 10_000;
 
 /// The changes of generated objects, which are loaded under the name `People`: so many persons, by
 /// this seed, and what they belong to. Refused before all else are a seed and a number of persons
@@ -43,14 +39,14 @@ pub(crate) fn generate_changes(
 
 // The seed and the number of persons; None exactly where one of them is out of range.
 fn generable(seed: i64, count: i64) -> Option<(u32, u32)>
-    ensures seed { IfSome result (λ numbers. (seed ≡ pos numbers.0) × (numbers.0 < 2 ^ 31)) }
+    ensures seed { IfSome result (λ numbers. (seed ≡ pos numbers.0) × (numbers.0 ≤ THE_SEED)) }
     ensures count { IfSome result (λ numbers.
-        (count ≡ pos numbers.1) × (20 ≤ numbers.1) × (numbers.1 ≤ 10000)) }
+        (count ≡ pos numbers.1) × (THE_FEWEST ≤ numbers.1) × (numbers.1 ≤ THE_MOST)) }
     ensures none { IfNone result (¬ AreGenerable seed count) }
 {
     let seed = u32::try_from(seed).ok()?;
     let count = u32::try_from(count).ok()?;
-    if seed > GREATEST_SEED || count < FEWEST || count > MOST {
+    if seed > SEED || count < FEWEST_PERSONS || count > MOST_PERSONS {
         return None;
     }
     Some((seed, count))

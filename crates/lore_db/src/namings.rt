@@ -1,4 +1,5 @@
 ghost use Rattle.std.specs.Prelude.{◌≡◌, [], ◌∷◌, length, None, All, IfOk, IfErr};
+ghost use Rattle.std.specs.declared.result.Result.TheVariants.{Ok as Done, Err as Ended};
 ghost use Rattle.lore_base.specs.Verdicts.{IsToldBy};
 ghost use Rattle.lorel_trees.specs.Trees.{rooted_tree, select_tree, bind, unname};
 ghost use Rattle.lorel_ranges.specs.Texts.{IsShallow};
@@ -7,20 +8,20 @@ ghost use Rattle.lore_db.specs.Effects as effects;
 ghost use Rattle.lore_db.specs.Statements.{Cause, cause_order};
 ghost use Rattle.lore_db.specs.inside.Listed.{ListsChanges};
 ghost use Rattle.lore_db.specs.inside.Stops.{told};
-ghost use Rattle.lore_db.specs.inside.Stages.{IsOneObject, IsOnly, IsNotOnly};
+ghost use Rattle.lore_db.specs.declared.stops.Stop.{Stop as TheStop};
+ghost use Rattle.lore_db.specs.inside.Stages.{IsOneObject, IsOnly, IsNotOnly, not_one};
 
 use crate::selects::rows_of;
 use crate::stops::Stop;
-use answers::Answer;
 use lore_base::{Changes, NoMemory, OemText, Oid, Refusal, Steps, TryCopy};
 use lore_store::Store;
-use lorel_bind::Cell;
+use lorel_bound::{Answer, Cell};
 use lorel_trees::{FromList, Item, ItemList, Rooted, Select, Tail};
 use std::alloc::Global;
 use std::sync::ledger::Ledger;
 
 /// The changes that bind a name to the one object that a path reaches, in place of an older
-/// binding.
+/// binding. Refused is a path that reaches none or several (`NotOne`), however many.
 pub(crate) fn name_changes<L: Ledger>(
     alloc: Global,
     store: &Store,
@@ -39,7 +40,8 @@ pub(crate) fn name_changes<L: Ledger>(
     let query = path_query(alloc, path)?;
     let answer = rows_of(alloc, store, &query, steps);
     drop(query);
-    let oid = only_object(&answer?)?;
+    let rows = few_rows(answer)?;
+    let oid = only_object(&rows)?;
     Ok(naming(alloc, name, oid)?)
 }
 
@@ -68,6 +70,18 @@ fn path_query(alloc: Global, path: &Rooted) -> Result<Select, NoMemory>
             cond: None,
         },
     })
+}
+
+// The rows, where there are no more than an answer may have: more than these are not one.
+fn few_rows(answer: Result<Answer, Stop>) -> Result<Answer, Stop>
+    ensures ok { IfOk result (λ rows. answer ≡ Done rows) }
+    ensures refused { IfErr result (λ stop.
+        (ended : TheStop) × (answer ≡ Ended ended) × (told stop ≡ not_one (told ended))) }
+{
+    match answer {
+        Err(Stop::Refused(Refusal::TooManyRows)) => Err(Stop::Refused(Refusal::NotOne)),
+        other => other,
+    }
 }
 
 // The object of the only row; there may be none or several.

@@ -1,6 +1,7 @@
 ghost use Rattle.std.specs.Prelude.{◌≡◌, pos, ◌≤◌, IfOk, IfErr, IfSome, IfNone};
 ghost use Rattle.lore_base.specs.Verdicts.{IsToldBy};
 ghost use Rattle.lorel_trees.specs.Trees.{browse, sample};
+ghost use Rattle.lore_db.specs.Types.{SAMPLE as THE_SAMPLE};
 ghost use Rattle.lore_db.specs.Forms.{IsBetween};
 ghost use Rattle.lore_db.specs.Statements.{Cause, cause_order, Executes};
 ghost use Rattle.lore_db.specs.inside.Stops.{told};
@@ -10,10 +11,8 @@ use crate::replies::Reply;
 use crate::stops::Stop;
 use guide_query::{browse_lines, sample_lines};
 use lore_base::Refusal;
+use lore_base::limits::SAMPLE;
 use lorel_trees::LabelPath;
-
-// The most objects that a sample shows.
-const SAMPLED: u32 = 100_000;
 
 impl Db {
     /// Shows where a label path leads. Refused is one whose start is no name.
@@ -54,11 +53,11 @@ impl Db {
 
 // The number of objects to show at most; None exactly where the number isn't from 1 to 100,000.
 fn sample_size(count: i64) -> Option<u32>
-    ensures some { IfSome result (λ size. (count ≡ pos size) × (1 ≤ size) × (size ≤ 100000)) }
-    ensures none { IfNone result (¬ IsBetween 1 100000 count) }
+    ensures some { IfSome result (λ size. (count ≡ pos size) × (1 ≤ size) × (size ≤ THE_SAMPLE)) }
+    ensures none { IfNone result (¬ IsBetween 1 THE_SAMPLE count) }
 {
     let size = u32::try_from(count).ok()?;
-    if size < 1 || size > SAMPLED {
+    if size < 1 || size > SAMPLE {
         return None;
     }
     Some(size)

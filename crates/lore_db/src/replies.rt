@@ -1,7 +1,6 @@
-use answers::Answer;
 use dump_text::PrintedDump;
 use lore_base::{Refusal, TextList};
-use lorel_bind::PlanKind;
+use lorel_bound::{Answer, PlanKind};
 
 /// What a statement answers.
 #[derive(Drop)]

@@ -1,7 +1,7 @@
 ghost use Rattle.std.specs.Prelude.{◌≡◌, ◌⊎◌, All, IfOk, IfErr, IfSome};
-ghost use Rattle.lorel_bind.specs.Bound.{bound_tree};
-ghost use Rattle.lorel_bind.specs.Bindings.{IsRunnable};
-ghost use Rattle.lorel_bind.specs.Plans.{IsPlanOf, steps_of};
+ghost use Rattle.lorel_bound.specs.Bound.{bound_tree};
+ghost use Rattle.lorel_bound.specs.Runnable.{IsRunnable};
+ghost use Rattle.lorel_bound.specs.Plans.{IsPlanOf, steps_of};
 ghost use Rattle.plan_ops.specs.Steps.{Agrees};
 ghost use Rattle.plan_ops.specs.Rows.{WalksOrTests};
 ghost use Rattle.answers.specs.Asked.{AreRows, AreTooMany};
@@ -10,10 +10,10 @@ ghost use Rattle.lore_db.specs.inside.Stops.{told, OnReply};
 ghost use Rattle.lore_db.specs.inside.Views.{view_over, IsRowOf, ReadsNone};
 
 use crate::stops::Stop;
-use answers::{Answer, all_rows};
+use answers::all_rows;
 use index_traits::{Adjacent, Links, Paths, ValueOf, Values};
 use lore_base::{Refusal, Steps};
-use lorel_bind::{Bound, Plan};
+use lorel_bound::{Answer, Bound, Plan};
 use lorel_eval::Test;
 use oem_labels::LabelTable;
 use plan_ops::Rows;

@@ -3,9 +3,9 @@ ghost use Rattle.lore_db.specs.Types.{Oid as TheOid};
 ghost use Rattle.lore_base.specs.Verdicts.{IsClear, IsToldBy};
 ghost use Rattle.lorel_trees.specs.Trees.{statement_tree};
 ghost use Rattle.lorel_trees.specs.Sound.{IsSound};
-ghost use Rattle.lorel_bind.specs.Bound.{bound_tree};
-ghost use Rattle.lorel_bind.specs.Bindings.{IsRunnable};
-ghost use Rattle.lorel_bind.specs.SlotRows.{IsSlotRow};
+ghost use Rattle.lorel_bound.specs.Bound.{bound_tree};
+ghost use Rattle.lorel_bound.specs.Runnable.{IsRunnable};
+ghost use Rattle.lorel_bound.specs.SlotRows.{IsSlotRow};
 ghost use Rattle.updates.specs.Causes.{IsUpdate};
 ghost use Rattle.oem_text.specs.Faults.{local_refusal};
 ghost use Rattle.oem_text.specs.Parts.{local_order};
@@ -21,10 +21,9 @@ ghost use Rattle.lore_db.specs.inside.Locals.{HasSoundLocals, MadeLocals, StopsR
 
 use crate::selects::{bound, found};
 use crate::stops::Stop;
-use answers::{Answer, AnswerRow};
 use lore_base::{Changes, NoMemory, Oid, Steps};
 use lore_store::Store;
-use lorel_bind::{Bound, Cell};
+use lorel_bound::{Answer, AnswerRow, Bound, Cell};
 use lorel_trees::{Statement, rows_form};
 use oem_text::{LocalFault, check_locals};
 use std::alloc::Global;

@@ -4,8 +4,4 @@ pub mod LimitLaws
 pub mod RunLaws
 pub mod EndLaws
 pub mod PieceLaws
-pub mod MeaningLaws
-pub mod ReadingLaws
-pub mod SomeRunLaws
-pub mod ParsedLaws
 pub mod RespondLaws

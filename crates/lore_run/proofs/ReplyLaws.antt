@@ -4,6 +4,7 @@ use Rattle.std.specs.Prelude.{codes, decimal}
 use Rattle.std.specs.List.{flat_map}
 use Rattle.lore_base.specs.Databases.{Database}
 use Rattle.lore_base.specs.Refusals.{number_of, text_of}
+use Rattle.lorel_trees.specs.Trees as t
 use Rattle.lorel_trees.specs.Trees.{StatementTree, load, bind, unname, assign, add_new, add_link, remove, select}
 use Rattle.lorel_trees.specs.Trees.{explain, guide, browse, sample, set_nodes, set_plan, dump, restore, generate}
 use Rattle.lore_db.specs.Statements.{Counts, Performs, Executes}
@@ -76,6 +77,14 @@ performs-some before dump reply after (kept, same) =
     same-some after reply _ same (omega arith)
 performs-some before (restore text) reply after (dumped, valid, counted) = counts-some after reply counted
 performs-some before (generate seed count) reply after (led, counted) = counts-some after reply counted
+performs-some before (t.history on) reply after performed = absurd performed
+performs-some before (t.select_at moment query) reply after performed = absurd performed
+performs-some before (t.changes first last) reply after performed = absurd performed
+performs-some before t.blocks reply after performed = absurd performed
+performs-some before (t.blocks_of query) reply after performed = absurd performed
+performs-some before (t.watch name query) reply after performed = absurd performed
+performs-some before (t.unwatch name) reply after performed = absurd performed
+performs-some before (t.show name) reply after performed = absurd performed
 
 executes-some : (before : Database) (statement : StatementTree) (reply : Reply) (after : Database) → Executes before statement reply after → IsSome after reply
 executes-some before statement reply after (inl (clear, performs)) = performs-some before statement reply after performs

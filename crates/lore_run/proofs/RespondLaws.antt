@@ -1,7 +1,10 @@
--- A part that was executed and counted, and what its written reply tells.
-use Rattle.std.proofs.Common.{sym, subst, ◌≡◌, ◌+◌, Result, Ok, Err, OnOk, OnErr, IfErr}
+-- A part that was executed and counted, and what its written reply tells; and how a fault of the parser is refused.
+use Rattle.std.proofs.Common.{sym, subst, refl, ◌≡◌, ◌+◌, Some, Result, Ok, Err, OnOk, OnErr, IfErr}
 use Rattle.std.specs.Io.KnownBytes.{Appends}
-use Rattle.lore_run.specs.Types.{Reply}
+use Rattle.lorel_terms.specs.Faults.{refusal_of}
+use Rattle.lorel_terms.specs.declared.faults.ParseFault.{ParseFault}
+use Rattle.lorel_terms.specs.declared.faults.ParseFault.TheVariants as f
+use Rattle.lore_run.specs.Types.{Reply, Refusal, Syntax}
 use Rattle.lore_run.specs.Replies.{rendered}
 use Rattle.lore_run.specs.Runs.{ScriptPart, Yields, refusals}
 use Rattle.lore_run.specs.declared.status.Status.{Status}
@@ -24,3 +27,8 @@ replied_in_part (Ok x) before after part reply yielded done refused printed only
 replied_in_part (Err status) before after part reply yielded done refused printed only =
     subst (λ (s : Status). StopsReplying s before part after) (sym only)
     (record { reply = reply; yielded = yielded; done = done; refused = refused; printed = printed })
+
+-- a fault of the parser that is refused is no statement
+pub parse_refusal : (fault : ParseFault) (refusal : Refusal) → refusal_of fault ≡ Some refusal → (fault ≡ f.Syntax) × (refusal ≡ Syntax)
+parse_refusal f.Syntax refusal named = (refl, cc)
+parse_refusal f.NoMemory refusal named = cc

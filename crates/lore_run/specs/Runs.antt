@@ -1,11 +1,11 @@
 -- What a script means: the parts that it is cut into, what each of them answers, and what all of them print.
 use Rattle.std.specs.Prelude.{◌≡◌, ℕ, ◌+◌, ◌⊎◌, Some, List, [], ◌∷◌, ◌++◌, length, map, All}
 use Rattle.lore_base.specs.Chunks.{joined_chunks}
-use Rattle.lore_base.specs.Databases.{Database, IsValid, new_database}
-use Rattle.lorel_lex.specs.declared.token_types.Token.{Token}
+use Rattle.lore_base.specs.Databases.{Database, new_database}
+use Rattle.lorel_tokens.specs.declared.token_types.Token.{Token}
 use Rattle.lorel_lex.specs.Scan.{IsChunk, IsScript}
 use Rattle.lorel_lex.specs.Gaps.{IsBlank}
-use Rattle.lorel_lex.specs.declared.token_types.LexFault.{LexFault}
+use Rattle.lorel_lex.specs.declared.faults.LexFault.{LexFault}
 use Rattle.lorel_lex.specs.Faults.{refusal_of}
 use Rattle.lorel_lex.specs.Tokens.{AreTokens, HasFault}
 use Rattle.lorel_trees.specs.Trees.{StatementTree}
@@ -107,27 +107,3 @@ pub record RepliesToAll (run : RunState) : Type 0 where
   pub parts : List ScriptPart
   pub listed : HasParts run.taken parts
   pub replied : RepliesTo parts run
-
--- no parts have two runs from one database: they print the same bytes, refuse as many and leave the same
--- database
-abbrev pub HasOneRun : Type 0
-HasOneRun =
-    (before : Database) (parts : List ScriptPart) (bytes other_bytes : List ℕ) (refused other_refused : ℕ)
-    (after other : Database)
-    → Runs before parts bytes refused after → Runs before parts other_bytes other_refused other
-    → (bytes ≡ other_bytes) × (refused ≡ other_refused) × (after ≡ other)
-
--- no script has two lists of parts
-abbrev pub HasOneReading : Type 0
-HasOneReading =
-    (script : List ℕ) (parts others : List ScriptPart) → HasParts script parts → HasParts script others → parts ≡ others
-
--- each script has a list of parts: the rest behind its chunks is blank, or it isn't
-abbrev pub HasSomeReading : Type 0
-HasSomeReading = (script : List ℕ) → (parts : List ScriptPart) × HasParts script parts
-
--- from each valid database parts have a run
-abbrev pub HasSomeRun : Type 0
-HasSomeRun =
-    (before : Database) (parts : List ScriptPart) → IsValid before
-    → (bytes : List ℕ) × (refused : ℕ) × (after : Database) × Runs before parts bytes refused after

@@ -10,7 +10,6 @@ pub use run::run_lore;
 pub use sessions::Session;
 pub use status::{Outcome, Status};
 
-pub mod laws;
 mod parts;
 mod pieces;
 mod rendering;

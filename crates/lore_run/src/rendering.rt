@@ -19,7 +19,7 @@ use crate::reply_writer::ReplyWriter;
 use itoa::{Buffer, Integer, write_digits};
 use lore_base::{Failed, Label, OemText, Oid, Out, Refusal, Sink, Value};
 use lore_db::{AnswerRow, Cell, Db, Reply};
-use lorel_bind::PlanKind;
+use lorel_bound::PlanKind;
 use oem_atom::{print_label, print_value};
 
 // The bytes of the longest number of an object, with `&` and a space.

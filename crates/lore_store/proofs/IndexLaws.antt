@@ -11,7 +11,8 @@ use Rattle.lore_base.specs.declared.edges.Edge.{Edge}
 use Rattle.lore_base.specs.declared.values.Value.{Value}
 use Rattle.index_traits.specs.declared.entries.ValueEntry.{ValueEntry}
 use Rattle.lore_base.specs.Databases.{OemGraph, IsLive, IsLinked, IsRooted, AreAscendingObjects}
-use Rattle.lore_base.specs.ChangeSets.{IsGraphAfter, IsOnlyIn}
+use Rattle.lore_base.specs.ChangeSets.{IsGraphAfter}
+use Rattle.lore_base.specs.Deltas.{IsOnlyIn}
 use Rattle.index_traits.specs.Entries.{AreLinks, AreAscendingLinks, AreValueEntries, IsValueEntry, AreAscendingEntries, entry_cmp}
 use Rattle.sorted_list.specs.SortedLists.{IsThen, IsChange, IsLessWith}
 use Rattle.value_index.specs.Values.{FitsEntries}
@@ -20,7 +21,7 @@ use Rattle.oem_graph.specs.Plans.{AreEdgeChanges}
 use Rattle.lore_base.proofs.ListLaws.{AllPairs-head, AllPairs-tail}
 use Rattle.oem_changes.proofs.AscentLaws.{AllPairs-nil, AllPairs-once}
 use Rattle.oem_changes.proofs.CountLaws.{distinct_no_longer}
-use Rattle.oem_changes.proofs.ToldLaws.{told_member, told_edge}
+use Rattle.lore_base.proofs.ToldLaws.{told_member, told_edge}
 use Rattle.oem_changes.proofs.RootedLaws.{All-of_members, told_live}
 use Rattle.oem_graph.proofs.LeftLaws.{mapped, map-contains}
 use Rattle.lore_store.specs.declared.indexes.Indexes.{Indexes}

@@ -5,21 +5,13 @@ use Rattle.dataguide.specs.Guides.{GuideGraph}
 use Rattle.lore_store.specs.Types.{Mode}
 use Rattle.lore_store.specs.declared.indexes.Indexes.{Indexes}
 use Rattle.lore_store.specs.Stores.{IsStored, database_of}
+use Rattle.lore_store.proofs.LimitLaws.{restorable_with}
 
 -- the database in a mode
 pub valid_in_mode : (db : Database) (mode : Mode) → IsValid db → IsValid (record db { mode = mode })
 valid_in_mode db mode valid = record {
-  labels_distinct = valid.labels_distinct;
-  labels_formed = valid.labels_formed;
-  well_formed = valid.well_formed;
-  labelled = valid.labelled;
-  reached = valid.reached;
-  few_labels = valid.few_labels;
-  few_names = valid.few_names;
-  few_objects = valid.few_objects;
-  few_edges = valid.few_edges;
-  nodes_limited = valid.nodes_limited;
-  few_sets = valid.few_sets;
+  restorable = restorable_with db db.nodes mode valid.restorable valid.restorable.nodes_limited;
+  fits = valid.fits;
 }
 
 -- the store of it

@@ -8,7 +8,7 @@ use Rattle.lore_base.specs.declared.edges.Edge.{Edge}
 use Rattle.lore_base.specs.declared.values.Value.{Value}
 use Rattle.lore_base.specs.Databases.{OemGraph, Database, IsLive, IsLinked, IsReached, IsValid, IsRooted}
 use Rattle.lore_base.specs.ChangeSets.{FitsGraph, Fits, EdgesThen, ObjectsThen, NamesThen, IsRenamed, IsLiveThen, IsReachedThen, IsGraphAfter, IsAfter, AreDead}
-use Rattle.lore_base.specs.TargetSets.{AreMoreThan}
+use Rattle.lore_base.specs.GuideLimits.{FitsGuide}
 use Rattle.lore_base.specs.Verdicts.{IsClear}
 use Rattle.lore_base.proofs.MemberLaws.{Contains-none}
 use Rattle.lore_base.proofs.ListLaws.{AllPairs-append}
@@ -16,7 +16,9 @@ use Rattle.oem_labels.specs.Labels.{first_uses}
 use Rattle.oem_labels.proofs.TextSetLaws.{first_uses-apart}
 use Rattle.oem_changes.proofs.ValidLaws.{valid_after, rooted_graph}
 use Rattle.oem_changes.proofs.DeterminedLaws.{one_between, one_after}
+use Rattle.dataguide.specs.declared.faults.GuideFault.{GuideFault}
 use Rattle.dataguide.specs.Guides.{GuideGraph}
+use Rattle.dataguide.specs.GuideCauses.{GuideCause}
 use Rattle.lore_store.specs.Stores.{PlannedDatabase, database_then, order, IsGuided}
 use Rattle.lore_store.specs.inside.Sizes.{SizeCause}
 use Rattle.lore_store.specs.inside.Unlinked.{LinkNothing}
@@ -107,7 +109,7 @@ module _ (db : Database) (changes : Changes) (valid : IsValid db) (fits : Fits d
   -- the listed labels are the new ones
   pub labels_come : first_uses db.labels changes.labels ≡ changes.labels
   labels_come = first_uses-apart db.labels changes.labels
-      (AllPairs-append (λ a b. a ≢ b) db.labels changes.labels valid.labels_distinct fits.labels_distinct
+      (AllPairs-append (λ a b. a ≢ b) db.labels changes.labels valid.restorable.labels_distinct fits.labels_distinct
       (λ i j d low_i low_j same. All-contains (λ text. Contains db.labels text → ⊥) changes.labels (get_or changes.labels j d) fits.labels_new
       (Contains-get_or changes.labels j d low_j) (subst (Contains db.labels) same (Contains-get_or db.labels i d low_i))))
 
@@ -120,19 +122,27 @@ module _ (db : Database) (changes : Changes) (valid : IsValid db) (fits : Fits d
     leads_after = record { labels = ap (λ l. db.labels ++ l) (labels ∙ labels_come); graph = graph; nodes = refl; mode = refl }
 
     pub leads_valid : IsClear (SizeCause (database_then db plan).graph) order
-        → (AreMoreThan db.nodes (database_then db plan).graph.names (database_then db plan).graph.edges → ⊥) → IsValid (database_then db plan)
-    leads_valid sized few_sets = valid_after db changes (database_then db plan) valid fits leads_after
+        → FitsGuide db.nodes (database_then db plan).graph.names (database_then db plan).graph.edges → IsValid (database_then db plan)
+    leads_valid sized fits_guide = valid_after db changes (database_then db plan) valid fits leads_after
         (few NAMES (length (database_then db plan).graph.names) sized.0)
         (few OBJECTS (length (database_then db plan).graph.objects) sized.1.0)
-        (few EDGES (length (database_then db plan).graph.edges) sized.1.1.0) few_sets
+        (few EDGES (length (database_then db plan).graph.edges) sized.1.1.0) fits_guide
       where
         few : (limit count : ℕ) → (limit < count → ⊥) → count ≤ limit
         few limit count not_more = omega (arith, not_more)
 
--- where nothing is linked anew, the guide stays, with no more sets
+-- what is found of names and edges is so of the graph that has them
+module _ (names : List (List ℕ × Oid)) (edges : List Edge) (graph : OemGraph) (named : names ≡ graph.names) (linked : edges ≡ graph.edges) where
+  pub fits_graph : (limit : ℕ) → FitsGuide limit names edges → FitsGuide limit graph.names graph.edges
+  fits_graph limit fits = rw (named, linked) at fits
+
+  pub graph_cause : (limit : ℕ) (error : GuideFault) → GuideCause limit names edges error → GuideCause limit graph.names graph.edges error
+  graph_cause limit error cause = rw (named, linked) at cause
+
+-- where nothing is linked anew, the guide stays, and it fits
 pub stays_guided : (db : Database) (guide : GuideGraph) → IsValid db → IsGuided db.graph guide → (changes : Changes) → LinkNothing changes
     → FitsGraph db.graph changes → (after : OemGraph) → IsGraphAfter db.graph changes after
-    → IsGuided after guide × (AreMoreThan db.nodes after.names after.edges → ⊥)
+    → IsGuided after guide × FitsGuide db.nodes after.names after.edges
 stays_guided db guide valid guided changes nothing fits after leaves =
     let same = nothing_linked db.graph changes (rooted_graph db valid) fits nothing after leaves in
-    (rw (same.0, same.1) guided, rw (same.0, same.1) valid.few_sets)
+    (rw (same.0, same.1) guided, rw (same.0, same.1) valid.fits)

@@ -2,27 +2,27 @@
 use Rattle.std.proofs.Common.{◌≡◌, ℕ, ◌+◌, ◌<◌, ◌^◌, List, [], length, refl, sym, ap, subst, ◌∙◌, arith}
 use Rattle.lore_base.specs.declared.edges.Oid.{Oid}
 use Rattle.lore_base.specs.declared.edges.Edge.{Edge}
-use Rattle.lore_base.specs.TargetSets.{AreMoreThan}
-use Rattle.lore_base.specs.Databases.{OemGraph, Database, IsValid, IsRooted, AreAscendingEdges, new_graph, new_database}
+use Rattle.lore_base.specs.GuideLimits.{FitsGuide}
+use Rattle.lore_base.specs.Databases.{OemGraph, Database, IsRooted, AreAscendingEdges, new_graph, new_database}
 use Rattle.lore_base.proofs.MemberLaws.{Contains-none}
 use Rattle.oem_changes.proofs.ValidLaws.{rooted_graph}
 use Rattle.oem_labels.specs.Labels.{AreLabels, first_uses}
 use Rattle.oem_labels.proofs.TextSetLaws.{first_uses-apart}
 use Rattle.oem_graph.specs.Graphs.{IsIndexable}
 use Rattle.oem_graph.specs.Plans.{AreEdgeChanges}
-use Rattle.dump_text.specs.Restores.{IsRestorable}
+use Rattle.lore_base.specs.Databases.{IsRestorable}
 use Rattle.index_traits.specs.declared.entries.ValueEntry.{ValueEntry}
 use Rattle.index_traits.specs.Entries.{AreLinks}
 use Rattle.value_changes.specs.EntryChanges.{State, IsSettled, AreGraphChanges, AreEntryChanges}
 use Rattle.dataguide.specs.declared.faults.GuideFault.{GuideFault}
 use Rattle.dataguide.specs.declared.faults.GuideFault.TheVariants as guides
 use Rattle.dataguide.specs.Guides.{GuideGraph, StandsFor, sets_of}
-use Rattle.dataguide.specs.PathOrder.{AreInPathOrder}
-use Rattle.lore_store.specs.declared.faults.RestoreFault.TheVariants as restore
-use Rattle.lore_store.specs.Faults.{guide_restore_fault}
+use Rattle.dataguide.specs.GuideCauses.{GuideCause}
+use Rattle.lore_base.specs.PathOrder.{AreInPathOrder}
+use Rattle.lore_store.specs.Faults.{guide_restore_fault, RestoreCause}
 use Rattle.lore_store.specs.declared.indexes.Indexes.{Indexes}
 use Rattle.lore_store.specs.Indexes.{AreIndexes, state_of}
-use Rattle.lore_store.specs.Stores.{IsStored, IsGuided, HasTooManySets, database_of}
+use Rattle.lore_store.specs.Stores.{IsStored, IsGuided, database_of}
 use Rattle.lore_store.proofs.NewLaws.{new_valid}
 use Rattle.lore_store.proofs.IndexLaws.{KeepValues, found_changes}
 
@@ -81,16 +81,19 @@ module _ (names : List (List ℕ × Oid)) (kept graph : OemGraph) (named : names
     order = rw (names_are, edges_are) at order;
   }
 
-  pub built_few : (limit : ℕ) → (AreMoreThan limit names kept.edges → ⊥) → AreMoreThan limit graph.names graph.edges → ⊥
-  built_few limit few = rw (names_are, edges_are) at few
+  pub built_fits : (limit : ℕ) → FitsGuide limit names kept.edges → FitsGuide limit graph.names graph.edges
+  built_fits limit fits = rw (names_are, edges_are) at fits
 
-  pub built_many : (limit : ℕ) → AreMoreThan limit names kept.edges → AreMoreThan limit graph.names graph.edges
-  built_many limit many = rw (names_are, edges_are) at many
+  pub built_cause : (limit : ℕ) (error : GuideFault) → GuideCause limit names kept.edges error
+      → GuideCause limit graph.names graph.edges error
+  built_cause limit error cause = rw (names_are, edges_are) at cause
 
--- a fault of the guide that is one of too many nodes was one of them
-pub too_many_nodes : (error : GuideFault) → guide_restore_fault error ≡ restore.GuideNodes → error ≡ guides.Nodes
-too_many_nodes guides.Nodes same = refl
-too_many_nodes guides.NoMemory same = cc
+-- the cause of a fault of the guide is that of the restored database
+pub restore_cause : (db : Database) (error : GuideFault) → GuideCause db.nodes db.graph.names db.graph.edges error
+    → RestoreCause db (guide_restore_fault error)
+restore_cause db guides.Nodes cause = cause
+restore_cause db guides.Cells cause = cause
+restore_cause db guides.NoMemory cause = tt
 
 module _ (db : Database) (sound : IsRestorable db) where
   pub restored_indexable : IsIndexable db.graph
@@ -99,27 +102,11 @@ module _ (db : Database) (sound : IsRestorable db) where
   pub restored_labels : AreLabels db.labels
   restored_labels = record { distinct = sound.labels_distinct; few = omega (arith, sound.few_labels) }
 
-  -- where label paths lead to few sets the database is valid
-  pub restored_valid : (HasTooManySets db → ⊥) → IsValid db
-  restored_valid few = record {
-    labels_distinct = sound.labels_distinct;
-    labels_formed = sound.labels_formed;
-    well_formed = sound.rooted.well_formed;
-    labelled = sound.labelled;
-    reached = sound.rooted.reached;
-    few_labels = sound.few_labels;
-    few_names = sound.few_names;
-    few_objects = sound.few_objects;
-    few_edges = sound.few_edges;
-    nodes_limited = sound.nodes_limited;
-    few_sets = few;
-  }
-
-  -- and a store of it is whole
+  -- where the guide fits the database is valid, and a store of it is whole
   pub restored_stored : (labels : List (List ℕ)) (graph : OemGraph) (kept : Indexes) (guide : GuideGraph) → labels ≡ db.labels
-      → graph ≡ db.graph → AreIndexes graph kept → IsGuided db.graph guide → (HasTooManySets db → ⊥)
+      → graph ≡ db.graph → AreIndexes graph kept → IsGuided db.graph guide → FitsGuide db.nodes db.graph.names db.graph.edges
       → IsStored (database_of labels graph db.nodes db.mode) kept guide
-  restored_stored labels graph kept guide labels_are is indexes guided few =
+  restored_stored labels graph kept guide labels_are is indexes guided fits =
       subst (λ (l : List (List ℕ)). IsStored (database_of l graph db.nodes db.mode) kept guide) (sym labels_are)
       (subst (λ (g : OemGraph). AreIndexes g kept → IsStored (database_of db.labels g db.nodes db.mode) kept guide) (sym is)
-      (λ stand. record { valid = restored_valid few; indexes = stand; guided = guided }) indexes)
+      (λ stand. record { valid = record { restorable = sound; fits = fits }; indexes = stand; guided = guided }) indexes)

@@ -4,7 +4,7 @@ use Rattle.lore_store.specs.Types.{Edge}
 use Rattle.lore_store.specs.declared.indexes.Indexes.{Indexes}
 use Rattle.lore_store.specs.declared.indexes.IndexPlan.{IndexPlan}
 use Rattle.lore_base.specs.Databases.{OemGraph}
-use Rattle.lore_base.specs.ChangeSets.{IsOnlyIn}
+use Rattle.lore_base.specs.Deltas.{IsOnlyIn}
 use Rattle.index_traits.specs.Entries.{AreLinks, AreValueEntries}
 use Rattle.link_index.specs.Links as links
 use Rattle.value_index.specs.Values as values

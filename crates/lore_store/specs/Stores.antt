@@ -1,7 +1,7 @@
 -- Stores, and what a prepared change leads to.
 use Rattle.std.specs.Prelude.{ℕ, ◌≤◌, List, [], ◌∷◌, ◌++◌, Option, Some, None}
 use Rattle.lore_store.specs.Types.{Mode, NODES, Refusal}
-use Rattle.lore_base.specs.TargetSets.{AreMoreThan}
+use Rattle.lore_base.specs.GuideLimits.{FitsGuide}
 use Rattle.lore_store.specs.Types.refusals
 use Rattle.lore_store.specs.declared.indexes.Indexes.{Indexes}
 use Rattle.lore_store.specs.declared.indexes.IndexPlan.{IndexPlan}
@@ -33,7 +33,7 @@ pub record IsStored (db : Database) (kept : Indexes) (guide : GuideGraph) : Type
   pub indexes : AreIndexes db.graph kept
   pub guided : IsGuided db.graph guide
 
--- what becomes of the graph, which label texts come, which entries go and come, and the guide, where it was built anew
+-- what becomes of the graph, which label texts come, which entries go and come, and the guide, if it is another
 pub record PlannedDatabase : Type 0 where
   pub graph : PlannedGraph
   pub labels : PlannedLabels
@@ -69,14 +69,11 @@ pub record HasRoomFor (store : RoomyDatabase) (plan : PlannedDatabase) : Type 0 
 -- the order in which causes of refusals are tried
 abbrev pub order : List Refusal
 order =
-    refusals.TooManyNames ∷ refusals.TooManyObjects ∷ refusals.TooManyEdges ∷ refusals.GuideNodes ∷ []
+    refusals.TooManyNames ∷ refusals.TooManyObjects ∷ refusals.TooManyEdges
+    ∷ refusals.GuideNodes ∷ refusals.GuideCells ∷ []
 
--- label paths lead to more sets in the database than its own limit
-abbrev pub HasTooManySets : Database → Type 0
-HasTooManySets db = AreMoreThan db.nodes db.graph.names db.graph.edges
-
--- the number is a limit on the guide's nodes: it is in range, and label paths lead to no more sets
+-- the number is a limit on the guide's nodes: it is in range, and the guide, which fits by it, has no more
 pub record IsLimit (db : Database) (limit : ℕ) : Type 0 where
   pub low : 1 ≤ limit
   pub high : limit ≤ NODES
-  pub few : ¬ AreMoreThan limit db.graph.names db.graph.edges
+  pub fits : FitsGuide limit db.graph.names db.graph.edges

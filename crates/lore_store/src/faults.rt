@@ -8,22 +8,25 @@ use lore_base::{Fault, NoMemory, Refusal};
 use std::alloc::{AllocError, AllocFailed};
 use thiserror::Error;
 
-/// Why a change is refused for what the database would hold afterwards. The first cause that applies
-/// is answered, in this order.
+/// Why a change is refused for what the database would hold afterwards. The first cause that
+/// applies is answered, in this order.
 #[derive(Clone, Copy, Debug, PartialEq, Eq, Error)]
 pub enum StoreFault {
-    /// There would be more than 1,024 names.
+    /// There would be more names than `NAMES`.
     #[error("too many names")]
     TooManyNames,
-    /// There would be more than 65,536 objects.
+    /// There would be more objects than `OBJECTS`.
     #[error("too many objects")]
     TooManyObjects,
-    /// There would be more than 262,144 edges.
+    /// There would be more edges than `EDGES`.
     #[error("too many edges")]
     TooManyEdges,
     /// Label paths would lead to more sets of objects than the guide may have nodes.
     #[error("too many nodes of the guide")]
     GuideNodes,
+    /// The sets that label paths would lead to would have more members than `CELLS`.
+    #[error("too many members of the guide's sets")]
+    GuideCells,
     /// Memory was refused.
     #[error("out of memory")]
     NoMemory,
@@ -38,6 +41,7 @@ impl Fault for StoreFault {
             StoreFault::TooManyObjects => Some(Refusal::TooManyObjects),
             StoreFault::TooManyEdges => Some(Refusal::TooManyEdges),
             StoreFault::GuideNodes => Some(Refusal::GuideNodes),
+            StoreFault::GuideCells => Some(Refusal::GuideCells),
             StoreFault::NoMemory => None,
         }
     }
@@ -57,6 +61,7 @@ impl From<GuideFault> for StoreFault {
     fn from(error: GuideFault) -> StoreFault {
         match error {
             GuideFault::Nodes => StoreFault::GuideNodes,
+            GuideFault::Cells => StoreFault::GuideCells,
             GuideFault::NoMemory => StoreFault::NoMemory,
         }
     }
@@ -84,6 +89,9 @@ pub enum RestoreFault {
     /// Label paths lead to more sets of objects than the guide may have nodes.
     #[error("too many nodes of the guide")]
     GuideNodes,
+    /// The sets that label paths lead to have more members than `CELLS`.
+    #[error("too many members of the guide's sets")]
+    GuideCells,
     /// Memory was refused.
     #[error("out of memory")]
     NoMemory,
@@ -94,9 +102,9 @@ impl Fault for RestoreFault {
 
     fn refusal(&self) -> Option<Refusal> {
         match self {
-            // The limit stands in the text as the edges do, so that the text contradicts itself: it
-            // is the dump of no database, and the session's own limit is not passed.
-            RestoreFault::GuideNodes => Some(Refusal::BadRestore),
+            // The limit stands in the text as the edges do, so that the text contradicts itself:
+            // it is the dump of no database, and the session's own limit is not passed.
+            RestoreFault::GuideNodes | RestoreFault::GuideCells => Some(Refusal::BadRestore),
             RestoreFault::NoMemory => None,
         }
     }
@@ -116,6 +124,7 @@ impl From<GuideFault> for RestoreFault {
     fn from(error: GuideFault) -> RestoreFault {
         match error {
             GuideFault::Nodes => RestoreFault::GuideNodes,
+            GuideFault::Cells => RestoreFault::GuideCells,
             GuideFault::NoMemory => RestoreFault::NoMemory,
         }
     }

@@ -118,8 +118,8 @@ impl Indexes {
         Ok(IndexPlan { links, values })
     }
 
-    /// Takes the memory that `commit` needs for this plan. What the indexes hold stays, whatever the
-    /// answer.
+    /// Takes the memory that `commit` needs for this plan. What the indexes hold stays, whatever
+    /// the answer.
     pub(crate) fn reserve(&mut self, plan: &IndexPlan) -> Result<(), NoMemory>
         ensures room { OnOk result (HasIndexRoom self.new plan.now) }
         ensures same { (graph : OemGraph) → AreIndexes graph self.old → AreIndexes graph self.new }

@@ -1,30 +1,27 @@
-ghost use Rattle.std.specs.Prelude.{◌≡◌, ◌↔◌, [], ◌∷◌, IsTrue, IfOk, IfErr, OnOk, OnErr};
+ghost use Rattle.std.specs.Prelude.{◌≡◌, ◌↔◌, IsTrue, IfOk, IfErr, OnOk, OnErr};
 ghost use Rattle.lore_base.specs.Databases.{IsValid, new_database};
 ghost use Rattle.lore_base.specs.ChangeSets.{FitsGraph, Fits, IsAfter, IsGraphAfter, AreDead};
-ghost use Rattle.lore_base.specs.TargetSets.{AreMoreThan};
+ghost use Rattle.lore_base.specs.GuideLimits.{FitsGuide};
 ghost use Rattle.lore_base.specs.ChangeCauses.{DatabaseCause};
 ghost use Rattle.lore_base.specs.Verdicts.{IsClear, IsToldBy};
 ghost use Rattle.oem_graph.specs.Plans.{graph_then};
-ghost use Rattle.dump_text.specs.Restores.{IsWhole, database_from};
+ghost use Rattle.lore_base.specs.Restores.{IsWhole, database_from};
 ghost use Rattle.oem_labels.specs.Labels.{AreLabels};
 ghost use Rattle.index_traits.specs.Entries.{AreLinks, AreValueEntries};
-ghost use Rattle.lore_store.specs.Faults.{refusal_of};
-ghost use Rattle.lore_store.specs.Types.refusals;
-ghost use Rattle.lore_store.specs.declared.faults.RestoreFault.TheVariants as restore;
+ghost use Rattle.lore_store.specs.Faults.{refusal_of, RestoreCause};
 ghost use Rattle.lore_store.specs.Stores as spec;
 ghost use Rattle.lore_store.specs.Stores.{database_then, LeadsOn, HasRoomFor, IsGuided};
-ghost use Rattle.lore_store.specs.Stores.{IsLimit, HasTooManySets, order};
-ghost use Rattle.lore_store.specs.inside.Sizes.{SizeCause, NodesCause};
+ghost use Rattle.lore_store.specs.Stores.{IsLimit, order};
+ghost use Rattle.lore_store.specs.inside.Sizes.{SizeCause, SetsCause, sets_order};
 ghost use Rattle.lore_store.specs.inside.Unlinked.{LinkNothing};
 
 use crate::faults::{RestoreFault, StoreFault};
 use crate::indexes::Indexes;
 use crate::prepared::Prepared;
 use dataguide::Guide;
-use dump_text::Restored;
 use link_index::LinkIndex;
-use lore_base::limits::{EDGES, NAMES, NODES, OBJECTS};
-use lore_base::{Changes, Mode, NoMemory, OidBuf, Steps, TextList};
+use lore_base::limits::{EDGES, NAMES, NODES, OBJECTS, START_NODES};
+use lore_base::{Changes, Mode, NoMemory, OidBuf, Restored, Steps, TextList};
 use oem_graph::{Graph, GraphPlan};
 use oem_labels::LabelTable;
 use oem_reach::dead_objects;
@@ -33,9 +30,9 @@ use std::marker::Model;
 use std::sync::ledger::Ledger;
 use value_index::ValueIndex;
 
-/// One valid database: its graph, its table of labels, its limit on the guide's nodes, its plan mode,
-/// its guide, and the indexes of its links and values, all as they would be built from it. Contracts see it as that
-/// database and what it is kept in, with the room of each part.
+/// One valid database: its graph, its table of labels, its limit on the guide's nodes, its plan
+/// mode, its guide, and the indexes of its links and values, all as they would be built from it.
+/// Contracts see it as that database and what it is kept in, with the room of each part.
 #[derive(Drop)]
 pub struct Store {
     graph: Graph,
@@ -72,7 +69,7 @@ impl Store {
             labels: LabelTable::new(alloc),
             indexes: Indexes::new(alloc),
             guide: Guide::new(alloc),
-            limit: NODES,
+            limit: START_NODES,
             mode: Mode::Auto,
         }
     }
@@ -124,7 +121,8 @@ impl Store {
     }
 
     /// Sets the most nodes that the guide may have. False, and nothing changes, exactly where the
-    /// number is below 1, above 4,096, or below the number of nodes that there are. Takes no memory.
+    /// number is below 1, above `NODES`, or below the number of nodes that there are. Takes no
+    /// memory.
     pub fn set_limit(&mut self, limit: u32) -> bool
         ensures told { IsTrue result ↔ IsLimit self.old.db limit }
         ensures set { IsTrue result → self.new.db ≡ record self.old.db { nodes = limit } }
@@ -155,8 +153,9 @@ impl Store {
 
     /// Works out what these changes, which fit the database, lead to: what no name walks to then
     /// vanishes. The database stays as it is. Refused are, in this order, more names, objects and
-    /// edges than a database holds (`TooManyNames`, `TooManyObjects`, `TooManyEdges`), and more nodes
-    /// of the guide than its limit (`GuideNodes`).
+    /// edges than a database holds (`TooManyNames`, `TooManyObjects`, `TooManyEdges`), and a guide
+    /// that doesn't fit: of its sets, in the order of their least label paths, the first that
+    /// passes a limit passes the one on nodes (`GuideNodes`) or the one on members (`GuideCells`).
     pub fn prepare<L: Ledger>(
         &self,
         alloc: Global,
@@ -164,7 +163,8 @@ impl Store {
         steps: &mut Steps<L>,
     ) -> Result<Prepared, StoreFault>
         requires fits { Fits self.now.db changes.now }
-        ensures after { IfOk result (λ plan. IsAfter self.now.db changes.now (database_then self.now.db plan)) }
+        ensures after { IfOk result (λ plan.
+            IsAfter self.now.db changes.now (database_then self.now.db plan)) }
         ensures leads { IfOk result (λ plan. LeadsOn self.now.db self.now.guide plan) }
         ensures ok { OnOk result (IsClear (DatabaseCause self.now.db changes.now) order) }
         ensures err { let cause = DatabaseCause self.now.db changes.now in
@@ -217,9 +217,9 @@ impl Store {
         }
     }
 
-    /// Makes the new database the restored one, each part of which is built once. Where an error is
-    /// answered the database stays new. `GuideNodes` exactly where label paths lead to more sets of
-    /// objects than the restored limit.
+    /// Makes the new database the restored one, each part of which is built once. Where an error
+    /// is answered the database stays new. `GuideNodes` and `GuideCells` where the guide doesn't
+    /// fit by the restored limit, as `prepare` answers them.
     pub fn restore<L: Ledger>(
         &mut self,
         alloc: Global,
@@ -230,9 +230,8 @@ impl Store {
         requires whole { IsWhole restored.now }
         ensures ok { OnOk result (self.new.db ≡ database_from restored.now) }
         ensures same { OnErr result (self.new ≡ self.old) }
-        ensures few { OnOk result (¬ HasTooManySets (database_from restored.now)) }
-        ensures nodes { IfErr result (λ fault. fault ≡ restore.GuideNodes
-            → HasTooManySets (database_from restored.now)) }
+        ensures valid { OnOk result (IsValid (database_from restored.now)) }
+        ensures cause { IfErr result (RestoreCause (database_from restored.now)) }
     {
         *self = Store::restored(alloc, restored, steps)?;
         Ok(())
@@ -246,9 +245,8 @@ impl Store {
     ) -> Result<Store, RestoreFault>
         requires { IsWhole restored.now }
         ensures ok { IfOk result (λ store. store.db ≡ database_from restored.now) }
-        ensures few { OnOk result (¬ HasTooManySets (database_from restored.now)) }
-        ensures nodes { IfErr result (λ fault. fault ≡ restore.GuideNodes
-            → HasTooManySets (database_from restored.now)) }
+        ensures valid { OnOk result (IsValid (database_from restored.now)) }
+        ensures cause { IfErr result (RestoreCause (database_from restored.now)) }
     {
         let limit = restored.nodes;
         let changes = &restored.changes;
@@ -300,11 +298,11 @@ impl Store {
             (graph_then self.now.db.graph plan.now) }
         ensures guided { let after = graph_then self.now.db.graph plan.now in
             IfOk result (λ guide. IsGuided after (spec.guide_then self.now.guide guide)) }
-        ensures few { let after = graph_then self.now.db.graph plan.now in
-            OnOk result (¬ AreMoreThan self.now.db.nodes after.names after.edges) }
+        ensures fits { let after = graph_then self.now.db.graph plan.now in
+            OnOk result (FitsGuide self.now.db.nodes after.names after.edges) }
         ensures err { let after = graph_then self.now.db.graph plan.now in
-            IfErr result (λ fault. IsToldBy (NodesCause self.now.db.nodes after)
-            (refusals.GuideNodes ∷ []) (refusal_of fault)) }
+            IfErr result (λ fault.
+            IsToldBy (SetsCause self.now.db.nodes after) sets_order (refusal_of fault)) }
     {
         let then = self.graph.then(plan);
         if link_nothing(changes) {

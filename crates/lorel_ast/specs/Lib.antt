@@ -1,12 +1,2 @@
 pub mod Printing
-pub mod PrintingLaws
-pub mod PrintedText
-pub mod Laws
-pub mod Worked
-pub mod WorkedLoads
-pub mod WorkedUpdates
-pub mod WorkedPaths
-pub mod WorkedConditions
-pub mod WorkedSettings
-pub mod Nesting
 pub mod inside

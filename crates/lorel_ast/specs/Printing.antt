@@ -3,8 +3,8 @@ use Rattle.std.specs.Prelude.{ℕ, Bool, true, false, List, [], ◌∷◌, codes
 use Rattle.lorel_trees.specs.Types.{Oid, Plain, Wild, Kind}
 use Rattle.lore_base.specs.Names.{is_identifier}
 use Rattle.lore_base.specs.Paths as p
-use Rattle.lorel_lex.specs.declared.token_types.Kind.TheVariants as k
-use Rattle.lorel_lex.specs.declared.token_types.Sign.TheVariants as s
+use Rattle.lorel_tokens.specs.declared.token_types.Kind.TheVariants as k
+use Rattle.lorel_tokens.specs.declared.token_types.Sign.TheVariants as s
 use Rattle.lorel_lex.specs.Writing.{IsUtf8Token}
 use Rattle.lorel_trees.specs.declared.dump_trees.DumpTree.{DumpTree}
 use Rattle.lorel_ast.specs.declared.print_conditions.Standing.{Standing}
@@ -13,7 +13,7 @@ use Rattle.lorel_trees.specs.Trees as t
 use Rattle.lorel_trees.specs.Repetitions.{spell_each}
 use Rattle.lorel_trees.specs.Literals.{spell_value, spell_mark}
 use Rattle.lorel_trees.specs.Conditions.{spell_op}
-use Rattle.lorel_trees.specs.Statements.{spell_mode, spell_oid, spell_dump_objects}
+use Rattle.lorel_trees.specs.Statements.{spell_mode, spell_oid, spell_dump_objects, switch_text}
 
 -- an identifier where the label has that form, and quoted where it hasn't
 abbrev pub label_token : Bool → List ℕ → Kind
@@ -206,6 +206,17 @@ print_statement t.dump rest = k.Word (codes "dump") ∷ rest
 print_statement (t.restore text) rest = k.Word (codes "restore") ∷ print_dump text rest
 print_statement (t.generate seed count) rest =
     k.Word (codes "generate") ∷ k.Number seed ∷ k.Number count ∷ rest
+print_statement (t.history on) rest = k.Word (codes "history") ∷ k.Word (switch_text on) ∷ rest
+print_statement (t.select_at moment query) rest =
+    k.Word (codes "at") ∷ k.Number moment ∷ print_select query rest
+print_statement (t.changes first last) rest =
+    k.Word (codes "changes") ∷ k.Number first ∷ k.Number last ∷ rest
+print_statement t.blocks rest = k.Word (codes "blocks") ∷ rest
+print_statement (t.blocks_of query) rest = k.Word (codes "blocks") ∷ print_select query rest
+print_statement (t.watch name query) rest =
+    k.Word (codes "watch") ∷ k.Word name ∷ k.Symbol s.Assign ∷ print_select query rest
+print_statement (t.unwatch name) rest = k.Word (codes "unwatch") ∷ k.Word name ∷ rest
+print_statement (t.show name) rest = k.Word (codes "show") ∷ k.Word name ∷ rest
 
 -- the texts of a statement are UTF-8
 abbrev pub HasUtf8Texts : t.StatementTree → Type 0

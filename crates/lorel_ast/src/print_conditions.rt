@@ -1,5 +1,5 @@
 ghost use Rattle.std.specs.Prelude.{OnOk, ◌∷◌, codes};
-ghost use Rattle.lorel_lex.specs.declared.token_types.Kind.TheVariants as k;
+ghost use Rattle.lorel_tokens.specs.declared.token_types.Kind.TheVariants as k;
 ghost use Rattle.lorel_trees.specs.Conditions.{spell_op};
 ghost use Rattle.lorel_ast.specs.Printing.{print_operand, print_cond, print_joined};
 ghost use Rattle.lorel_trees.specs.Trees.{operand_tree, rooted_tree, cond_tree, cond_trees};
@@ -10,7 +10,7 @@ use crate::print_literals::put_value;
 use crate::print_paths::put_rooted;
 use crate::token_writer::TokenWriter;
 use lore_base::{NoMemory, OemText, Op};
-use lorel_lex::Sign;
+use lorel_tokens::Sign;
 use lorel_trees::{Cond, CondList, Operand, Rooted};
 
 /// Where a condition stands.

@@ -1,5 +1,5 @@
 ghost use Rattle.std.specs.Prelude.{OnOk, ◌∷◌, codes};
-ghost use Rattle.lorel_lex.specs.declared.token_types.Kind.TheVariants as k;
+ghost use Rattle.lorel_tokens.specs.declared.token_types.Kind.TheVariants as k;
 ghost use Rattle.lorel_trees.specs.Statements.{spell_mode, spell_oid, spell_dump_objects};
 ghost use Rattle.lorel_ast.specs.Printing.{print_dump_labels, print_dump_names, print_dump_edge};
 ghost use Rattle.lorel_ast.specs.Printing.{print_dump_edges, print_dump};

@@ -1,15 +1,26 @@
 ghost use Rattle.std.specs.Prelude.{OnOk, ◌∷◌};
-ghost use Rattle.lorel_lex.specs.declared.token_types.Kind.TheVariants as k;
-ghost use Rattle.lorel_lex.specs.declared.token_types.Sign.TheVariants as s;
-ghost use Rattle.lorel_trees.specs.Literals.{spell_value, spell_mark};
+ghost use Rattle.lorel_tokens.specs.declared.token_types.Kind.TheVariants as k;
+ghost use Rattle.lorel_tokens.specs.declared.token_types.Sign.TheVariants as s;
+ghost use Rattle.lorel_trees.specs.Grammar as g;
+ghost use Rattle.lorel_trees.specs.Literals.{spell_atom, spell_value, spell_mark};
 ghost use Rattle.lorel_ast.specs.Printing.{print_label, print_literal, print_members};
 ghost use Rattle.lorel_trees.specs.Trees.{literal_tree, member_tree, member_trees, members_from};
 ghost use Rattle.lorel_ast.specs.inside.Puts.{Puts};
 
 use crate::token_writer::TokenWriter;
 use lore_base::{NoMemory, Value};
-use lorel_lex::Sign;
+use lorel_tokens::Sign;
 use lorel_trees::{Literal, Member, MemberList};
+
+fn put_flag(flag: bool, out: &mut TokenWriter) -> Result<(), NoMemory>
+    ensures { OnOk result (Puts (spell_atom (g.flag flag)) out.old out.new) }
+{
+    if flag {
+        out.word(b"true")
+    } else {
+        out.word(b"false")
+    }
+}
 
 /// A value; `{ }` is the complex one.
 pub(crate) fn put_value(value: &Value, out: &mut TokenWriter) -> Result<(), NoMemory>
@@ -24,6 +35,7 @@ pub(crate) fn put_value(value: &Value, out: &mut TokenWriter) -> Result<(), NoMe
             out.text(text.as_bytes())?;
             Ok(())
         }
+        Value::Flag(flag) => put_flag(*flag, out),
         Value::Complex => {
             out.symbol(Sign::LeftBrace)?;
             out.symbol(Sign::RightBrace)?;

@@ -7,7 +7,7 @@ ghost use Rattle.lorel_ast.specs.inside.Puts.{Puts};
 
 use crate::token_writer::TokenWriter;
 use lore_base::{NoMemory, OemText, Path, PathList, Pattern};
-use lorel_lex::Sign;
+use lorel_tokens::Sign;
 use lorel_trees::Rooted;
 
 #[cycle(part)]

@@ -9,7 +9,7 @@ use crate::print_conditions::{Standing, put_cond};
 use crate::print_paths::put_rooted;
 use crate::token_writer::TokenWriter;
 use lore_base::{NoMemory, OemText};
-use lorel_lex::Sign;
+use lorel_tokens::Sign;
 use lorel_trees::{Cond, FromItem, Item, Select, Tail};
 
 // The variables behind a path: `@ word`, and the object variable.

@@ -1,11 +1,13 @@
 ghost use Rattle.std.specs.Prelude.{◌≡◌, [], ◌∷◌, codes, IfOk, OnOk};
-ghost use Rattle.lorel_lex.specs.declared.token_types.Kind.TheVariants as k;
-ghost use Rattle.lorel_lex.specs.declared.token_types.Sign.TheVariants as s;
+ghost use Rattle.lorel_tokens.specs.declared.token_types.Kind.TheVariants as k;
+ghost use Rattle.lorel_tokens.specs.declared.token_types.Sign.TheVariants as s;
 ghost use Rattle.lorel_trees.specs.Literals.{spell_value};
 ghost use Rattle.lorel_lex.specs.Writing.{line_text};
 ghost use Rattle.lorel_ast.specs.Printing as canon;
 ghost use Rattle.lorel_trees.specs.Trees.{literal_tree, rooted_tree, tail_tree, statement_tree};
 ghost use Rattle.lorel_trees.specs.Trees.{load, bind, assign, add_new, add_link, remove};
+ghost use Rattle.lorel_trees.specs.Trees.{select_tree, select_at, watch};
+ghost use Rattle.lorel_trees.specs.Statements.{switch_text};
 ghost use Rattle.lorel_ast.specs.inside.Puts.{Puts, print_target, print_label_path};
 
 use crate::print_dumps::{put_dump, put_mode};
@@ -14,9 +16,30 @@ use crate::print_paths::{put_labels, put_rooted};
 use crate::print_selects::{put_select, put_tail};
 use crate::token_writer::TokenWriter;
 use lore_base::{NoMemory, OemText, Value};
-use lorel_lex::Sign;
-use lorel_trees::{LabelPath, Literal, Rooted, Statement, Tail};
+use lorel_tokens::Sign;
+use lorel_trees::{LabelPath, Literal, Rooted, Select, Statement, Tail};
 use std::alloc::Global;
+
+// A command and a name.
+fn put_named(command: &[u8], name: &OemText, out: &mut TokenWriter) -> Result<(), NoMemory>
+    ensures { OnOk result (Puts (λ rest. k.Word command.now ∷ k.Word name.now ∷ rest)
+        out.old out.new) }
+{
+    out.word(command)?;
+    out.word(name.as_bytes())?;
+    Ok(())
+}
+
+// A command and two numbers.
+fn put_pair(command: &[u8], first: i64, second: i64, out: &mut TokenWriter) -> Result<(), NoMemory>
+    ensures { OnOk result (Puts (λ rest. k.Word command.now ∷ k.Number first ∷ k.Number second
+        ∷ rest) out.old out.new) }
+{
+    out.word(command)?;
+    out.number(first)?;
+    out.number(second)?;
+    Ok(())
+}
 
 // `command name :=`
 fn put_bound(command: &[u8], name: &OemText, out: &mut TokenWriter) -> Result<(), NoMemory>
@@ -165,6 +188,35 @@ fn put_label_path(command: &[u8], path: &LabelPath, out: &mut TokenWriter) -> Re
     Ok(())
 }
 
+fn put_switch(on: bool, out: &mut TokenWriter) -> Result<(), NoMemory>
+    ensures { OnOk result (Puts (λ rest. k.Word (switch_text on) ∷ rest) out.old out.new) }
+{
+    if on {
+        out.word(b"on")
+    } else {
+        out.word(b"off")
+    }
+}
+
+fn put_at(moment: i64, query: &Select, out: &mut TokenWriter) -> Result<(), NoMemory>
+    ensures { OnOk result (Puts (canon.print_statement
+        (select_at moment (select_tree query.now))) out.old out.new) }
+{
+    out.word(b"at")?;
+    out.number(moment)?;
+    put_select(query, out)?;
+    Ok(())
+}
+
+fn put_watch(name: &OemText, query: &Select, out: &mut TokenWriter) -> Result<(), NoMemory>
+    ensures { OnOk result (Puts (canon.print_statement (watch name.now (select_tree query.now)))
+        out.old out.new) }
+{
+    put_bound(b"watch", name, out)?;
+    put_select(query, out)?;
+    Ok(())
+}
+
 fn put_statement(statement: &Statement, out: &mut TokenWriter) -> Result<(), NoMemory>
     ensures { OnOk result (Puts (canon.print_statement (statement_tree statement.now))
         out.old out.new) }
@@ -172,11 +224,7 @@ fn put_statement(statement: &Statement, out: &mut TokenWriter) -> Result<(), NoM
     match statement {
         Statement::Load { name, literal } => put_load(name, literal, out),
         Statement::Name { name, path } => put_name(name, path, out),
-        Statement::Unname { name } => {
-            out.word(b"unname")?;
-            out.word(name.as_bytes())?;
-            Ok(())
-        }
+        Statement::Unname { name } => put_named(b"unname", name, out),
         Statement::Assign {
             target,
             value,
@@ -231,12 +279,23 @@ fn put_statement(statement: &Statement, out: &mut TokenWriter) -> Result<(), NoM
             put_dump(text, out)?;
             Ok(())
         }
-        Statement::Generate(seed, count) => {
-            out.word(b"generate")?;
-            out.number(*seed)?;
-            out.number(*count)?;
+        Statement::Generate(seed, count) => put_pair(b"generate", *seed, *count, out),
+        Statement::History(on) => {
+            out.word(b"history")?;
+            put_switch(*on, out)?;
             Ok(())
         }
+        Statement::At(moment, query) => put_at(*moment, query, out),
+        Statement::ChangesList(first, last) => put_pair(b"changes", *first, *last, out),
+        Statement::Blocks => out.word(b"blocks"),
+        Statement::BlocksSelect(query) => {
+            out.word(b"blocks")?;
+            put_select(query, out)?;
+            Ok(())
+        }
+        Statement::Watch { name, select } => put_watch(name, select, out),
+        Statement::Unwatch(name) => put_named(b"unwatch", name, out),
+        Statement::Show(name) => put_named(b"show", name, out),
     }
 }
 
@@ -244,7 +303,7 @@ fn put_statement(statement: &Statement, out: &mut TokenWriter) -> Result<(), NoM
 ///
 /// Labels that are no identifiers stand in quotes, and conditions in parentheses only where they
 /// need them. The text of a sound statement whose texts are UTF-8 is read back as the same
-/// statement (`laws::printed_statements`).
+/// statement (the law `printed_statements` of `grammar_laws`).
 pub fn print_statement(alloc: Global, statement: &Statement) -> Result<OemText, NoMemory>
     ensures { IfOk result (λ text.
         text ≡ line_text (canon.print_statement (statement_tree statement.now) [])) }

@@ -1,13 +1,13 @@
 ghost use Rattle.std.specs.Prelude.{◌≡◌, ◌-◌, [], ◌∷◌, ◌++◌, length, take, IfOk, OnOk};
 ghost use Rattle.std.specs.List.{flat_map};
 ghost use Rattle.lore_base.specs.Quotes.{escape, in_quotes};
-ghost use Rattle.lorel_lex.specs.declared.token_types.Kind.TheVariants as k;
+ghost use Rattle.lorel_tokens.specs.declared.token_types.Kind.TheVariants as k;
 ghost use Rattle.lorel_ast.specs.Printing.{print_label};
 ghost use Rattle.lorel_ast.specs.inside.Puts.{Puts};
 
 use itoa::Buffer;
 use lore_base::{NoMemory, OemText, is_identifier};
-use lorel_lex::Sign;
+use lorel_tokens::Sign;
 use std::alloc::Global;
 use std::marker::Model;
 

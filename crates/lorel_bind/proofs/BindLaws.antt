@@ -16,10 +16,11 @@ use Rattle.lorel_trees.specs.Trees.{CondTree, cond_tree, rooted_tree, operand_tr
 use Rattle.lorel_bind.specs.Types.{BoundStart, NESTING}
 use Rattle.lorel_ranges.specs.Places as p
 use Rattle.lorel_ranges.specs.Places.{Scope, place_of}
-use Rattle.lorel_ranges.specs.Conditions.{CondOf, exists, for_all, cond_in}
+use Rattle.lorel_bound.specs.Conditions.{CondOf, exists, for_all}
+use Rattle.lorel_ranges.specs.Conditions.{cond_in}
 use Rattle.lorel_ranges.specs.Ranges.{Range, IsFixed, places}
-use Rattle.lorel_bind.specs.Bound as b
-use Rattle.lorel_bind.specs.Bound.{BoundPathTree, bound_path, bound_cond}
+use Rattle.lorel_bound.specs.Bound as b
+use Rattle.lorel_bound.specs.Bound.{BoundPathTree, bound_path, bound_cond}
 use Rattle.lorel_bind.specs.Bindings.{StandsForAny, IsBoundPath, Correspond}
 use Rattle.lorel_ranges.specs.Texts.{depth_of_all}
 use Rattle.lorel_ranges.specs.Scopes.{enclosed, IsScope, names_of}
@@ -28,11 +29,11 @@ use Rattle.lorel_bind.specs.inside.Slots.{CanStartAny, StartsAny, CanBind}
 use Rattle.lorel_bind.specs.inside.Binders.{Binds, BindsRooted, BindsCond, BindsEach}
 use Rattle.lorel_bind.specs.declared.conditions.Binder.{Binder}
 use Rattle.lorel_ranges.specs.declared.places.Place.{Place}
-use Rattle.lorel_bind.specs.declared.bound.BoundPath.{BoundPath}
-use Rattle.lorel_bind.specs.declared.bound.BoundCond.{BoundCond}
-use Rattle.lorel_bind.specs.declared.bound.BoundCond.TheViews as v
+use Rattle.lorel_bound.specs.declared.conditions.BoundPath.{BoundPath}
+use Rattle.lorel_bound.specs.declared.conditions.BoundCond.{BoundCond}
+use Rattle.lorel_bound.specs.declared.conditions.BoundCond.TheViews as v
 use Rattle.lorel_ranges.proofs.PlaceLaws.{place_from}
-use Rattle.lorel_bind.proofs.BoundLaws.{exists_cond, for_all_cond}
+use Rattle.lorel_bound.proofs.BoundLaws.{exists_cond, for_all_cond}
 use Rattle.lorel_ranges.proofs.TextLaws.{cond_in-body, exists_tree, for_all_tree}
 
 -- ---- the plain data of conditions by their forms

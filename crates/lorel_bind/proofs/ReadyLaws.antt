@@ -11,18 +11,19 @@ use Rattle.lorel_bind.specs.Types.{Oid, RANGES}
 use Rattle.lorel_bind.specs.Types.starts
 use Rattle.lorel_bind.specs.Types.bound_starts
 use Rattle.lorel_ranges.specs.Places.{Place, at_root, cell_places, CellPlace, object, word, cells_of}
-use Rattle.lorel_ranges.specs.Conditions.{OperandOf, constant, at, CondOf, or, and, not, exists, for_all, compare, same, CondsOf, no_cond, cond, operand_paths, paths_of, paths_of_all, paths_in, cond_of, cond_places}
+use Rattle.lorel_bound.specs.Conditions.{OperandOf, constant, at, CondOf, or, and, not, exists, for_all, compare, same, CondsOf, no_cond, cond, operand_paths, paths_of, paths_of_all, paths_in}
+use Rattle.lorel_ranges.specs.Conditions.{cond_of, cond_places}
 use Rattle.lorel_ranges.specs.Ranges.{Range, places, joined, ArePlain, IsUsed, IsFixed, Fuses, FusesTimes, AreFused}
 use Rattle.lorel_ranges.specs.Texts.{text_places, ranged_identifiers}
 use Rattle.lorel_bind.specs.Refusals.{StartsNowhere, HasTooMany, IsRefusedBy, IsAccepted}
-use Rattle.lorel_bind.specs.Bound.{BoundTree}
+use Rattle.lorel_bound.specs.Bound.{BoundTree}
 use Rattle.lorel_bind.specs.Bindings.{IsBoundRange, IsBoundCell, IsBoundPath, CorrespondOperands, Correspond, CorrespondEach, CorrespondIf, IsBinding}
 use Rattle.lorel_bind.specs.declared.faults.BindFault.TheVariants.{TooManyRanges}
 use Rattle.lorel_ranges.specs.inside.Orders.{IsFound, AreOrdered}
 use Rattle.lorel_bind.specs.inside.Slots.{CanStart, CanStartAny, CanShow, CanBind, BindsRange, BindsCell, BindsPath}
 use Rattle.lorel_bind.specs.inside.Causes.{PassesText}
 use Rattle.lorel_ranges.proofs.ListLaws.{All-parts, All-from_members}
-use Rattle.lorel_ranges.proofs.ToldLaws.{told_member, told_bytes}
+use Rattle.lore_base.proofs.ToldLaws.{told_member, told_bytes}
 use Rattle.lorel_ranges.proofs.OrderLaws.{IsFound-wider}
 use Rattle.lorel_ranges.proofs.GatherLaws.{has_one_plain}
 use Rattle.lorel_ranges.proofs.PlainLaws.{plain_ordered}

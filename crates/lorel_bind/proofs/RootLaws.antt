@@ -11,7 +11,8 @@ use Rattle.lorel_trees.specs.Trees.{FromTree, OperandTree, CondTree, CondTrees, 
 use Rattle.lorel_trees.specs.Trees as t
 use Rattle.lorel_bind.specs.Types.{Oid}
 use Rattle.lorel_ranges.specs.Places.{Root, named, ranged, quantified, Place, at_root, beyond, Scope, root_of, place_of, scope_behind, scope_of, cell_places}
-use Rattle.lorel_ranges.specs.Conditions.{operand_in, cond_in, conds_in, operand_paths, paths_of, paths_of_all, paths_in, cond_places}
+use Rattle.lorel_ranges.specs.Conditions.{operand_in, cond_in, conds_in, cond_places}
+use Rattle.lorel_bound.specs.Conditions.{operand_paths, paths_of, paths_of_all, paths_in}
 use Rattle.lorel_ranges.specs.Ranges.{Range, prefix_ranges, path_ranges, from_item_ranges, from_ranges, made_ranges, places, AreGathered, ArePlain}
 use Rattle.lorel_ranges.specs.Texts.{from_places, text_places}
 use Rattle.lorel_bind.specs.Refusals.{StartsNowhere}

@@ -13,12 +13,14 @@ use Rattle.lorel_bind.specs.Types.shown
 use Rattle.lorel_bind.specs.Types.starts
 use Rattle.lorel_bind.specs.Types.bound_starts
 use Rattle.lorel_ranges.specs.Places.{Place, CellPlace, object, word, cells_of}
-use Rattle.lorel_ranges.specs.Conditions.{OperandOf, constant, at, CondOf, or, and, not, exists, for_all, compare, same, CondsOf, no_cond, cond, cond_of, cond_places, paths_in, operand_paths, paths_of, paths_of_all}
+use Rattle.lorel_bound.specs.Conditions.{OperandOf, constant, at, CondOf, or, and, not, exists, for_all, compare, same, CondsOf, no_cond, cond, paths_in, operand_paths, paths_of, paths_of_all}
+use Rattle.lorel_ranges.specs.Conditions.{cond_of, cond_places}
 use Rattle.lorel_ranges.specs.Ranges.{Range, places, IsUsed}
 use Rattle.lorel_ranges.specs.Texts.{text_places}
 use Rattle.lorel_bind.specs.Refusals.{leaves_in, HasTooMany, IsAccepted}
-use Rattle.lorel_bind.specs.Bound.{RangeTree, BoundPathTree, BoundTree}
-use Rattle.lorel_bind.specs.Bindings.{StandsFor, StandsForAny, IsBoundRange, IsBoundCell, IsBoundPath, CorrespondOperands, Correspond, CorrespondEach, CorrespondIf, IsBinding, IsWithin, IsCellWithin, IsBoundWithin, AreInOrder, IsRunnable}
+use Rattle.lorel_bound.specs.Bound.{RangeTree, BoundPathTree, BoundTree}
+use Rattle.lorel_bind.specs.Bindings.{StandsFor, StandsForAny, IsBoundRange, IsBoundCell, IsBoundPath, CorrespondOperands, Correspond, CorrespondEach, CorrespondIf, IsBinding}
+use Rattle.lorel_bound.specs.Runnable.{IsWithin, IsCellWithin, IsBoundWithin, AreInOrder, IsRunnable}
 use Rattle.lorel_ranges.specs.inside.Orders.{IsOpen, IsFound, AreOrdered}
 use Rattle.lorel_ranges.proofs.ListLaws.{AllZip-length, AllZip-append}
 use Rattle.lorel_ranges.proofs.OrderLaws.{new_places, open_places}

@@ -1,22 +1,20 @@
 -- The rows of a select: what its items show of the valuations of its ranges that hold.
-use Rattle.std.specs.Prelude.{◌≡◌, ℕ, ◌↔◌, List, [], Option, Some, MatchOption, All, AllPairs, Contains, slice_get}
-use Rattle.std.specs.Cmp.Lexicographic.{slice_cmp}
-use Rattle.std.specs.Ordering.{nat_cmp}
-use Rattle.std.specs.declared.cmp.Ordering.{Ordering}
-use Rattle.std.specs.declared.cmp.Ordering.TheVariants.{Less, Greater}
+use Rattle.std.specs.Prelude.{◌≡◌, ℕ, ◌↔◌, List, [], Option, Some, MatchOption, All, Contains, slice_get}
 use Rattle.std.specs.List.{AllZip}
 use Rattle.lorel_bind.specs.Types.{Oid, Label, Value, Cell}
 use Rattle.lorel_bind.specs.Types.cells
 use Rattle.lore_base.specs.Names.{object_of}
 use Rattle.lore_base.specs.Databases.{Database}
 use Rattle.lore_base.specs.Paths.{PathTree, seq, trees_of, Reaches}
-use Rattle.lore_base.specs.LeastWords.{shortlex_cmp, IsLeast, IsSpelledWalk}
+use Rattle.lore_base.specs.LeastWords.{IsLeast, IsSpelledWalk}
 use Rattle.lore_base.specs.Comparisons.{Compares}
 use Rattle.lorel_trees.specs.Trees.{SelectTree}
 use Rattle.lorel_ranges.specs.Places.{Root, named, quantified, Place, at_root, CellPlace, object, word, cells_of}
 use Rattle.lorel_ranges.specs.Ranges.{Range, ArePlain, IsFixed}
-use Rattle.lorel_ranges.specs.Conditions.{CondOf, cond_of}
-use Rattle.lorel_bind.specs.Holding.{Holds}
+use Rattle.lorel_bound.specs.Conditions.{CondOf}
+use Rattle.lorel_ranges.specs.Conditions.{cond_of}
+use Rattle.lorel_bound.specs.Holding.{Holds}
+use Rattle.lorel_bound.specs.Answers.{AreAscendingRows}
 
 -- a path of these parts reaches an object from a start
 abbrev pub Leads : Database → List PathTree → Oid → Oid → Type 0
@@ -82,18 +80,7 @@ pub record IsRowOver (db : Database) (query : SelectTree) (plain ranges : List R
 abbrev pub IsRow : Database → SelectTree → List Cell → Type 0
 IsRow db query row = (plain : List Range) × ArePlain query plain × IsRowOver db query plain plain row
 
--- cells of one kind stand in one column: objects by their numbers, words shortest first and then by label numbers
-abbrev pub cell_cmp : Cell → Cell → Ordering
-cell_cmp (cells.Object a) (cells.Object b) = nat_cmp a.0 b.0
-cell_cmp (cells.Object a) (cells.Path b) = Less
-cell_cmp (cells.Path a) (cells.Object b) = Greater
-cell_cmp (cells.Path a) (cells.Path b) = shortlex_cmp a b
-
--- rows are ordered by their cells from the left
-abbrev pub row_cmp : List Cell → List Cell → Ordering
-row_cmp = slice_cmp cell_cmp
-
 -- the answer: all rows, each once, in this order
 pub record IsAnswer (db : Database) (query : SelectTree) (rows : List (List Cell)) : Type 0 where
-  pub ascending : AllPairs (λ a b. row_cmp a b ≡ Less) rows
+  pub ascending : AreAscendingRows rows
   pub exact : (row : List Cell) → Contains rows row ↔ IsRow db query row

@@ -1,17 +1,18 @@
 -- What binding gives: the fused ranges of a select by slots, its cells and its condition.
-use Rattle.std.specs.Prelude.{◌≡◌, ℕ, ◌+◌, ◌<◌, ◌≤◌, suc, List, [], ◌∷◌, length, sum_by, Option, Some, None, All, slice_get}
+use Rattle.std.specs.Prelude.{◌≡◌, ℕ, List, Option, Some, None, slice_get}
 use Rattle.std.specs.List.{AllZip}
-use Rattle.lorel_bind.specs.Types.{Oid, Start, BoundStart, RANGES, LEAVES, CellOf}
+use Rattle.lorel_bind.specs.Types.{Oid, Start, BoundStart, CellOf}
 use Rattle.lorel_bind.specs.Types.starts
 use Rattle.lorel_bind.specs.Types.bound_starts
 use Rattle.lorel_bind.specs.Types.shown
 use Rattle.lore_base.specs.Names.{object_of}
-use Rattle.lore_base.specs.Paths.{PathTree, seq, trees_of, leaves}
+use Rattle.lore_base.specs.Paths.{PathTree, seq, trees_of}
 use Rattle.lorel_trees.specs.Trees.{SelectTree}
 use Rattle.lorel_ranges.specs.Places.{named, quantified, Place, at_root, CellPlace, object, word, cells_of}
-use Rattle.lorel_ranges.specs.Conditions.{OperandOf, constant, at, CondOf, or, and, not, exists, for_all, compare, same, CondsOf, no_cond, cond, cond_of, paths_in}
+use Rattle.lorel_bound.specs.Conditions.{OperandOf, constant, at, CondOf, or, and, not, exists, for_all, compare, same, CondsOf, no_cond, cond}
+use Rattle.lorel_ranges.specs.Conditions.{cond_of}
 use Rattle.lorel_ranges.specs.Ranges.{Range, ArePlain, AreFused, IsUsed, IsFixed, places}
-use Rattle.lorel_bind.specs.Bound.{RangeTree, BoundPathTree, BoundTree}
+use Rattle.lorel_bound.specs.Bound.{RangeTree, BoundPathTree, BoundTree}
 
 -- a start stands for a place: the object of a name, or the slot of a fused range
 abbrev pub StandsFor : List (List ℕ × Oid) → List Range → Place → Start → Type 0
@@ -85,31 +86,3 @@ pub record IsBinding (names : List (List ℕ × Oid)) (query : SelectTree) (boun
   pub ranges : AllZip (IsBoundRange names fused) fused bound.ranges
   pub cells : AllZip (IsBoundCell names fused) (cells_of query) bound.cells
   pub condition : CorrespondIf (IsBoundPath names plain fused) (cond_of query) bound.cond
-
--- a start is an object or one of so many slots
-abbrev pub IsWithin : ℕ → Start → Type 0
-IsWithin count (starts.Named oid) = Unit {0}
-IsWithin count (starts.Slot slot) = slot < count
-
--- and so for a cell
-abbrev pub IsCellWithin : ℕ → CellOf → Type 0
-IsCellWithin count (shown.Object start) = IsWithin count start
-IsCellWithin count (shown.PathOf slot) = slot < count
-
--- each range starts at an object or at an earlier range, where so many are earlier than the first
-abbrev pub AreInOrder : ℕ → List RangeTree → Type 0
-AreInOrder count [] = Unit {0}
-AreInOrder count (range ∷ others) = IsWithin count range.start × AreInOrder (suc count) others
-
-abbrev pub IsBoundWithin : ℕ → BoundStart → Type 0
-IsBoundWithin count (bound_starts.Slot slot) = slot < count
-IsBoundWithin count _ = Unit {0}
-
--- what running a bound select rests on: few ranges and few leaves, and starts that are there before they are needed
-pub record IsRunnable (bound : BoundTree) : Type 0 where
-  pub few_ranges : length bound.ranges ≤ RANGES
-  pub few_leaves : sum_by (λ range. leaves range.path) bound.ranges
-      + sum_by (λ path. leaves path.rest) (paths_in bound.cond) ≤ LEAVES
-  pub in_order : AreInOrder 0 bound.ranges
-  pub cells_within : All (IsCellWithin (length bound.ranges)) bound.cells
-  pub condition_within : All (λ path. IsBoundWithin (length bound.ranges) path.start) (paths_in bound.cond)

@@ -1,12 +1,6 @@
 pub mod Types
-pub mod Holding
 pub mod Answers
-pub mod CellOrder
 pub mod Faults
 pub mod Refusals
-pub mod Bound
 pub mod Bindings
-pub mod SlotRows
-pub mod Plans
-pub mod Laws
 pub mod inside

@@ -1,20 +1,21 @@
 ghost use Rattle.std.specs.Prelude.{ℕ, List, IfOk, IfErr, OnOk};
 ghost use Rattle.lorel_trees.specs.Trees.{select_tree};
-ghost use Rattle.lorel_bind.specs.Bound.{bound_tree};
+ghost use Rattle.lorel_bound.specs.Bound.{bound_tree};
 ghost use Rattle.lorel_ranges.specs.Texts.{IsShallow};
-ghost use Rattle.lorel_bind.specs.Bindings.{IsBinding, IsRunnable};
+ghost use Rattle.lorel_bind.specs.Bindings.{IsBinding};
+ghost use Rattle.lorel_bound.specs.Runnable.{IsRunnable};
 ghost use Rattle.lorel_bind.specs.Refusals.{StartsNowhere, IsAccepted, IsRefusedBy};
 ghost use Rattle.lorel_ranges.specs.Views.{ranges_of};
 ghost use Rattle.lorel_ranges.specs.Readings.{IsTextOf};
 ghost use Rattle.lorel_ranges.specs.SelectRanges.{AreRangesOf};
 
-use crate::bound::Bound;
 use crate::causes::check_text;
 use crate::conditions::Binder;
 use crate::faults::BindFault;
 use crate::slots::Slots;
 use lore_base::limits::RANGES;
 use lore_base::{Names, NoMemory};
+use lorel_bound::Bound;
 use lorel_ranges::{PlainPlaces, Text, fused_ranges, text_of};
 use lorel_trees::Select;
 use std::alloc::Global;

@@ -2,27 +2,19 @@
 //!
 //! A select ranges over the objects that its paths reach. `bind` reads its text, tells why it is
 //! refused, if it is, and gives each of its fused ranges a slot; its cells and its condition then go
-//! by slots (Abiteboul et al. 1997, range variables and path expressions). What a row consists of
-//! (`Cell`) and what a plan to find rows is (`Plan`) is said here too, for the crates that choose
-//! plans, run them and show what they find.
+//! by slots (Abiteboul et al. 1997, range variables and path expressions). What it gives, a bound
+//! select with its cells and plans of it, is passed on from `lorel_bound`.
 #![tactic(auto)]
 
 pub use binding::bind;
-pub use bound::{
-    Bound, BoundCond, BoundCondList, BoundOperand, BoundPath, BoundStart, CellList, CellOf, Range,
-    RangeList, Start,
-};
-pub use cells::Cell;
 pub use faults::BindFault;
-pub use plans::{Plan, PlanKind, PlanStep, PlanSteps};
+pub use lorel_bound::{
+    Bound, BoundCond, BoundCondList, BoundOperand, BoundPath, BoundStart, Cell, CellList, CellOf,
+    Plan, PlanKind, PlanStep, PlanSteps, Range, RangeList, Start,
+};
 
 mod binding;
-mod bound;
 mod causes;
-mod cells;
 mod conditions;
-mod copies;
 mod faults;
-pub mod laws;
-mod plans;
 mod slots;

@@ -4,7 +4,7 @@ ghost use Rattle.std.specs.List.{AllZip};
 ghost use Rattle.lore_base.specs.Paths.{path_tree, seq, trees_of};
 ghost use Rattle.lorel_bind.specs.Types.{Oid as TheOid, RANGES as THE_RANGES};
 ghost use Rattle.lorel_bind.specs.Types.starts;
-ghost use Rattle.lorel_bind.specs.Bound.{range_tree};
+ghost use Rattle.lorel_bound.specs.Bound.{range_tree};
 ghost use Rattle.lorel_ranges.specs.Places.{at_root, quantified};
 ghost use Rattle.lorel_ranges.specs.Ranges.{places};
 ghost use Rattle.lorel_bind.specs.Bindings.{StandsFor};
@@ -12,9 +12,9 @@ ghost use Rattle.lorel_ranges.specs.Views.{place_tree, range_of, ranges_of};
 ghost use Rattle.lorel_ranges.specs.Views.{shown_tree, shown_trees};
 ghost use Rattle.lorel_bind.specs.inside.Slots.{Starts, StartsAny, BindsRange, BindsCell};
 
-use crate::bound::{BoundStart, CellList, CellOf, Range, RangeList, Start};
 use lore_base::limits::RANGES;
 use lore_base::{Names, NoMemory, Oid, Path, PathList, TryCopy};
+use lorel_bound::{BoundStart, CellList, CellOf, Range, RangeList, Start};
 use lorel_ranges::{Place, Root, Shown, TextRange, same_place};
 use std::alloc::Global;
 

@@ -1,7 +1,7 @@
 -- Conditions that are made ready as plain data, by their forms.
 use Rattle.std.proofs.Common.{◌≡◌, List, sym, ap, ◌∙◌}
-use Rattle.lorel_bind.specs.Bound.{BoundPathTree}
-use Rattle.lorel_ranges.specs.Conditions.{CondOf, exists, for_all, compare, same}
+use Rattle.lorel_bound.specs.Bound.{BoundPathTree}
+use Rattle.lorel_bound.specs.Conditions.{CondOf, exists, for_all, compare, same}
 use Rattle.lorel_eval.specs.Types.{Op}
 use Rattle.lorel_eval.specs.inside.Ready.{ready_path, ready_operand, ready_tree, ready_step, ready_list_step}
 use Rattle.lorel_eval.specs.declared.ready_conds.ReadyPath.{ReadyPath}

@@ -1,8 +1,8 @@
 -- The values of objects, one object at a time.
 use Rattle.std.proofs.Common.{◌≡◌, ◌↔◌, List, Contains, Some, Bool, IsTrue, subst}
 use Rattle.lore_base.specs.TargetSets.{ListsInOrder}
-use Rattle.lorel_bind.specs.Bound.{BoundPathTree}
-use Rattle.lorel_ranges.specs.Conditions.{at}
+use Rattle.lorel_bound.specs.Bound.{BoundPathTree}
+use Rattle.lorel_bound.specs.Conditions.{at}
 use Rattle.lorel_eval.specs.Types.{Oid, Value}
 use Rattle.lorel_eval.specs.inside.Subjects.{SlotsOver, ReachedIn, GivesIn}
 use Rattle.lorel_eval.specs.inside.Sides.{HasSuch}

@@ -4,9 +4,9 @@ use Rattle.lore_base.specs.Lists.{ExtendsBy}
 use Rattle.lore_base.specs.Paths.{Reaches}
 use Rattle.lore_base.specs.TargetSets.{ListsInOrder}
 use Rattle.lore_base.proofs.TargetLaws.{ListsInOrder-same}
-use Rattle.lorel_bind.specs.Bound.{BoundPathTree}
-use Rattle.lorel_ranges.specs.Conditions.{CondOf}
-use Rattle.lorel_bind.specs.SlotRows.{BoundStartsAt}
+use Rattle.lorel_bound.specs.Bound.{BoundPathTree}
+use Rattle.lorel_bound.specs.Conditions.{CondOf}
+use Rattle.lorel_bound.specs.SlotRows.{BoundStartsAt}
 use Rattle.lorel_eval.specs.Types.{Oid, BoundStart}
 use Rattle.lorel_eval.specs.Types.bound_starts
 use Rattle.lorel_eval.specs.inside.Subjects.{SlotsOver, start_of, ReachedIn, HoldsIn}

@@ -1,9 +1,9 @@
 -- A condition that is made ready, in place of the condition itself.
 use Rattle.std.proofs.Common.{◌≡◌, ◌↔◌, List, [], Option, Some, Bool, IsTrue, Result, IfOk, IfSome, sym, ap, subst, ◌∙◌}
 use Rattle.std.specs.Option.{option_map}
-use Rattle.lorel_bind.specs.Bound.{BoundPathTree, bound_cond}
-use Rattle.lorel_ranges.specs.Conditions.{CondOf}
-use Rattle.lorel_bind.specs.SlotRows.{HoldsOver}
+use Rattle.lorel_bound.specs.Bound.{BoundPathTree, bound_cond}
+use Rattle.lorel_bound.specs.Conditions.{CondOf}
+use Rattle.lorel_bound.specs.SlotRows.{HoldsOver}
 use Rattle.lorel_eval.specs.Types.{Oid, BoundCond}
 use Rattle.lorel_eval.specs.Tests.{CondOver}
 use Rattle.lorel_eval.specs.inside.Ready.{ready_tree}

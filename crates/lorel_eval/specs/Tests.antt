@@ -1,7 +1,7 @@
 -- What a test of rows stands on: a condition, and the database that it is tested over.
 use Rattle.std.specs.Prelude.{ℕ, List, sum_by, Option}
 use Rattle.lore_base.specs.Paths.{leaves}
-use Rattle.lorel_bind.specs.Bound.{BoundPathTree}
+use Rattle.lorel_bound.specs.Bound.{BoundPathTree}
 use Rattle.lorel_eval.specs.Types.{Oid, Edge, Value, BoundCond}
 
 -- a condition, which may be missing, over label texts, edges and objects with their values

@@ -1,8 +1,8 @@
 ghost use Rattle.std.specs.Prelude.{◌≡◌, ◌≤◌, option_map, IfOk};
 ghost use Rattle.std.specs.Option.{option_copied};
-ghost use Rattle.lorel_bind.specs.Bound.{bound_cond};
-ghost use Rattle.lorel_ranges.specs.Conditions.{paths_in};
-ghost use Rattle.lorel_bind.specs.SlotRows.{HoldsOver};
+ghost use Rattle.lorel_bound.specs.Bound.{bound_cond};
+ghost use Rattle.lorel_bound.specs.Conditions.{paths_in};
+ghost use Rattle.lorel_bound.specs.SlotRows.{HoldsOver};
 ghost use Rattle.lorel_eval.specs.Types.{LEAVES};
 ghost use Rattle.lorel_eval.specs.Tests.{rest_leaves};
 
@@ -12,7 +12,7 @@ use crate::ready_conds::ReadyCond;
 use crate::subject::Subject;
 use index_traits::{Adjacent, Row, RowTest, ValueOf};
 use lore_base::{NoMemory, Oid, Steps};
-use lorel_bind::BoundCond;
+use lorel_bound::BoundCond;
 use oem_labels::LabelTable;
 use std::alloc::Global;
 use std::marker::Model;
@@ -35,9 +35,9 @@ impl<'a, A: Adjacent, G: ValueOf> Model for Test<'a, A, G> {
     ghost use Rattle.std.specs.Prelude.{◌≡◌, ◌≤◌, Some, option_map, IfSome};
     ghost use Rattle.std.specs.Option.{option_copied};
     ghost use Rattle.std.specs.Coded.{codes};
-    ghost use Rattle.lorel_bind.specs.contracts.bound.BoundCond as bound_cond_contract;
-    ghost use Rattle.lorel_bind.specs.Bound.{bound_cond};
-    ghost use Rattle.lorel_ranges.specs.Conditions.{paths_in};
+    ghost use Rattle.lorel_bound.specs.contracts.conditions.BoundCond as bound_cond_contract;
+    ghost use Rattle.lorel_bound.specs.Bound.{bound_cond};
+    ghost use Rattle.lorel_bound.specs.Conditions.{paths_in};
     ghost use Rattle.lorel_eval.specs.Types.{LEAVES};
     ghost use Rattle.lorel_eval.specs.Tests.{CondOver, rest_leaves};
     ghost use Rattle.lorel_eval.specs.inside.Ready.{ready_tree};

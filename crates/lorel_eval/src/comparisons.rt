@@ -1,6 +1,6 @@
 ghost use Rattle.std.specs.Prelude.{◌↔◌, IsTrue, IfOk};
 ghost use Rattle.lore_base.specs.Comparisons.{Compares};
-ghost use Rattle.lorel_ranges.specs.Conditions.{compare};
+ghost use Rattle.lorel_bound.specs.Conditions.{compare};
 ghost use Rattle.lorel_eval.specs.Types.{Value as TheValue};
 ghost use Rattle.lorel_eval.specs.inside.Ready.{ready_operand};
 ghost use Rattle.lorel_eval.specs.inside.Subjects.{GivesIn, HoldsIn};

@@ -1,5 +1,5 @@
 ghost use Rattle.std.specs.Prelude.{◌≡◌, ◌↔◌, [], ◌∷◌, ◌++◌, Contains, IsTrue, IfOk};
-ghost use Rattle.lorel_bind.specs.Bound.{conds_from};
+ghost use Rattle.lorel_bound.specs.Bound.{conds_from};
 ghost use Rattle.lorel_eval.specs.Types.{Oid as TheOid};
 ghost use Rattle.lorel_eval.specs.inside.Ready.{ready_tree, ready_trees};
 ghost use Rattle.lorel_eval.specs.inside.Subjects.{HoldsIn, SomeHoldsIn, AllHoldIn};

@@ -1,9 +1,9 @@
 ghost use Rattle.std.specs.Prelude.{◌≡◌, ◌≤◌, IfOk};
 ghost use Rattle.lore_base.specs.Paths.{path_tree, leaves};
-ghost use Rattle.lorel_bind.specs.Bound.{bound_path, bound_operand, bound_cond, bound_conds};
-ghost use Rattle.lorel_bind.specs.Bound.{conds_from};
-ghost use Rattle.lorel_ranges.specs.Conditions.{operand_paths, paths_of, paths_of_all};
-ghost use Rattle.lorel_ranges.specs.Conditions as c;
+ghost use Rattle.lorel_bound.specs.Bound.{bound_path, bound_operand, bound_cond, bound_conds};
+ghost use Rattle.lorel_bound.specs.Bound.{conds_from};
+ghost use Rattle.lorel_bound.specs.Conditions.{operand_paths, paths_of, paths_of_all};
+ghost use Rattle.lorel_bound.specs.Conditions as c;
 ghost use Rattle.lorel_eval.specs.Types.{LEAVES};
 ghost use Rattle.lorel_eval.specs.Tests.{rest_leaves};
 ghost use Rattle.lorel_eval.specs.inside.Ready.{ready_path, ready_operand};
@@ -11,7 +11,7 @@ ghost use Rattle.lorel_eval.specs.inside.Ready.{ready_tree, ready_trees};
 
 use crate::ready_conds::{ReadyCond, ReadyCondList, ReadyOperand, ReadyPath};
 use lore_base::{NoMemory, Op};
-use lorel_bind::{BoundCond, BoundCondList, BoundOperand, BoundPath};
+use lorel_bound::{BoundCond, BoundCondList, BoundOperand, BoundPath};
 use product_walk::Route;
 use std::alloc::Global;
 

@@ -1,5 +1,5 @@
 ghost use Rattle.std.specs.Prelude.{◌↔◌, ◌<◌, AllPairs, Contains, IsTrue, IfOk};
-ghost use Rattle.lorel_ranges.specs.Conditions.{same};
+ghost use Rattle.lorel_bound.specs.Conditions.{same};
 ghost use Rattle.lorel_eval.specs.Types.{Oid as TheOid};
 ghost use Rattle.lorel_eval.specs.inside.Ready.{ready_path};
 ghost use Rattle.lorel_eval.specs.inside.Subjects.{HoldsIn};

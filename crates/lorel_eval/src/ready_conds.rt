@@ -2,7 +2,7 @@ ghost use Rattle.std.specs.Prelude.{◌≡◌, [], ◌∷◌, ◌++◌, map, OnO
 ghost use Rattle.lorel_eval.specs.inside.Ready.{ready_tree, ready_trees, ready_conds_of};
 
 use lore_base::{NoMemory, Op, Value};
-use lorel_bind::BoundStart;
+use lorel_bound::BoundStart;
 use product_walk::Route;
 use std::alloc::Global;
 

@@ -7,7 +7,7 @@ use crate::ready_conds::ReadyPath;
 use index_traits::{Adjacent, Row, ValueOf};
 use lore_base::limits::RANGES;
 use lore_base::{NoMemory, Oid, OidBuf, Steps};
-use lorel_bind::BoundStart;
+use lorel_bound::BoundStart;
 use oem_labels::LabelTable;
 use std::alloc::Global;
 use std::marker::Model;

@@ -9,7 +9,7 @@ use Rattle.std.proofs.lemmas.Bool.{lt-leb, le-leb, ne_eqb, or_left}
 use Rattle.lore_base.specs.Names.{is_word_start}
 use Rattle.lorel_lex.specs.Types.{Kind, Word, Wild, PathOf, Number, Local, Chars, Quoted, Symbol, Sign, LeftBrace, RightBrace, LeftParen, RightParen, Comma, Dot, Colon, Assign, Equal, SameAs, NotEqual, Less, LessEqual, Greater, GreaterEqual, PlusAssign, MinusAssign, Question, Star, Plus, Bar, Hash, At, ByteClass, Letter, Digit, Minus, Ampersand, DoubleQuote, SingleQuote, Other}
 use Rattle.lore_base.specs.Quotes.{IsQuoted}
-use Rattle.lorel_lex.specs.Shapes.{is_pattern_start, IsNumber, IsLocal, sign_text, IsToken}
+use Rattle.lorel_tokens.specs.Shapes.{is_pattern_start, IsNumber, IsLocal, sign_text, IsToken}
 use Rattle.lorel_lex.specs.inside.Lexing.{class_of}
 
 -- the kinds of token that a byte of a class may begin

@@ -2,7 +2,7 @@
 use Rattle.std.proofs.Common.{◌≡◌, ℕ, ◌<◌, ◌≤◌, List, ◌++◌, length, take, drop, Err, refl, sym, ap, ◌∙◌, inl, inr, arith}
 use Rattle.std.proofs.lemmas.List.{take-append-drop, length-take-le, take_at, drop_at}
 use Rattle.lorel_lex.specs.Types.{Kind, LexFault, BadToken, RealRefused, NumberRange, TextTooLong, NoMemory}
-use Rattle.lorel_lex.specs.Shapes.{IsToken}
+use Rattle.lorel_tokens.specs.Shapes.{IsToken}
 use Rattle.lorel_lex.specs.Tokens.{IsWhole, IsInRange, IsShort, Keeps, fault_number, BeginsNone}
 use Rattle.lorel_lex.specs.inside.Lexing.{IsShape, ReadsFirst}
 

@@ -6,7 +6,7 @@ use Rattle.std.specs.Str.Parse.{IsNumeral, digits_value}
 use Rattle.std.proofs.lemmas.Str.Parse.{digit_from_value}
 use Rattle.std.proofs.lemmas.Bool.{cases_order}
 use Rattle.lorel_lex.specs.Types.{Kind, Number, Local, Chars, Quoted, Symbol, Sign, LexFault, BadToken, RealRefused, NumberRange, TextTooLong, NoMemory, ByteClass, Letter, Digit, Minus, Ampersand, DoubleQuote, SingleQuote, Other}
-use Rattle.lorel_lex.specs.Shapes.{IsNumber, IsLocal, sign_text, IsToken}
+use Rattle.lorel_tokens.specs.Shapes.{IsNumber, IsLocal, sign_text, IsToken}
 use Rattle.lorel_lex.specs.Tokens.{IsFirst, Keeps, fault_number, BeginsNone, Breaks, IsFaultAt}
 use Rattle.lorel_lex.specs.inside.Lexing.{class_of}
 use Rattle.lorel_lex.proofs.SymbolLaws.{same_symbol, Written, written, one, two}

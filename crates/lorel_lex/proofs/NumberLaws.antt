@@ -12,7 +12,7 @@ use Rattle.std.proofs.lemmas.Int.Digits.{digits_value_more}
 use Rattle.std.proofs.lemmas.Bool.{and_parts, and_from, leb-true, le-leb}
 use Rattle.std.proofs.lemmas.List.{length-take-le, take_rest}
 use Rattle.lorel_lex.specs.Types.{Kind, Number, Local, Digit, Minus, Ampersand, Other}
-use Rattle.lorel_lex.specs.Shapes.{IsNumber, begins, IsToken}
+use Rattle.lorel_tokens.specs.Shapes.{IsNumber, begins, IsToken}
 use Rattle.lorel_lex.specs.Tokens.{begins_fraction, BeginsNone}
 use Rattle.lorel_lex.specs.inside.Lexing.{class_of, EndsRun, BeginsSymbol, IsShape}
 use Rattle.lorel_lex.proofs.RunLaws.{run_most, run_some}

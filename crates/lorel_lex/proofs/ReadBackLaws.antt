@@ -1,7 +1,7 @@
 -- Written tokens are read back.
-use Rattle.std.proofs.Common.{◌≡◌, ◌≢◌, ℕ, ◌+◌, ◌-◌, ◌<◌, ◌≤◌, Bool, true, false, ◌&&◌, List, [], ◌∷◌, ◌++◌, length, get_or, take, map, nat_lt, eqb, refl, sym, ap, ap₂, ◌∙◌, subst, inl, inr, arith, suc, zero, append_assoc, append-nil, ltb-true}
+use Rattle.std.proofs.Common.{◌≡◌, ℕ, ◌+◌, ◌-◌, ◌<◌, ◌≤◌, Bool, true, false, ◌&&◌, List, [], ◌∷◌, ◌++◌, length, get_or, take, map, nat_lt, eqb, refl, sym, ap, ap₂, ◌∙◌, subst, inl, inr, arith, suc, zero, append_assoc, append-nil, ltb-true}
 use Rattle.std.specs.Prelude.{IsUtf8, pos, negsuc}
-use Rattle.std.specs.List.{AllByRecursion, flat_map, list_all, join_with_byte}
+use Rattle.std.specs.List.{AllByRecursion, flat_map, list_all}
 use Rattle.std.specs.Fmt.{decimal}
 use Rattle.std.proofs.lemmas.Bool.{and_parts, cases_lt, ne_eqb}
 use Rattle.std.proofs.lemmas.Fmt.{IsAscii-decimal}
@@ -9,15 +9,16 @@ use Rattle.std.proofs.lemmas.Grind.{flat_map-append}
 use Rattle.std.proofs.lemmas.List.{length-append, take_at}
 use Rattle.std.proofs.lemmas.List.Elements.{recursion_from_All}
 use Rattle.std.proofs.lemmas.Str.{IsUtf8-append, IsUtf8-nil, IsUtf8-encode, IsUtf8-from_ascii, inside_one}
-use Rattle.std.proofs.lemmas.Str.Ascii.{encode_ascii, IsAscii-cons}
+use Rattle.std.proofs.lemmas.Str.Ascii.{encode_ascii}
 use lib.Utf8.{scalar, scalars, encode, encodes, low_scalar}
 use Rattle.lore_base.specs.Quotes.{escape, in_quotes, IsQuoted}
 use Rattle.lore_base.proofs.QuoteLaws.{quoted-back}
 use Rattle.lorel_lex.specs.Types.{Token, Kind, Word, Wild, PathOf, Number, Local, Chars, Quoted, Symbol, Sign, LeftBrace, RightBrace, LeftParen, RightParen, Comma, Dot, Colon, Assign, Equal, SameAs, NotEqual, Less, LessEqual, Greater, GreaterEqual, PlusAssign, MinusAssign, Question, Star, Plus, Bar, Hash, At}
 use Rattle.lorel_lex.specs.Gaps.{is_blank, IsGap, nothing, blank, IsBlank}
-use Rattle.lorel_lex.specs.Shapes.{sign_text}
-use Rattle.lorel_lex.specs.Tokens.{IsNext, AreTokensFrom, HasForm}
-use Rattle.lorel_lex.specs.Writing.{token_text, MayFollow, IsUtf8Token, line_text, spaced, AreWritten, HasKinds, AreReadBack, IsLineReadBack, AreQuotesReadBack}
+use Rattle.lorel_tokens.specs.Shapes.{sign_text}
+use Rattle.lorel_tokens.specs.Forms.{HasForm}
+use Rattle.lorel_lex.specs.Tokens.{IsNext, AreTokensFrom}
+use Rattle.lorel_lex.specs.Writing.{token_text, MayFollow, IsUtf8Token, line_text, spaced, AreWritten, AreReadBack, IsLineReadBack, AreQuotesReadBack}
 use Rattle.lorel_lex.proofs.QuotedLaws.{same_quoted}
 use Rattle.lorel_lex.proofs.WritingLaws.{blank_is, first_token, token_kept, token_open, token_some}
 

@@ -6,7 +6,7 @@ use Rattle.std.specs.Str.Parse.{digits_value}
 use Rattle.std.proofs.lemmas.Bool.{cases_Bool, cases_lt}
 use Rattle.lorel_lex.specs.Types.{Kind, PathOf, Number, Local, Chars, Quoted, Symbol, BadToken, ByteClass, Letter, Digit, Minus, Ampersand, DoubleQuote, SingleQuote, Other}
 use Rattle.lore_base.specs.Quotes.{IsQuoted}
-use Rattle.lorel_lex.specs.Shapes.{is_pattern_byte, begins}
+use Rattle.lorel_tokens.specs.Shapes.{is_pattern_byte, begins}
 use Rattle.lorel_lex.specs.Tokens.{BeginsNone}
 use Rattle.lorel_lex.specs.inside.Lexing.{class_of, begins_path_of, single, pair_at, BeginsSymbol, escaped_after, IsShape, ClosesAt, Encloses}
 use Rattle.lorel_lex.proofs.RunLaws.{a_run}

@@ -2,7 +2,7 @@
 use Rattle.std.proofs.Common.{◌≡◌, ℕ, ◌<◌, List, [], ◌∷◌, ◌++◌, length, get_or, take, Option, Some, None, sym, ap, subst, ◌∙◌, arith}
 use Rattle.std.proofs.lemmas.List.{length-append, take_at}
 use Rattle.lorel_lex.specs.Types.{Kind, Symbol, Sign, Other}
-use Rattle.lorel_lex.specs.Shapes.{sign_text, IsToken}
+use Rattle.lorel_tokens.specs.Shapes.{sign_text, IsToken}
 use Rattle.lorel_lex.specs.Tokens.{BeginsNone}
 use Rattle.lorel_lex.specs.inside.Lexing.{class_of, single, pair_at, BeginsSymbol, IsShape}
 use Rattle.lorel_lex.proofs.SymbolLaws.{Written, written, one, two, single_text, pair_front, pair_found, sign_short}

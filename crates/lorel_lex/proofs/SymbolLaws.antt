@@ -2,7 +2,7 @@
 use Rattle.std.proofs.Common.{◌≡◌, ℕ, ◌≤◌, cond, List, [], ◌∷◌, ◌++◌, length, Option, Some, None, refl, sym, ap, ◌∙◌, inl, inr, ◌⊎◌, arith, eqb, eqb-true}
 use Rattle.std.proofs.lemmas.Bool.{cases_Bool}
 use Rattle.lorel_lex.specs.Types.{Sign, LeftBrace, RightBrace, LeftParen, RightParen, Comma, Dot, Colon, Assign, Equal, SameAs, NotEqual, Less, LessEqual, Greater, GreaterEqual, PlusAssign, MinusAssign, Question, Star, Plus, Bar, Hash, At}
-use Rattle.lorel_lex.specs.Shapes.{sign_text}
+use Rattle.lorel_tokens.specs.Shapes.{sign_text}
 use Rattle.lorel_lex.specs.inside.Lexing.{single, paired, pair_at}
 
 -- a symbol is one byte, or one byte and a `=`

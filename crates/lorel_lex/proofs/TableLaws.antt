@@ -1,9 +1,9 @@
 -- A table of bytes says of each byte what a test says.
-use Rattle.std.proofs.Common.{◌≡◌, ℕ, ◌+◌, ◌<◌, Bool, true, false, cond, ◌&&◌, List, [], ◌∷◌, length, get_or, zero, suc, refl, sym, ap, ◌∙◌, arith}
+use Rattle.std.proofs.Common.{◌≡◌, ℕ, ◌+◌, ◌<◌, Bool, true, false, cond, ◌&&◌, List, [], ◌∷◌, length, get_or, zero, suc, refl, ap, ◌∙◌, arith}
 use Rattle.std.specs.Prelude.{not}
 use Rattle.std.proofs.lemmas.Bool.{and_parts}
 use Rattle.lore_base.specs.Names.{is_word_byte}
-use Rattle.lorel_lex.specs.Shapes.{is_pattern_start}
+use Rattle.lorel_tokens.specs.Shapes.{is_pattern_start}
 use Rattle.lorel_lex.specs.inside.Scanning.{is_plain}
 use Rattle.lorel_lex.specs.declared.byte_class.TheConstants.{WORD_BYTES, PATTERN_STARTS}
 use Rattle.lorel_lex.specs.declared.scan.TheConstants.{PLAIN_BYTES}

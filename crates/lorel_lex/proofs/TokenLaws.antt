@@ -7,8 +7,9 @@ use Rattle.lore_base.specs.Names.{IsIdentifier}
 use Rattle.lorel_lex.specs.Types.{Token, Kind, Word, Wild, PathOf, Number, Local, Chars, Quoted, Symbol, LexFault, NumberRange, TextTooLong}
 use Rattle.lorel_lex.specs.Gaps.{nothing, IsBlank, begins_gap}
 use Rattle.lorel_lex.specs.inside.Skipping.{SkipsGap}
-use Rattle.lorel_lex.specs.Shapes.{IsPattern, IsToken}
-use Rattle.lorel_lex.specs.Tokens.{Keeps, IsFaultAt, IsPlace, IsNext, AreTokensFrom, AreTokens, IsFaultBehind, HasFault, HasOneOutcome, HasForm}
+use Rattle.lorel_tokens.specs.Shapes.{IsPattern, IsToken}
+use Rattle.lorel_tokens.specs.Forms.{HasForm}
+use Rattle.lorel_lex.specs.Tokens.{Keeps, IsFaultAt, IsPlace, IsNext, AreTokensFrom, AreTokens, IsFaultBehind, HasFault, HasOneOutcome}
 use Rattle.lorel_lex.specs.inside.Lexing.{IsShape}
 use Rattle.lorel_lex.proofs.GapLaws.{one_gap, not_blank}
 use Rattle.lorel_lex.proofs.ClassLaws.{begins_with}

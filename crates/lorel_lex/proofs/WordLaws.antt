@@ -9,7 +9,7 @@ use Rattle.std.proofs.lemmas.Slice.Eq.{starts_is}
 use Rattle.std.proofs.lemmas.List.{length-take-le, length-append, get_or_append_left, get_or-take, take_at, drop_at, drop_all, drop_more}
 use Rattle.lore_base.specs.Names.{is_word_start, is_word_byte, IsIdentifier}
 use Rattle.lorel_lex.specs.Types.{Kind, Word, Wild, PathOf, Letter, Other, TextTooLong, WORD_BYTES}
-use Rattle.lorel_lex.specs.Shapes.{is_pattern_start, is_pattern_byte, IsPattern, begins, IsToken}
+use Rattle.lorel_tokens.specs.Shapes.{is_pattern_start, is_pattern_byte, IsPattern, begins, IsToken}
 use Rattle.lorel_lex.specs.inside.Lexing.{class_of, IsShape, ReadsFirst, EndsRun, begins_path_of}
 use Rattle.lorel_lex.proofs.RunLaws.{list_all-get_or, list_all-map, none_among, run_most, run_some}
 use Rattle.lorel_lex.proofs.ClassLaws.{admits, admitted, class_says}

@@ -1,20 +1,21 @@
 -- A written token is the longest at its front.
-use Rattle.std.proofs.Common.{◌≡◌, ◌≢◌, ℕ, ◌+◌, ◌<◌, ◌≤◌, ◌^◌, Bool, true, false, List, [], ◌∷◌, ◌++◌, length, get_or, take, drop, Some, None, Option, zero, suc, refl, sym, ap, ◌∙◌, subst, inl, inr, ◌⊎◌, arith, eqb, eqb-true}
+use Rattle.std.proofs.Common.{◌≡◌, ◌≢◌, ℕ, ◌<◌, ◌≤◌, ◌^◌, Bool, true, false, List, [], ◌∷◌, ◌++◌, length, get_or, Some, None, zero, suc, refl, sym, ap, ◌∙◌, subst, inl, inr, arith, eqb, eqb-true}
 use Rattle.std.specs.Prelude.{pos, negsuc, neg_ℤ, codes, is_some, ◌||◌, ◌&&◌}
 use Rattle.std.specs.List.{list_all, list_any}
 use Rattle.std.specs.Char.{is_ascii_digit}
-use Rattle.std.specs.Fmt.{decimal, signed_decimal}
+use Rattle.std.specs.Fmt.{decimal}
 use Rattle.std.specs.Str.Parse.{IsNumeral, digits_value}
 use Rattle.std.proofs.lemmas.Fmt.{decimal_is_IsNumeral}
 use Rattle.std.proofs.lemmas.Bool.{and_parts, or_cases, or_from, or_left, or_right, cases_Bool, cases_lt, ne_eqb}
-use Rattle.std.proofs.lemmas.List.{length-append, get_or_append_left, get_or-append_right}
+use Rattle.std.proofs.lemmas.List.{length-append, get_or_append_left}
 use Rattle.lore_base.specs.Names.{is_word_start, is_word_byte}
 use Rattle.lore_base.specs.Quotes.{in_quotes, IsQuoted}
 use Rattle.lore_base.proofs.QuoteLaws.{quoted-back}
-use Rattle.lorel_lex.specs.Types.{Kind, Word, Wild, PathOf, Number, Local, Chars, Quoted, Symbol, Sign, LeftBrace, LexFault, ByteClass, Letter, Digit, Minus, Ampersand, DoubleQuote, SingleQuote, Other}
+use Rattle.lorel_lex.specs.Types.{Kind, Word, Wild, PathOf, Number, Local, Chars, Quoted, Symbol, Sign, LexFault, ByteClass, Letter, Digit, Minus, Ampersand, DoubleQuote, SingleQuote, Other}
 use Rattle.lorel_lex.specs.Gaps.{is_blank, begins_comment, begins_gap}
-use Rattle.lorel_lex.specs.Shapes.{is_pattern_start, is_pattern_byte, begins, sign_text, IsToken}
-use Rattle.lorel_lex.specs.Tokens.{IsLongest, IsFirst, begins_fraction, IsWhole, IsInRange, IsShort, Keeps, HasForm}
+use Rattle.lorel_tokens.specs.Shapes.{is_pattern_start, is_pattern_byte, begins, sign_text, IsToken}
+use Rattle.lorel_tokens.specs.Forms.{HasForm}
+use Rattle.lorel_lex.specs.Tokens.{IsLongest, IsFirst, begins_fraction, IsWhole, IsInRange, IsShort, Keeps}
 use Rattle.lorel_lex.specs.inside.Lexing.{class_of, single, paired}
 use Rattle.lorel_lex.specs.Writing.{token_text, is_apart, MayFollow}
 use Rattle.lorel_lex.proofs.ClassLaws.{admits, begins_with, admitted, text_kind, label_kind, other_kind}

@@ -3,7 +3,6 @@ pub mod Scan
 pub mod Progress
 pub mod Chunks
 pub mod Gaps
-pub mod Shapes
 pub mod Tokens
 pub mod Writing
 pub mod Faults

@@ -1,14 +1,13 @@
--- The tokens or the fault of a chunk, and the form that each token has.
+-- The tokens or the fault of a chunk.
 use Rattle.std.specs.Prelude.{◌≡◌, ℕ, ◌+◌, ◌<◌, ◌≤◌, ◌^◌, ◌⊎◌, Bool, false, ◌&&◌, ◌==◌, List, [], ◌∷◌, ◌++◌}
 use Rattle.std.specs.Prelude.{length, Result, Ok, Err, FitsSigned, IsUtf8}
 use Rattle.std.specs.Int.{w64}
 use Rattle.std.specs.Char.{is_ascii_digit}
-use Rattle.lore_base.specs.Names.{IsIdentifier}
-use Rattle.lorel_lex.specs.Types.{WORD_BYTES, TEXT_BYTES, Token, Kind, Word, Wild, PathOf, Number, Local}
-use Rattle.lorel_lex.specs.Types.{Chars, Quoted, Symbol, LexFault, BadToken, RealRefused, NumberRange}
+use Rattle.lorel_lex.specs.Types.{WORD_BYTES, TEXT_BYTES, Token, Kind, Word, Wild, Number, Local}
+use Rattle.lorel_lex.specs.Types.{Chars, Quoted, LexFault, BadToken, RealRefused, NumberRange}
 use Rattle.lorel_lex.specs.Types.{TextTooLong, NoMemory}
 use Rattle.lorel_lex.specs.Gaps.{IsGap, IsBlank, begins_gap}
-use Rattle.lorel_lex.specs.Shapes.{IsPattern, begins, IsToken}
+use Rattle.lorel_tokens.specs.Shapes.{begins, IsToken}
 
 -- of all fronts of these bytes, none longer than the text is a token
 abbrev pub IsLongest : List ℕ → List ℕ → Type 0
@@ -130,14 +129,3 @@ HasOneOutcome = (chunk : List ℕ) (outcome other : Result (List Token) LexFault
 -- each chunk has a list of tokens or a fault
 abbrev pub HasSomeOutcome : Type 0
 HasSomeOutcome = (chunk : List ℕ) → (outcome : Result (List Token) LexFault) × IsOutcome chunk outcome
-
--- the form that a token has, within its limits
-abbrev pub HasForm : Kind → Type 0
-HasForm (Word word) = IsIdentifier word × (length word ≤ WORD_BYTES)
-HasForm (Wild pattern) = IsPattern pattern × (length pattern ≤ WORD_BYTES)
-HasForm PathOf = Unit {0}
-HasForm (Number number) = FitsSigned w64 number
-HasForm (Local local) = local < 2 ^ 32
-HasForm (Chars contents) = length contents ≤ TEXT_BYTES
-HasForm (Quoted label) = (1 ≤ length label) × (length label ≤ WORD_BYTES)
-HasForm (Symbol sign) = Unit {0}

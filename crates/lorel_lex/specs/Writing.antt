@@ -1,5 +1,5 @@
 -- How tokens are written, and which tokens bytes have.
-use Rattle.std.specs.Prelude.{◌≡◌, ◌≢◌, ℕ, ◌<◌, ◌⊎◌, ◌↔◌, Bool, true, List, [], ◌∷◌, ◌++◌, map, codes, IsTrue}
+use Rattle.std.specs.Prelude.{◌≡◌, ℕ, ◌<◌, ◌⊎◌, ◌↔◌, Bool, true, List, [], ◌∷◌, ◌++◌, map, codes, IsTrue}
 use Rattle.std.specs.Prelude.{IsUtf8, All}
 use Rattle.std.specs.List.{flat_map, list_all, join_with_byte}
 use Rattle.std.specs.Fmt.{decimal, signed_decimal}
@@ -7,8 +7,9 @@ use Rattle.lore_base.specs.Quotes.{in_quotes, IsQuoted}
 use Rattle.lorel_lex.specs.Types.{Token, Kind, Word, Wild, PathOf, Number, Local, Chars, Quoted, Symbol}
 use Rattle.lorel_lex.specs.Types.{LeftBrace}
 use Rattle.lorel_lex.specs.Gaps.{is_blank}
-use Rattle.lorel_lex.specs.Shapes.{sign_text}
-use Rattle.lorel_lex.specs.Tokens.{AreTokens, HasForm}
+use Rattle.lorel_tokens.specs.Shapes.{sign_text}
+use Rattle.lorel_tokens.specs.Forms.{HasForm}
+use Rattle.lorel_lex.specs.Tokens.{AreTokens}
 
 -- how a token is written: numbers without leading zeros, texts and quoted labels with their escapes
 abbrev pub token_text : Kind → List ℕ

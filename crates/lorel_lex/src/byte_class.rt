@@ -1,6 +1,6 @@
 ghost use Rattle.std.specs.Prelude.{◌≡◌};
 ghost use Rattle.lore_base.specs.Names.{is_word_byte};
-ghost use Rattle.lorel_lex.specs.Shapes.{is_pattern_start, is_pattern_byte};
+ghost use Rattle.lorel_tokens.specs.Shapes.{is_pattern_start, is_pattern_byte};
 ghost use Rattle.lorel_lex.specs.inside.Lexing as spec;
 
 /// Which tokens a byte may begin.

@@ -1,16 +1,18 @@
 ghost use Rattle.std.specs.Prelude.{◌≡◌, ◌≢◌, ◌<◌, ◌≤◌, length, slice_index, All, IfOk};
 ghost use Rattle.std.specs.Prelude.{IfErr};
-ghost use Rattle.lorel_lex.specs.Tokens.{AreTokens, HasFault, HasForm};
+ghost use Rattle.lorel_tokens.specs.Forms.{HasForm};
+ghost use Rattle.lorel_lex.specs.Tokens.{AreTokens, HasFault};
 ghost use Rattle.lorel_lex.specs.inside.Lexing.{ReadsFirst};
 
 use crate::byte_class::{ByteClass, class_of};
+use crate::faults::LexFault;
 use crate::gaps::gap_len;
 use crate::numbers::{digit_follows, local, signed, unsigned};
 use crate::quoted_texts::{label, text};
 use crate::symbols::symbol;
-use crate::token_types::{Kind, LexFault, Token, TokenList};
 use crate::words::word;
 use lore_base::limits::CHUNK_BYTES;
+use lorel_tokens::{Kind, Token, TokenList};
 use simdutf8::is_utf8;
 use std::alloc::Global;
 

@@ -3,12 +3,13 @@ ghost use Rattle.std.specs.Int.{w64};
 ghost use Rattle.std.specs.Option.{SomeIff};
 ghost use Rattle.std.specs.Char.{is_ascii_digit};
 ghost use Rattle.std.specs.Str.Parse.{AllDigits, digits_value};
-ghost use Rattle.lorel_lex.specs.Shapes.{begins};
+ghost use Rattle.lorel_tokens.specs.Shapes.{begins};
 ghost use Rattle.lorel_lex.specs.Tokens.{begins_fraction};
 ghost use Rattle.lorel_lex.specs.inside.Lexing.{class_of, EndsRun, ReadsFirst};
 ghost use Rattle.lorel_lex.specs.Types.{Digit};
 
-use crate::token_types::{Kind, LexFault};
+use crate::faults::LexFault;
+use lorel_tokens::Kind;
 
 /// How many digits stand at the front.
 pub(crate) fn digits_len(bytes: &[u8]) -> usize

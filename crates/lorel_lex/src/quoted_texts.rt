@@ -3,10 +3,11 @@ ghost use Rattle.lore_base.specs.Quotes.{unescape};
 ghost use Rattle.lorel_lex.specs.inside.Lexing.{escaped_after, FindsQuote, FindsByte, Resolves};
 ghost use Rattle.lorel_lex.specs.inside.Lexing.{ReadsQuoted, ReadsFirst};
 
+use crate::faults::LexFault;
 use crate::scan::before;
-use crate::token_types::{Kind, LexFault};
 use lore_base::limits::{TEXT_BYTES, WORD_BYTES};
 use lore_base::{Listing, OemText};
+use lorel_tokens::Kind;
 use std::alloc::Global;
 
 // The place of the quote that ends contents that may have escapes.

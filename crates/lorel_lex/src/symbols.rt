@@ -2,7 +2,8 @@ ghost use Rattle.std.specs.Prelude.{◌≡◌, ◌<◌, length};
 ghost use Rattle.lorel_lex.specs.inside.Lexing.{BeginsSymbol, ReadsFirst};
 ghost use Rattle.lorel_lex.specs.inside.Lexing as spec;
 
-use crate::token_types::{Kind, LexFault, Sign};
+use crate::faults::LexFault;
+use lorel_tokens::{Kind, Sign};
 
 // The symbol that is this byte and a `=`.
 fn paired(byte: u8) -> Option<Sign>

@@ -1,14 +1,15 @@
 ghost use Rattle.std.specs.Prelude.{◌≡◌, ◌==◌, slice_index};
 ghost use Rattle.lore_base.specs.Names.{is_word_byte as word_byte};
-ghost use Rattle.lorel_lex.specs.Shapes.{begins, is_pattern_byte as pattern_byte};
+ghost use Rattle.lorel_tokens.specs.Shapes.{begins, is_pattern_byte as pattern_byte};
 ghost use Rattle.lorel_lex.specs.inside.Lexing.{class_of, begins_path_of, EndsRun, FindsLetters};
 ghost use Rattle.lorel_lex.specs.inside.Lexing.{Shortens, ReadsFirst};
 ghost use Rattle.lorel_lex.specs.Types.{Letter};
 
 use crate::byte_class::{is_pattern_byte, is_word_byte};
-use crate::token_types::{Kind, LexFault};
+use crate::faults::LexFault;
 use lore_base::OemText;
 use lore_base::limits::WORD_BYTES;
+use lorel_tokens::Kind;
 use std::alloc::Global;
 
 /// What begins with a letter, an underscore or a `%`.

@@ -1,31 +1,32 @@
 -- The parsers of new values, modes, label paths and dump texts are sound and complete.
-use Rattle.std.proofs.Common.{◌≡◌, ℕ, ℤ, ◌<◌, ◌≤◌, max, Bool, true, false, List, [], ◌∷◌, ◌++◌, length, map, codes, Some, None, refl, ap, ◌∙◌, sym, arith, inl, inr}
+use Rattle.std.proofs.Common.{◌≡◌, ℕ, ℤ, ◌≤◌, max, true, false, List, [], ◌∷◌, length, map, codes, Some, subst, refl, ap, ◌∙◌, sym, arith, inl, inr}
 use Rattle.std.proofs.lemmas.Bool.{cases_Bool}
 use Rattle.lore_base.specs.declared.limits.TheConstants.{NESTING}
 use Rattle.lore_base.specs.declared.edges.Oid.{Oid}
 use Rattle.lore_base.specs.declared.values.Value.{Value}
-use Rattle.lore_base.specs.declared.values.Value.TheVariants.{Whole, Chars, Complex}
+use Rattle.lore_base.specs.declared.values.Value.TheVariants.{Complex}
 use Rattle.lore_base.specs.declared.modes.Mode.{Mode}
 use Rattle.lore_base.specs.declared.modes.Mode.TheVariants.{Auto, Top, Bottom, Guided}
-use Rattle.lorel_lex.specs.declared.token_types.Kind.{Kind}
-use Rattle.lorel_lex.specs.declared.token_types.Kind.TheVariants as k
-use Rattle.lorel_lex.specs.declared.token_types.Sign.TheVariants as s
+use Rattle.lorel_tokens.specs.declared.token_types.Kind.{Kind}
+use Rattle.lorel_tokens.specs.declared.token_types.Kind.TheVariants as k
+use Rattle.lorel_tokens.specs.declared.token_types.Sign.TheVariants as s
 use Rattle.lorel_trees.specs.declared.dump_trees.DumpTree.{DumpTree}
 use Rattle.lorel_trees.specs.Grammar as g
 use Rattle.lorel_trees.specs.Repetitions.{spell_each, nest_each}
 use Rattle.lorel_trees.specs.Paths.{spell_name, text_of_name, spell_label, text_of_label, spell_labels, texts_of_labels}
 use Rattle.lorel_trees.specs.Literals.{spell_value, spell_atom, value_of_atom}
 use Rattle.lorel_trees.specs.Statements.{spell_mode, spell_oid, spell_dump_name, spell_dump_object, spell_dump_edge, entry_of_name, entry_of_edge, spell_dump_labels, spell_dump_names, spell_dump_objects, spell_dump_edges, spell_dump_text, tree_dump_text}
-use Rattle.lorel_parse.specs.inside.Outcomes.{Outcome, Parse, and_then, next, sees, sees_word, expect, expect_word}
-use Rattle.lorel_parse.specs.inside.Repetitions.{mapped, both, behind_word, each}
-use Rattle.lorel_parse.specs.inside.Names.{name, label, atom}
-use Rattle.lorel_parse.specs.inside.Literals.{local, new_value}
-use Rattle.lorel_parse.specs.inside.Statements.{number, mode, labels, label_path, oid_of, oid, dump_name, dump_object, edge_of, dump_edge, dump_labels, dump_names, dump_objects, dump_edges, counted, Head, head, Lists, lists, dump_of, dump_text}
-use Rattle.lorel_parse.proofs.OutcomeLaws.{some_parts, none_some, bind_some, sees_sign, sees_this_word, expect_some, expect_word_some}
-use Rattle.lorel_parse.proofs.NameLaws.{sound_atom, longer_name, longer_label}
-use Rattle.lorel_parse.proofs.RepetitionLaws.{IsRead, IsParserOf, Spell, Anything, flat, mapped_parser, behind_word_parser, closed_word_parser, weaker, both_parser, sign_test, word_test, EndsEach, each_parser}
-use Rattle.lorel_parse.proofs.LiteralLaws.{local_some}
-use Rattle.lorel_parse.proofs.SelectLaws.{name_parser, label_parser}
+use Rattle.lorel_terms.specs.Outcomes.{Outcome, Parse, next, sees, sees_word, expect}
+use Rattle.lorel_terms.specs.Repetitions.{mapped, both, behind_word, each}
+use Rattle.lorel_terms.specs.Names.{name, label}
+use Rattle.lorel_terms.specs.Literals.{local, new_value}
+use Rattle.lorel_parse.specs.inside.Statements.{number, mode, labels, label_path, oid_of, oid, dump_name, dump_object, edge_of, dump_edge, dump_labels, dump_names, dump_objects, dump_edges, counted, head, lists, dump_of, dump_text}
+use Rattle.lorel_terms.proofs.OutcomeLaws.{some_parts, none_some, bind_some, sees_sign, sees_this_word, expect_some}
+use Rattle.lorel_terms.proofs.NameLaws.{complete_atom, sound_atom, longer_name, longer_label, atom_no_sign}
+use Rattle.lorel_trees.proofs.AtomLaws.{atom_spelled, told_spelled}
+use Rattle.lorel_terms.proofs.RepetitionLaws.{IsRead, IsParserOf, Spell, Anything, flat, mapped_parser, behind_word_parser, closed_word_parser, weaker, both_parser, sign_test, word_test, EndsEach, each_parser}
+use Rattle.lorel_terms.proofs.LiteralLaws.{local_some}
+use Rattle.lorel_terms.proofs.SelectLaws.{name_parser, label_parser}
 
 -- a list of derivations that can't nest
 pub nest_flat : {D : Type 0} (ds : List D) → nest_each flat ds ≤ 0
@@ -77,10 +78,6 @@ oid_parser = record {
 
 -- new values
 
-spelled_atom : (one : g.Atom) (rest : List Kind) → spell_atom one rest ≡ spell_value (value_of_atom one) rest
-spelled_atom (g.number value) rest = refl
-spelled_atom (g.chars text) rest = refl
-
 new_value_sound : (kinds rest : List Kind) (value : Value) → ◌≡◌ {A = Outcome Value} (new_value kinds) (Some (value, rest)) → kinds ≡ spell_value value rest
 unfolding new_value
 new_value_sound kinds rest value read =
@@ -94,14 +91,24 @@ new_value_sound kinds rest value read =
           ∙ ap (λ (v : Value). spell_value v rest) parts.0
       | inr other ↦
           let x = sound_atom kinds rest value (rw other at read) in
-          x.spelled ∙ spelled_atom x.by rest ∙ ap (λ (v : Value). spell_value v rest) x.stands
+          x.spelled ∙ atom_spelled x.by rest ∙ ap (λ (v : Value). spell_value v rest) x.stands
     ]
 
+new-atom : (one : g.Atom) (rest : List Kind) → ◌≡◌ {A = Outcome Value} (new_value (spell_atom one rest)) (Some (value_of_atom one, rest))
+unfolding new_value
+new-atom one rest = rw (atom_no_sign one s.LeftBrace rest, complete_atom one rest)
+
+new-braces : (rest : List Kind) → ◌≡◌ {A = Outcome Value} (new_value (spell_value Complex rest)) (Some (Complex, rest))
+unfolding new_value sees expect
+new-braces rest = refl
+
 new_value_complete : (value : Value) (rest : List Kind) → ◌≡◌ {A = Outcome Value} (new_value (spell_value value rest)) (Some (value, rest))
-unfolding new_value sees atom expect
-new_value_complete (Whole number) rest = refl
-new_value_complete (Chars text) rest = refl
-new_value_complete Complex rest = refl
+new_value_complete value rest =
+    let Reads : Value → Type 0 = λ read. ◌≡◌ {A = Outcome Value} (new_value (spell_value read rest)) (Some (read, rest)) in
+    elim (told_spelled value) [
+      | inl complex ↦ subst Reads (sym complex) (new-braces rest)
+      | inr atomic ↦ subst Reads atomic.1 (ap new_value (sym (atom_spelled atomic.0 rest)) ∙ new-atom atomic.0 rest)
+    ]
 
 pub new_value_parser : IsParserOf new_value spell_value itself flat NESTING Anything
 new_value_parser = record {
@@ -111,9 +118,9 @@ new_value_parser = record {
 
 -- modes
 
-mode_case : (wanted : List ℕ) (one mode : Mode) (kinds rest : List Kind) → sees_word wanted kinds ≡ true → ((left : List Kind) → spell_mode one left ≡ k.Word wanted ∷ left)
-    → ◌≡◌ {A = Outcome Mode} (Some (one, next kinds)) (Some (mode, rest)) → kinds ≡ spell_mode mode rest
-mode_case wanted one mode kinds rest seen spelled read =
+mode_case : (wanted : List ℕ) (one taken : Mode) (kinds rest : List Kind) → sees_word wanted kinds ≡ true → ((left : List Kind) → spell_mode one left ≡ k.Word wanted ∷ left)
+    → ◌≡◌ {A = Outcome Mode} (Some (one, next kinds)) (Some (taken, rest)) → kinds ≡ spell_mode taken rest
+mode_case wanted one taken kinds rest seen spelled read =
     let parts = some_parts read in
     sees_this_word wanted kinds seen ∙ sym (spelled (next kinds)) ∙ ap (spell_mode one) parts.1 ∙ ap (λ (m : Mode). spell_mode m rest) parts.0
 
@@ -264,9 +271,14 @@ name_longer : (d : g.Name × Oid) (rest : List Kind) → length rest ≤ length 
 name_longer d rest = omega (arith, longer_name d.0 (spell_oid d.1 rest))
 
 value_longer : (value : Value) (rest : List Kind) → length rest ≤ length (spell_value value rest)
-value_longer (Whole number) rest = omega arith
-value_longer (Chars text) rest = omega arith
-value_longer Complex rest = omega arith
+value_longer value rest =
+    let Longer : Value → Type 0 = λ one. length rest ≤ length (spell_value one rest) in
+    elim (told_spelled value) [
+      | inl complex ↦ subst Longer (sym complex) (omega arith)
+      | inr atomic ↦
+          let same = ap length (atom_spelled atomic.0 rest) in
+          subst Longer atomic.1 (omega arith)
+    ]
 
 object_longer : (d : Oid × Value) (rest : List Kind) → length rest ≤ length (spell_dump_object d rest)
 object_longer d rest = omega (arith, value_longer d.1 rest)

@@ -1,16 +1,4 @@
-pub mod TurnLaws
-pub mod RepetitionLaws
-pub mod LiteralLaws
-pub mod OutcomeLaws
-pub mod NameLaws
-pub mod EndLaws
-pub mod PathReadingLaws
-pub mod PathCompleteLaws
-pub mod PathSoundLaws
-pub mod ConditionReadingLaws
-pub mod ConditionCompleteLaws
-pub mod ConditionSoundLaws
 pub mod TargetLaws
-pub mod SelectLaws
 pub mod DumpLaws
+pub mod HistoryLaws
 pub mod StatementLaws

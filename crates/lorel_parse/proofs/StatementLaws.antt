@@ -1,47 +1,48 @@
 -- The parser of statements is sound and complete, so a list of tokens has one statement at most.
-use Rattle.std.proofs.Common.{◌≡◌, ℕ, ℤ, ◌<◌, ◌≤◌, max, Bool, true, false, List, [], ◌∷◌, ◌++◌, length, map, codes, Option, Some, None, Err, refl, ap, ◌∙◌, sym, subst, arith, inl, inr, cond}
+use Rattle.std.proofs.Common.{◌≡◌, ℕ, ℤ, ◌<◌, ◌≤◌, max, true, false, List, [], ◌∷◌, length, codes, Option, Some, None, Err, refl, ap, ◌∙◌, sym, subst, arith, inl, inr, cond}
 use Rattle.std.specs.Str.{bytes_eq}
 use Rattle.std.proofs.lemmas.Bool.{cases_Bool}
 use Rattle.std.proofs.lemmas.Slice.Eq.{bytes_eq-Decides}
 use Rattle.lore_base.specs.declared.limits.TheConstants.{NESTING}
 use Rattle.lore_base.specs.declared.values.Value.{Value}
-use Rattle.lorel_lex.specs.declared.token_types.Kind.{Kind}
-use Rattle.lorel_lex.specs.declared.token_types.Kind.TheVariants as k
-use Rattle.lorel_lex.specs.declared.token_types.Sign.{Sign}
-use Rattle.lorel_lex.specs.declared.token_types.Sign.TheVariants as s
+use Rattle.lorel_tokens.specs.declared.token_types.Kind.{Kind}
+use Rattle.lorel_tokens.specs.declared.token_types.Kind.TheVariants as k
+use Rattle.lorel_tokens.specs.declared.token_types.Sign.{Sign}
+use Rattle.lorel_tokens.specs.declared.token_types.Sign.TheVariants as s
 use Rattle.lorel_trees.specs.Trees as t
 use Rattle.lorel_trees.specs.Trees.{RootedTree, StatementTree, statement_tree}
 use Rattle.lorel_trees.specs.Grammar as g
 use Rattle.lorel_trees.specs.Paths.{spell_name, text_of_name, spell_label, text_of_label, spell_labels, texts_of_labels, spell_parts, spell_path, tree_path, nest_path}
-use Rattle.lorel_trees.specs.Literals.{spell_value, spell_literal, tree_literal, nest_literal}
-use Rattle.lorel_trees.specs.Selects.{spell_tail, tree_tail, nest_tail, spell_select, tree_select, nest_select}
-use Rattle.lorel_trees.specs.Statements.{spell_mode, spell_dump_text, tree_dump_text, spell_statement, tree_statement, nest_statement}
+use Rattle.lorel_trees.specs.Literals.{spell_value, spell_atom, spell_members, spell_literal, tree_literal, nest_literal}
+use Rattle.lorel_trees.specs.Selects.{spell_tail, tree_tail, nest_tail, tree_select, nest_select, spell_paths}
+use Rattle.lorel_trees.specs.Statements.{spell_mode, spell_dump_text, tree_dump_text, switch_text, spell_statement, tree_statement, nest_statement}
 use Rattle.lorel_trees.specs.Tokens.{HasTokens}
-use Rattle.lorel_parse.specs.declared.faults.ParseFault.{ParseFault}
-use Rattle.lorel_parse.specs.declared.faults.ParseFault.TheVariants.{Syntax}
-use Rattle.lorel_parse.specs.inside.Outcomes as outcomes
-use Rattle.lorel_parse.specs.inside.Outcomes.{Outcome, Parse, and_then, next, sees, sees_word, expect, expect_word, found}
-use Rattle.lorel_parse.specs.inside.Repetitions.{mapped, both, behind_sign, behind_word}
-use Rattle.lorel_parse.specs.inside.Names.{name, label}
-use Rattle.lorel_parse.specs.inside.Literals.{sees_value, literal, inside, new_value}
-use Rattle.lorel_parse.specs.inside.Paths.{rooted}
+use Rattle.lorel_terms.specs.declared.faults.ParseFault.{ParseFault}
+use Rattle.lorel_terms.specs.declared.faults.ParseFault.TheVariants.{Syntax}
+use Rattle.lorel_terms.specs.Outcomes as outcomes
+use Rattle.lorel_terms.specs.Outcomes.{Outcome, Parse, and_then, next, sees, sees_word, expect, expect_word, found}
+use Rattle.lorel_terms.specs.Repetitions.{mapped, both, behind_word}
+use Rattle.lorel_terms.specs.Names.{sees_name, sees_atom}
+use Rattle.lorel_terms.specs.Literals.{sees_value, literal, inside}
+use Rattle.lorel_terms.specs.Paths.{rooted}
 use Rattle.lorel_parse.specs.inside.Targets.{aimed}
-use Rattle.lorel_parse.specs.inside.Selects as q
-use Rattle.lorel_parse.specs.inside.Selects.{sees_name, tail}
+use Rattle.lorel_terms.specs.Selects.{tail}
 use Rattle.lorel_parse.specs.inside.Statements as spec
-use Rattle.lorel_parse.proofs.OutcomeLaws.{some_parts, none_some, bind_some, sees_sign, sees_this_word, expect_some}
-use Rattle.lorel_parse.proofs.EndLaws.{is_mark, is_begin, EndsPath}
-use Rattle.lorel_parse.proofs.PathSoundLaws.{IsPath, sound_path}
+use Rattle.lorel_terms.proofs.OutcomeLaws.{some_parts, none_some, bind_some, sees_sign, sees_this_word, expect_some}
+use Rattle.lorel_terms.proofs.EndLaws.{is_mark, is_begin, EndsPath}
+use Rattle.lorel_terms.proofs.PathSoundLaws.{IsPath, sound_path}
 use Rattle.lorel_parse.proofs.TargetLaws.{complete_aimed, sound_aimed}
-use Rattle.lorel_parse.proofs.RepetitionLaws.{sees-sign, sees-word, expect-sign, IsRead, IsParserOf, Spell, Anything, Nothing, flat, mapped_parser, behind_parser, behind_word_parser, both_parser, weaker, EndsEach}
-use Rattle.lorel_parse.proofs.LiteralLaws.{EndsLiteral, literal_parser}
-use Rattle.lorel_parse.proofs.SelectLaws.{name_parser, label_parser, path_parser, tail_parser, ends_at_tail, name_seen, spell_query, spelled_select, select_parser}
-use Rattle.lorel_parse.proofs.DumpLaws.{itself, number_parser, new_value_parser, mode_parser, EndsLabels, label_path_parser, dump_parser}
+use Rattle.lorel_terms.proofs.RepetitionLaws.{IsRead, IsParserOf, Anything, Nothing, flat, mapped_parser, behind_parser, behind_word_parser, both_parser, weaker}
+use Rattle.lorel_terms.proofs.NameLaws.{atom_no_name}
+use Rattle.lorel_terms.proofs.LiteralLaws.{EndsLiteral, literal_parser}
+use Rattle.lorel_terms.proofs.SelectLaws.{name_parser, path_parser, tail_parser, ends_at_tail, name_seen, spell_query, spelled_select, select_parser}
+use Rattle.lorel_parse.proofs.DumpLaws.{number_parser, new_value_parser, mode_parser, EndsLabels, label_path_parser, dump_parser}
+use Rattle.lorel_parse.proofs.HistoryLaws.{IsStatement, found_some, history_form, history_sound, select_at_form, select_at_sound, changes_form, changes_sound, blocks_form, blocks_sound, blocks-alone, blocks-of, watch_complete, watch_sound, unwatch_form, unwatch_sound, show_form, show_sound}
 
 -- what ends a literal or path at the end of a statement
 
 no_value_at_end : EndsLiteral []
-unfolding sees_value
+unfolding sees_value sees sees_atom
 no_value_at_end = refl
 
 pub ends_literal : (rest : List Kind) → Nothing rest → EndsLiteral rest
@@ -54,7 +55,7 @@ pub ends_path : (rest : List Kind) → Nothing rest → EndsPath rest
 ends_path rest end = subst EndsPath (sym end) path_at_end
 
 ends_literal_at_tail : (one : g.Tail) → EndsLiteral (spell_tail one [])
-unfolding sees_value
+unfolding sees_value sees sees_atom
 ends_literal_at_tail (g.tail [] None) = refl
 ends_literal_at_tail (g.tail [] (Some one)) = refl
 ends_literal_at_tail (g.tail (first ∷ others) one) = refl
@@ -150,10 +151,6 @@ generate_form = mapped_parser (λ (parts : ℤ × ℤ). t.generate parts.0 parts
 
 -- soundness of statements
 
--- a statement was read whose tokens begin with these
-abbrev IsStatement : List Kind → List Kind → StatementTree → Type 0
-IsStatement kinds rest tree = IsRead spell_statement tree_statement nest_statement NESTING kinds rest tree
-
 abbrev Update : List Kind → List Kind
 Update kinds = k.Word (codes "update") ∷ kinds
 
@@ -208,11 +205,6 @@ removed_sound kinds mid rest target last left text tree deep spelled stands labe
       stands = ap (λ (p : RootedTree). t.remove p (text_of_label last) (tree_path y.by.0) (tree_tail y.by.1)) stands
           ∙ ap (λ (l : List ℕ). t.remove left l (tree_path y.by.0) (tree_tail y.by.1)) labelled ∙ y.stands;
     }
-
--- what an option gives without a token
-found_some : {A : Type 0} (one : Option A) (kinds rest : List Kind) (a : A) → ◌≡◌ {A = Outcome A} (found one kinds) (Some (a, rest)) → (one ≡ Some a) × (kinds ≡ rest)
-found_some {A} (Some b) kinds rest a read = let parts = some_parts read in (ap (λ (x : A). Some x) parts.0, parts.1)
-found_some {A} None kinds rest a read = absurd (none_some read)
 
 changed_sound : (kinds mid rest : List Kind) (path : RootedTree) (tree : StatementTree) → IsPath NESTING kinds mid path
     → ◌≡◌ {A = Outcome StatementTree} (spec.changed path mid) (Some (tree, rest)) → IsStatement (Update kinds) rest tree
@@ -355,6 +347,19 @@ dump_sound kinds rest tree read =
 
 -- by the first word
 
+keeping_sound : (first : List ℕ) (kinds rest : List Kind) (tree : StatementTree) → ◌≡◌ {A = Outcome StatementTree} (spec.keeping first kinds) (Some (tree, rest))
+    → IsStatement (k.Word first ∷ kinds) rest tree
+unfolding spec.keeping
+keeping_sound first kinds rest tree read0 =
+    form first (codes "history") (spec.history kinds) _ tree rest read0 (λ same here. begins first (codes "history") kinds rest tree same (history_sound kinds rest tree here)) (λ read1.
+    form first (codes "at") (spec.select_at kinds) _ tree rest read1 (λ same here. begins first (codes "at") kinds rest tree same (select_at_sound kinds rest tree here)) (λ read2.
+    form first (codes "changes") (spec.changes kinds) _ tree rest read2 (λ same here. begins first (codes "changes") kinds rest tree same (changes_sound kinds rest tree here)) (λ read3.
+    form first (codes "blocks") (spec.blocks kinds) _ tree rest read3 (λ same here. begins first (codes "blocks") kinds rest tree same (blocks_sound kinds rest tree here)) (λ read4.
+    form first (codes "watch") (spec.watch kinds) _ tree rest read4 (λ same here. begins first (codes "watch") kinds rest tree same (watch_sound kinds rest tree here)) (λ read5.
+    form first (codes "unwatch") (spec.unwatch kinds) _ tree rest read5 (λ same here. begins first (codes "unwatch") kinds rest tree same (unwatch_sound kinds rest tree here)) (λ read6.
+    form first (codes "show") (spec.show kinds) _ tree rest read6 (λ same here. begins first (codes "show") kinds rest tree same (show_sound kinds rest tree here)) (λ read7.
+    absurd (none_some read7))))))))
+
 administering_sound : (first : List ℕ) (kinds rest : List Kind) (tree : StatementTree) → ◌≡◌ {A = Outcome StatementTree} (spec.administering first kinds) (Some (tree, rest))
     → IsStatement (k.Word first ∷ kinds) rest tree
 unfolding spec.administering
@@ -363,7 +368,7 @@ administering_sound first kinds rest tree read0 =
     form first (codes "dump") (Some (t.dump, kinds)) _ tree rest read1 (λ same here. begins first (codes "dump") kinds rest tree same (dump_sound kinds rest tree here)) (λ read2.
     form first (codes "restore") (spec.restore kinds) _ tree rest read2 (λ same here. begins first (codes "restore") kinds rest tree same (restore_sound kinds rest tree here)) (λ read3.
     form first (codes "generate") (spec.generate kinds) _ tree rest read3 (λ same here. begins first (codes "generate") kinds rest tree same (generate_sound kinds rest tree here)) (λ read4.
-    absurd (none_some read4)))))
+    keeping_sound first kinds rest tree read4))))
 
 asking_sound : (first : List ℕ) (kinds rest : List Kind) (tree : StatementTree) → ◌≡◌ {A = Outcome StatementTree} (spec.asking first kinds) (Some (tree, rest))
     → IsStatement (k.Word first ∷ kinds) rest tree
@@ -444,6 +449,34 @@ word-generate : (kinds : List Kind) → spec.statement (k.Word (codes "generate"
 unfolding spec.statement spec.word spec.changing spec.asking spec.administering
 word-generate kinds = refl
 
+word-history : (kinds : List Kind) → spec.statement (k.Word (codes "history") ∷ kinds) ≡ spec.history kinds
+unfolding spec.statement spec.word spec.changing spec.asking spec.administering spec.keeping
+word-history kinds = refl
+
+word-at : (kinds : List Kind) → spec.statement (k.Word (codes "at") ∷ kinds) ≡ spec.select_at kinds
+unfolding spec.statement spec.word spec.changing spec.asking spec.administering spec.keeping
+word-at kinds = refl
+
+word-changes : (kinds : List Kind) → spec.statement (k.Word (codes "changes") ∷ kinds) ≡ spec.changes kinds
+unfolding spec.statement spec.word spec.changing spec.asking spec.administering spec.keeping
+word-changes kinds = refl
+
+word-blocks : (kinds : List Kind) → spec.statement (k.Word (codes "blocks") ∷ kinds) ≡ spec.blocks kinds
+unfolding spec.statement spec.word spec.changing spec.asking spec.administering spec.keeping
+word-blocks kinds = refl
+
+word-watch : (kinds : List Kind) → spec.statement (k.Word (codes "watch") ∷ kinds) ≡ spec.watch kinds
+unfolding spec.statement spec.word spec.changing spec.asking spec.administering spec.keeping
+word-watch kinds = refl
+
+word-unwatch : (kinds : List Kind) → spec.statement (k.Word (codes "unwatch") ∷ kinds) ≡ spec.unwatch kinds
+unfolding spec.statement spec.word spec.changing spec.asking spec.administering spec.keeping
+word-unwatch kinds = refl
+
+word-show : (kinds : List Kind) → spec.statement (k.Word (codes "show") ∷ kinds) ≡ spec.show kinds
+unfolding spec.statement spec.word spec.changing spec.asking spec.administering spec.keeping
+word-show kinds = refl
+
 word-guide : ◌≡◌ {A = Outcome StatementTree} (spec.statement (k.Word (codes "guide") ∷ [])) (Some (t.guide, []))
 unfolding spec.statement spec.word spec.changing spec.asking
 word-guide = refl
@@ -473,14 +506,20 @@ changed-minus path left text kinds aims = rw aims
 pub path_seen : (path : g.Path) (rest : List Kind) → sees_name (spell_path path rest) ≡ true
 path_seen (g.rooted one parts) rest = name_seen one (spell_parts parts rest)
 
-pub literal_unseen : (value : g.Literal) (rest : List Kind) → sees_name (spell_literal value rest) ≡ false
+local_unseen : (id : ℕ) (rest : List Kind) → sees_name (k.Local id ∷ rest) ≡ false
 unfolding sees_name
-literal_unseen (g.local id) rest = refl
-literal_unseen (g.atom None (g.number value)) rest = refl
-literal_unseen (g.atom None (g.chars text)) rest = refl
-literal_unseen (g.atom (Some id) value) rest = refl
-literal_unseen (g.braces None inner) rest = refl
-literal_unseen (g.braces (Some id) inner) rest = refl
+local_unseen id rest = refl
+
+brace_unseen : (rest : List Kind) → sees_name (k.Symbol s.LeftBrace ∷ rest) ≡ false
+unfolding sees_name
+brace_unseen rest = refl
+
+pub literal_unseen : (value : g.Literal) (rest : List Kind) → sees_name (spell_literal value rest) ≡ false
+literal_unseen (g.local id) rest = local_unseen id rest
+literal_unseen (g.atom None value) rest = atom_no_name value rest
+literal_unseen (g.atom (Some id) value) rest = local_unseen id (spell_atom value rest)
+literal_unseen (g.braces None inner) rest = brace_unseen (spell_members inner (k.Symbol s.RightBrace ∷ rest))
+literal_unseen (g.braces (Some id) inner) rest = local_unseen id (k.Symbol s.LeftBrace ∷ spell_members inner (k.Symbol s.RightBrace ∷ rest))
 
 pub added-link : (left : RootedTree) (text : List ℕ) (kinds : List Kind) → sees_name kinds ≡ true
     → spec.added left text kinds ≡ mapped (λ (parts : RootedTree × t.TailTree). t.add_link left text parts.0 parts.1) (both (rooted NESTING) tail) kinds
@@ -560,6 +599,18 @@ statement_complete (g.set_plan mode) deep =
 statement_complete g.dump deep = word-dump
 statement_complete (g.restore text) deep = word-restore (spell_dump_text text []) ∙ restore_form.complete text [] (omega arith) tt
 statement_complete (g.generate seed count) deep = word-generate (k.Number seed ∷ k.Number count ∷ []) ∙ generate_form.complete (seed, count) [] (omega arith) tt
+statement_complete (g.history on) deep = word-history (k.Word (switch_text on) ∷ []) ∙ history_form.complete on [] (omega arith) tt
+statement_complete (g.select_at moment inner) deep =
+    ap (λ (left : List Kind). spec.statement (k.Word (codes "at") ∷ k.Number moment ∷ left)) (spelled_select inner [])
+    ∙ word-at (k.Number moment ∷ k.Word (codes "select") ∷ spell_query inner []) ∙ select_at_form.complete (moment, inner) [] (omega arith) refl
+statement_complete (g.changes from to) deep = word-changes (k.Number from ∷ k.Number to ∷ []) ∙ changes_form.complete (from, to) [] (omega arith) tt
+statement_complete g.blocks deep = word-blocks [] ∙ blocks-alone
+statement_complete (g.blocks_of inner) deep =
+    ap (λ (left : List Kind). spec.statement (k.Word (codes "blocks") ∷ left)) (spelled_select inner [])
+    ∙ word-blocks (k.Word (codes "select") ∷ spell_query inner []) ∙ blocks-of (spell_query inner []) ∙ blocks_form.complete inner [] deep refl
+statement_complete (g.watch one inner) deep = word-watch (spell_name one (k.Symbol s.Assign ∷ spell_paths inner [])) ∙ watch_complete one inner deep
+statement_complete (g.unwatch one) deep = word-unwatch (spell_name one []) ∙ unwatch_form.complete one [] (omega arith) tt
+statement_complete (g.show one) deep = word-show (spell_name one []) ∙ show_form.complete one [] (omega arith) tt
 
 -- the tokens of a statement
 

@@ -1,21 +1,20 @@
 -- The target of `+=` and `-=`: what is read is the target and the label that the grammar derives.
 use Rattle.std.proofs.Common.{◌≡◌, ℕ, ◌≤◌, List, [], ◌∷◌, ◌++◌, Option, Some, None, refl, ap, sym, ◌∙◌, arith}
 use Rattle.std.specs.Prelude.{option_map}
-use Rattle.lorel_parse.specs.Types.{Plain, Wild, Kind}
+use Rattle.lorel_terms.specs.Types.{Plain, Wild, Kind}
 use Rattle.lore_base.specs.Paths.{PathTree, step, any, seq, alt, opt, star, plus}
-use Rattle.lorel_lex.specs.declared.token_types.Kind.TheVariants as k
-use Rattle.lorel_lex.specs.declared.token_types.Sign.TheVariants as s
+use Rattle.lorel_tokens.specs.declared.token_types.Kind.TheVariants as k
+use Rattle.lorel_tokens.specs.declared.token_types.Sign.TheVariants as s
 use Rattle.lorel_trees.specs.Grammar as g
 use Rattle.lorel_trees.specs.Trees.{RootedTree}
 use Rattle.lorel_trees.specs.Paths.{spell_label, text_of_label, spell_path, tree_path, nest_path}
-use Rattle.lorel_trees.specs.Targets.{IsJoined}
 use Rattle.lorel_trees.proofs.TargetLaws.{longer_path, is_joined, splits}
-use Rattle.lorel_parse.specs.inside.Outcomes.{Outcome}
-use Rattle.lorel_parse.specs.inside.Paths.{rooted}
+use Rattle.lorel_terms.specs.Outcomes.{Outcome}
+use Rattle.lorel_terms.specs.Paths.{rooted}
 use Rattle.lorel_parse.specs.inside.Targets.{plain_label, split_last, aimed}
-use Rattle.lorel_parse.proofs.EndLaws.{EndsPath}
-use Rattle.lorel_parse.proofs.PathCompleteLaws.{complete_path}
-use Rattle.lorel_parse.proofs.PathSoundLaws.{IsPath}
+use Rattle.lorel_terms.proofs.EndLaws.{EndsPath}
+use Rattle.lorel_terms.proofs.PathCompleteLaws.{complete_path}
+use Rattle.lorel_terms.proofs.PathSoundLaws.{IsPath}
 
 -- the last part taken off
 

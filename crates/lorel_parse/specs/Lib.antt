@@ -1,3 +1,1 @@
-pub mod Types
-pub mod Faults
 pub mod inside

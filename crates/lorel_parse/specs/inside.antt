@@ -1,11 +1,4 @@
--- The reference parser: plain functions on lists of kinds, which the program's parser is proved to compute.
--- No public clause speaks of it.
-pub mod Outcomes
-pub mod Repetitions
-pub mod Names
-pub mod Literals
-pub mod Paths
+-- The reference parser of statements: plain functions on lists of kinds, which the program's parser is
+-- proved to compute. No public clause speaks of it.
 pub mod Targets
-pub mod Conditions
-pub mod Selects
 pub mod Statements

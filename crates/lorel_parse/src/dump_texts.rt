@@ -1,13 +1,10 @@
 ghost use Rattle.std.specs.Prelude.{◌≡◌, []};
 ghost use Rattle.lorel_parse.specs.inside.Statements as spec;
-ghost use Rattle.lorel_parse.specs.inside.Outcomes.{Reads};
+ghost use Rattle.lorel_terms.specs.Outcomes.{Reads};
 
-use crate::cursor::Cursor;
-use crate::faults::ParseFault;
-use crate::literals::{local, new_value};
-use crate::names::{label, name};
 use lore_base::{Mode, ObjectList, OemText, Oid, TextList, Value};
-use lorel_lex::Kind;
+use lorel_terms::{Cursor, ParseFault, label, local, name, new_value};
+use lorel_tokens::Kind;
 use lorel_trees::{DumpEdges, DumpTree, NamedList};
 use std::alloc::Global;
 
@@ -79,7 +76,7 @@ fn dump_edge(alloc: Global, tokens: &mut Cursor<'_>) -> Result<(Oid, OemText, Oi
 
 // Each turn of the loops takes a token, so that there are turns enough.
 
-#[tactic(auto, unfolding(crate::specs::inside::Statements::dump_labels, crate::specs::inside::Repetitions::each, crate::specs::inside::Repetitions::each_in))]
+#[tactic(auto, unfolding(crate::specs::inside::Statements::dump_labels, lorel_terms::specs::Repetitions::each, lorel_terms::specs::Repetitions::each_in))]
 fn dump_labels(alloc: Global, tokens: &mut Cursor<'_>) -> Result<TextList, ParseFault>
     ensures { Reads (λ labels. labels) (spec.dump_labels [] tokens.old) result tokens.new }
 {
@@ -93,7 +90,7 @@ fn dump_labels(alloc: Global, tokens: &mut Cursor<'_>) -> Result<TextList, Parse
     Ok(labels)
 }
 
-#[tactic(auto, unfolding(crate::specs::inside::Statements::dump_names, crate::specs::inside::Repetitions::each, crate::specs::inside::Repetitions::each_in))]
+#[tactic(auto, unfolding(crate::specs::inside::Statements::dump_names, lorel_terms::specs::Repetitions::each, lorel_terms::specs::Repetitions::each_in))]
 fn dump_names(alloc: Global, tokens: &mut Cursor<'_>) -> Result<NamedList, ParseFault>
     ensures { Reads (λ names. names) (spec.dump_names [] tokens.old) result tokens.new }
 {
@@ -107,7 +104,7 @@ fn dump_names(alloc: Global, tokens: &mut Cursor<'_>) -> Result<NamedList, Parse
     Ok(names)
 }
 
-#[tactic(auto, unfolding(crate::specs::inside::Statements::dump_objects, crate::specs::inside::Repetitions::each, crate::specs::inside::Repetitions::each_in))]
+#[tactic(auto, unfolding(crate::specs::inside::Statements::dump_objects, lorel_terms::specs::Repetitions::each, lorel_terms::specs::Repetitions::each_in))]
 fn dump_objects(alloc: Global, tokens: &mut Cursor<'_>) -> Result<ObjectList, ParseFault>
     ensures { Reads (λ objects. objects) (spec.dump_objects [] tokens.old) result tokens.new }
 {
@@ -121,7 +118,7 @@ fn dump_objects(alloc: Global, tokens: &mut Cursor<'_>) -> Result<ObjectList, Pa
     Ok(objects)
 }
 
-#[tactic(auto, unfolding(crate::specs::inside::Statements::dump_edges, crate::specs::inside::Repetitions::each, crate::specs::inside::Repetitions::each_in))]
+#[tactic(auto, unfolding(crate::specs::inside::Statements::dump_edges, lorel_terms::specs::Repetitions::each, lorel_terms::specs::Repetitions::each_in))]
 fn dump_edges(alloc: Global, tokens: &mut Cursor<'_>) -> Result<DumpEdges, ParseFault>
     ensures { Reads (λ edges. edges) (spec.dump_edges [] tokens.old) result tokens.new }
 {

@@ -1,13 +1,12 @@
 ghost use Rattle.std.specs.Prelude.{◌≡◌, map, IfOk, IfErr, All};
-ghost use Rattle.lorel_lex.specs.Tokens.{HasForm};
+ghost use Rattle.lorel_tokens.specs.Forms.{HasForm};
 ghost use Rattle.lorel_trees.specs.Trees.{StatementTree, statement_tree};
 ghost use Rattle.lorel_trees.specs.Tokens.{HasTokens};
 ghost use Rattle.lorel_trees.specs.Sound.{IsSound};
 
-use crate::cursor::Cursor;
-use crate::faults::ParseFault;
 use crate::statements::statement;
-use lorel_lex::TokenList;
+use lorel_terms::{Cursor, ParseFault};
+use lorel_tokens::TokenList;
 use lorel_trees::Statement;
 use std::alloc::Global;
 

@@ -1,19 +1,17 @@
 ghost use Rattle.std.specs.Prelude.{◌≡◌, []};
 ghost use Rattle.lorel_trees.specs.Trees.{rooted_tree, statement_tree};
 ghost use Rattle.lorel_parse.specs.inside.Statements as spec;
-ghost use Rattle.lorel_parse.specs.inside.Outcomes.{Reads};
+ghost use Rattle.lorel_terms.specs.Outcomes.{Reads};
 
-use crate::cursor::Cursor;
 use crate::dump_texts::{dump_text, mode, number};
-use crate::faults::ParseFault;
-use crate::literals::{literal, new_value};
-use crate::names::{label, name};
-use crate::paths::rooted;
-use crate::selects::{sees_name, select, tail};
+use crate::histories::keeping;
 use crate::targets::aimed;
 use lore_base::limits::NESTING;
 use lore_base::{OemText, TextList};
-use lorel_lex::{Kind, Sign};
+use lorel_terms::{
+    Cursor, ParseFault, label, literal, name, new_value, rooted, sees_name, select, tail,
+};
+use lorel_tokens::{Kind, Sign};
 use lorel_trees::{LabelPath, Rooted, Statement};
 use std::alloc::Global;
 
@@ -74,7 +72,7 @@ fn asking(alloc: Global, tokens: &mut Cursor<'_>, first: &[u8]) -> Result<Statem
     administering(alloc, tokens, first)
 }
 
-// The forms that set limits, dump, restore and make data.
+// The forms that set limits, dump, restore and make data, or another form that this word begins.
 #[tactic(auto, unfolding(crate::specs::inside::Statements::administering, crate::specs::inside::Statements::restore))]
 fn administering(
     alloc: Global,
@@ -95,7 +93,7 @@ fn administering(
     if first == b"generate".as_slice() {
         return generate(tokens);
     }
-    Err(ParseFault::Syntax)
+    keeping(alloc, tokens, first)
 }
 
 #[tactic(auto, unfolding(crate::specs::inside::Statements::load))]
@@ -201,7 +199,7 @@ fn removed(
     })
 }
 
-#[tactic(auto, unfolding(crate::specs::inside::Statements::labels, crate::specs::inside::Repetitions::each, crate::specs::inside::Repetitions::each_in))]
+#[tactic(auto, unfolding(crate::specs::inside::Statements::labels, lorel_terms::specs::Repetitions::each, lorel_terms::specs::Repetitions::each_in))]
 fn labels(alloc: Global, tokens: &mut Cursor<'_>) -> Result<TextList, ParseFault>
     ensures { Reads (λ labels. labels) (spec.labels [] tokens.old) result tokens.new }
 {

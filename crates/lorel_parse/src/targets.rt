@@ -1,11 +1,11 @@
 ghost use Rattle.std.specs.Prelude.{◌≡◌};
 ghost use Rattle.lore_base.specs.Paths.{path_tree};
 ghost use Rattle.lorel_trees.specs.Trees.{rooted_tree};
-ghost use Rattle.lorel_parse.specs.inside.Outcomes.{Finds};
+ghost use Rattle.lorel_terms.specs.Outcomes.{Finds};
 ghost use Rattle.lorel_parse.specs.inside.Targets as spec;
 
-use crate::faults::ParseFault;
 use lore_base::{OemText, Path, Pattern};
+use lorel_terms::ParseFault;
 use lorel_trees::Rooted;
 
 /// The target of an addition or a removal and its label, from the path that stands before the

@@ -12,7 +12,7 @@ use Rattle.lorel_ranges.specs.Laws.{HasOneFused}
 use Rattle.lorel_ranges.specs.inside.Equality.{same_place}
 use Rattle.lorel_ranges.specs.inside.Orders.{AreOrdered}
 use Rattle.lorel_ranges.specs.inside.Fusing.{start_count, IsHalfFused}
-use Rattle.lorel_ranges.proofs.ToldLaws.{IsTold}
+use Rattle.lore_base.proofs.ToldLaws.{IsTold}
 use Rattle.lorel_ranges.proofs.ListLaws.{Contains-between, All-parts, same_only, same_first}
 use Rattle.lorel_ranges.proofs.PlaceLaws.{same_place-Decides}
 use Rattle.lorel_ranges.proofs.OrderLaws.{own_start, starts_before, placed_once, AreOrdered-joined}

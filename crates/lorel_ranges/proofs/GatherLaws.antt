@@ -2,7 +2,7 @@
 use Rattle.std.proofs.Common.{◌≡◌, inl, inr, List, [], ◌∷◌, ◌++◌, refl, sym, ◌∙◌}
 use Rattle.lorel_ranges.specs.Ranges.{Range, made_ranges, places, AreGathered}
 use Rattle.lorel_ranges.specs.Laws.{HasOnePlain, HasSomePlain}
-use Rattle.lorel_ranges.proofs.ToldLaws.{told_member}
+use Rattle.lore_base.proofs.ToldLaws.{told_member}
 use Rattle.lorel_ranges.proofs.PlaceLaws.{told_place}
 
 pub one_gathered : (earlier made ranges other : List Range) → AreGathered earlier made ranges → AreGathered earlier made other → ranges ≡ other

@@ -1,5 +1,3 @@
-pub mod ToldLaws
-pub mod ListedLaws
 pub mod ListLaws
 pub mod PlaceLaws
 pub mod PartLaws

@@ -10,7 +10,7 @@ use Rattle.lore_base.specs.declared.paths.Pattern.TheVariants.{Plain, Wild}
 use Rattle.lore_base.specs.Paths.{PathTree, PathTrees, step, any, seq, alt, opt, star, plus, none, more}
 use Rattle.lorel_ranges.specs.Places.{Root, named, ranged, quantified, Place}
 use Rattle.lorel_ranges.specs.inside.Equality.{same_pattern, same_tree, same_trees, same_parts, same_root, same_place}
-use Rattle.lorel_ranges.proofs.ToldLaws.{IsTold, told_by}
+use Rattle.lore_base.proofs.ToldLaws.{IsTold, told_by}
 
 -- what is decided of an argument is decided of what is made of it, where different arguments make different things
 decides_within : {X Y : Type 0} (f : X → Y) (a b : X) (r : Bool) → (f a ≡ f b → a ≡ b) → Decides r (a ≡ b) → Decides r (f a ≡ f b)

@@ -10,8 +10,8 @@ use Rattle.lorel_ranges.specs.Conditions.{cond_places}
 use Rattle.lorel_ranges.specs.Ranges.{Range, places, IsFixed, IsUsed}
 use Rattle.lorel_ranges.specs.Laws.{HasSomeFused}
 use Rattle.lorel_ranges.specs.Views.{prefix_of}
-use Rattle.lorel_ranges.proofs.ToldLaws.{IsTold, told_either, told_member}
-use Rattle.lorel_ranges.proofs.ListedLaws.{IsListed, listed_one, listed_same}
+use Rattle.lore_base.proofs.ToldLaws.{IsTold, told_either, told_member}
+use Rattle.lorel_bound.proofs.ListedLaws.{IsListed, listed_one, listed_same}
 use Rattle.lorel_ranges.proofs.ListLaws.{two_fronts}
 use Rattle.lorel_ranges.proofs.PlaceLaws.{place_from, told_place}
 use Rattle.lorel_ranges.proofs.PlainLaws.{plain_ordered}

@@ -11,8 +11,8 @@ use Rattle.lorel_trees.specs.Trees.{FromTree, ItemTree, SelectTree}
 use Rattle.lorel_trees.specs.Trees as t
 use Rattle.lorel_ranges.specs.Places.{ranged, Place, at_root, Scope, place_of, scope_behind, scope_of, item_places, cell_places, item_path_variables, path_variables, CellPlace, object, word, word_place, item_cells, cells_of}
 use Rattle.lorel_ranges.specs.Ranges.{Range, path_ranges, from_item_ranges, from_ranges, places, ArePlain, IsNeededForWord}
-use Rattle.lorel_ranges.proofs.ToldLaws.{IsTold, told_same, told_both, told_either, told_member}
-use Rattle.lorel_ranges.proofs.ListedLaws.{listed_members, told_some}
+use Rattle.lore_base.proofs.ToldLaws.{IsTold, told_same, told_both, told_either, told_member}
+use Rattle.lorel_bound.proofs.ListedLaws.{listed_members, told_some}
 use Rattle.lorel_ranges.proofs.PlaceLaws.{told_place}
 use Rattle.lorel_ranges.proofs.PlainLaws.{made_within}
 

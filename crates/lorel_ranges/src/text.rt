@@ -4,8 +4,8 @@ ghost use Rattle.lorel_trees.specs.Trees.{from_tree, item_tree, select_tree, con
 ghost use Rattle.lorel_trees.specs.Trees.{operand_tree, ItemTree};
 ghost use Rattle.lorel_ranges.specs.Types.{NESTING};
 ghost use Rattle.lorel_ranges.specs.Places.{Scope, Place as ThePlace};
-ghost use Rattle.lorel_ranges.specs.Conditions.{cond_in, conds_in, operand_in, paths_in, paths_of};
-ghost use Rattle.lorel_ranges.specs.Conditions.{paths_of_all, operand_paths};
+ghost use Rattle.lorel_ranges.specs.Conditions.{cond_in, conds_in, operand_in};
+ghost use Rattle.lorel_bound.specs.Conditions.{paths_in, paths_of, paths_of_all, operand_paths};
 ghost use Rattle.lorel_ranges.specs.Texts.{item_variables, cond_variables, quantifier_variables};
 ghost use Rattle.lorel_ranges.specs.Texts.{all_quantifier_variables};
 ghost use Rattle.lorel_ranges.specs.Texts.{IsShallow, depth_of, depth_of_all};

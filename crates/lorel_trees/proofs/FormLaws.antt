@@ -1,13 +1,13 @@
 -- The texts and numbers of what is sound keep their forms and limits: the tokens of a derivation have their form.
 use Rattle.std.proofs.Common.{ℕ, ◌≤◌, List, [], ◌∷◌, map, length, codes, Option, Some, None, option_map, All, subst, arith}
-use Rattle.lorel_trees.specs.Types.{Oid, Value, Whole, Chars, Complex, Op, Eq, Ne, Lt, Le, Gt, Ge, Like, Mode, Auto, Top, Bottom, Guided, Kind}
+use Rattle.lorel_trees.specs.Types.{Oid, Value, Whole, Chars, Flag, Complex, Op, Eq, Ne, Lt, Le, Gt, Ge, Like, Mode, Auto, Top, Bottom, Guided, Kind}
 use Rattle.std.proofs.lemmas.List.Elements.{All-nil, All-cons, All-head, All-tail}
 use Rattle.lore_base.specs.Names.{IsIdentifier, IsName, IsLabel}
 use Rattle.lore_base.specs.Databases.{IsSized}
 use Rattle.lore_base.specs.Paths as p
-use Rattle.lorel_lex.specs.declared.token_types.Kind.TheVariants as k
-use Rattle.lorel_lex.specs.declared.token_types.Sign.TheVariants as s
-use Rattle.lorel_lex.specs.Tokens.{HasForm}
+use Rattle.lorel_tokens.specs.declared.token_types.Kind.TheVariants as k
+use Rattle.lorel_tokens.specs.declared.token_types.Sign.TheVariants as s
+use Rattle.lorel_tokens.specs.Forms.{HasForm}
 use Rattle.lorel_trees.specs.declared.dump_trees.DumpTree.{DumpTree}
 use Rattle.lorel_trees.specs.Trees as t
 use Rattle.lorel_trees.specs.Grammar as g
@@ -15,8 +15,9 @@ use Rattle.lorel_trees.specs.Repetitions.{spell_each}
 use Rattle.lorel_trees.specs.Paths.{spell_name, text_of_name, spell_label, text_of_label, spell_alt, trees_alt, spell_choices, trees_choices, spell_seq, tree_seq, spell_parts, trees_parts, spell_part, tree_part, spell_base, tree_base, spell_path, tree_path}
 use Rattle.lorel_trees.specs.Literals.{spell_value, spell_atom, value_of_atom, spell_mark, spell_literal, tree_literal, spell_members, trees_members, spell_more_members, trees_more_members}
 use Rattle.lorel_trees.specs.Conditions.{spell_op, spell_operand, tree_operand, spell_cond, tree_cond, spell_more_conjs, trees_more_conjs, spell_conj, tree_conj, spell_more_unaries, trees_more_unaries, spell_unary, tree_unary, joined}
-use Rattle.lorel_trees.specs.Selects.{spell_range, tree_range, spell_from, spell_where, spell_tail, tree_tail, spell_item, tree_item, spell_select, tree_select}
+use Rattle.lorel_trees.specs.Selects.{spell_range, tree_range, spell_from, spell_where, spell_tail, tree_tail, spell_item, tree_item, spell_select, tree_select, select_of_paths, spell_paths}
 use Rattle.lorel_trees.specs.Statements.{spell_mode, spell_dump_name, entry_of_name, spell_dump_object, spell_dump_edge, entry_of_edge, spell_dump_objects, spell_dump_text, tree_dump_text, spell_statement, tree_statement}
+use Rattle.lorel_trees.proofs.PathItemLaws.{paths_items}
 use Rattle.lorel_trees.specs.Sound.{IsSound, IsSoundLiteral, IsSoundDump}
 use Rattle.lorel_trees.specs.Formed.{IsFormedPath, AreFormedPaths, IsFormedRooted, IsFormedMark, IsFormedLiteral, AreFormedMembers, IsFormedOperand, IsFormedCond, AreFormedConds, IsFormedFrom, IsFormedItem, IsFormedWhere, IsFormedTail, IsFormedSelect, IsFormedName, IsFormedObject, IsFormedEdge, IsFormedDump, IsFormedStatement}
 
@@ -108,11 +109,13 @@ path_formed (g.rooted name parts) rest formed =
 value_formed : (value : Value) (rest : List Kind) → Formed (spell_value value rest) → IsSized value × Formed rest
 value_formed (Whole number) rest (form, formed) = (form, formed)
 value_formed (Chars text) rest (form, formed) = (form, formed)
+value_formed (Flag holds) rest (form, formed) = (tt, formed)
 value_formed Complex rest (left, (right, formed)) = (tt, formed)
 
 atom_formed : (value : g.Atom) (rest : List Kind) → Formed (spell_atom value rest) → IsSized (value_of_atom value) × Formed rest
 atom_formed (g.number value) rest (form, formed) = (form, formed)
 atom_formed (g.chars text) rest (form, formed) = (form, formed)
+atom_formed (g.flag holds) rest (form, formed) = (tt, formed)
 
 mark_formed : (mark : Option ℕ) (rest : List Kind) → Formed (spell_mark mark rest) → IsFormedMark mark × Formed rest
 mark_formed None rest formed = (tt, formed)
@@ -340,6 +343,16 @@ statement_formed (g.set_plan mode) formed = tt
 statement_formed g.dump formed = tt
 statement_formed (g.restore text) (word, formed) = (dump_formed text [] formed).0
 statement_formed (g.generate seed count) (word, (first, (second, end))) = (first, second)
+statement_formed (g.history on) formed = tt
+statement_formed (g.select_at moment inner) (word, (form, formed)) = (form, (select_formed inner [] formed).0)
+statement_formed (g.changes from to) (word, (first, (second, end))) = (first, second)
+statement_formed g.blocks formed = tt
+statement_formed (g.blocks_of inner) (word, formed) = (select_formed inner [] formed).0
+statement_formed (g.watch name inner) (word, formed) =
+    let (named, behind) = name_formed name (k.Symbol s.Assign ∷ spell_paths inner []) formed in
+    (named, (select_formed (select_of_paths inner) [] behind.1).0, paths_items inner)
+statement_formed (g.unwatch name) (word, formed) = (name_formed name [] formed).0
+statement_formed (g.show name) (word, formed) = (name_formed name [] formed).0
 
 pub sound_statement : (statement : t.StatementTree) → IsSound statement → IsFormedStatement statement
 sound_statement statement sound =

@@ -2,8 +2,8 @@
 use Rattle.std.proofs.Common.{◌≡◌, ℕ, List, [], ◌∷◌, ◌++◌, refl, ap, subst, arith}
 use Rattle.lorel_trees.specs.Types.{Plain, Kind}
 use Rattle.lore_base.specs.Paths as p
-use Rattle.lorel_lex.specs.declared.token_types.Kind.TheVariants as k
-use Rattle.lorel_lex.specs.declared.token_types.Sign.TheVariants as s
+use Rattle.lorel_tokens.specs.declared.token_types.Kind.TheVariants as k
+use Rattle.lorel_tokens.specs.declared.token_types.Sign.TheVariants as s
 use Rattle.lorel_trees.specs.Grammar as g
 use Rattle.lorel_trees.specs.Paths.{spell_name, spell_label, text_of_label, spell_parts, trees_parts, nest_parts, spell_part, tree_part, tree_path}
 use Rattle.lorel_trees.specs.Targets.{IsJoined}

@@ -2,8 +2,8 @@
 -- nests: how many `not`s, parentheses, quantifiers and groups of paths enclose its innermost place.
 use Rattle.std.specs.Prelude.{ℕ, ◌+◌, max, List, ◌∷◌, codes}
 use Rattle.lorel_trees.specs.Types.{Op, Eq, Ne, Lt, Le, Gt, Ge, Like, Kind}
-use Rattle.lorel_lex.specs.declared.token_types.Kind.TheVariants as k
-use Rattle.lorel_lex.specs.declared.token_types.Sign.TheVariants as s
+use Rattle.lorel_tokens.specs.declared.token_types.Kind.TheVariants as k
+use Rattle.lorel_tokens.specs.declared.token_types.Sign.TheVariants as s
 use Rattle.lorel_trees.specs.Trees as t
 use Rattle.lorel_trees.specs.Grammar as g
 use Rattle.lorel_trees.specs.Paths.{spell_name, text_of_name, spell_path, tree_path, nest_path}

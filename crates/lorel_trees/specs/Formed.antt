@@ -1,15 +1,13 @@
 -- What the texts and numbers of a sound statement keep, by the kinds of trees.
 use Rattle.std.specs.Prelude.{ℕ, ◌<◌, ◌≤◌, ◌^◌, List, length, Option, Some, None, ⊤, All, FitsSigned}
 use Rattle.std.specs.Int.{w64}
-use Rattle.lorel_trees.specs.Types.{Kind, WORD_BYTES, Oid, Pattern, Value, Plain, Wild}
+use Rattle.lorel_trees.specs.Types.{WORD_BYTES, Oid, Pattern, Value, Plain, Wild}
 use Rattle.lore_base.specs.Names.{IsName, IsLabel}
 use Rattle.lore_base.specs.Databases.{IsSized}
 use Rattle.lore_base.specs.Paths.{PathTree, step, any, seq, alt, opt, star, plus, PathTrees, none, more}
-use Rattle.lorel_lex.specs.Shapes.{IsPattern}
+use Rattle.lorel_tokens.specs.Shapes.{IsPattern}
 use Rattle.lorel_trees.specs.declared.dump_trees.DumpTree.{DumpTree}
 use Rattle.lorel_trees.specs.Trees as t
-use Rattle.lorel_trees.specs.Tokens.{HasTokens}
-use Rattle.lorel_trees.specs.Sound.{IsSound, IsSoundLiteral, IsSoundDump}
 
 -- the texts of each kind of tree keep their forms and limits
 
@@ -97,6 +95,11 @@ pub record IsFormedSelect (query : t.SelectTree) : Type 0 where
   pub items : All IsFormedItem query.items
   pub tail : IsFormedTail query.tail
 
+-- the item is a path, and no `path-of`
+abbrev pub IsObjectItem : t.ItemTree → Type 0
+IsObjectItem (t.object path) = ⊤
+IsObjectItem (t.path_of variable) = ⊥
+
 abbrev pub IsFormedName : List ℕ × Oid → Type 0
 IsFormedName entry = IsName entry.0 × IsLocalNumber entry.1.0
 
@@ -136,3 +139,11 @@ IsFormedStatement (t.set_plan mode) = ⊤
 IsFormedStatement t.dump = ⊤
 IsFormedStatement (t.restore text) = IsFormedDump text
 IsFormedStatement (t.generate seed count) = FitsSigned w64 seed × FitsSigned w64 count
+IsFormedStatement (t.history on) = ⊤
+IsFormedStatement (t.select_at moment query) = FitsSigned w64 moment × IsFormedSelect query
+IsFormedStatement (t.changes first last) = FitsSigned w64 first × FitsSigned w64 last
+IsFormedStatement t.blocks = ⊤
+IsFormedStatement (t.blocks_of query) = IsFormedSelect query
+IsFormedStatement (t.watch name query) = IsName name × IsFormedSelect query × All IsObjectItem query.items
+IsFormedStatement (t.unwatch name) = IsName name
+IsFormedStatement (t.show name) = IsName name

@@ -3,7 +3,7 @@
 -- order. Where a rule repeats, what is repeated is a list; where it leaves a choice that a declared type has,
 -- as an operator, it is that type. What a derivation spells, the tree that it stands for and how deep it
 -- nests stand in Paths, Literals, Conditions, Selects and Statements.
-use Rattle.std.specs.Prelude.{◌≡◌, ℕ, ℤ, false, List, Option}
+use Rattle.std.specs.Prelude.{◌≡◌, ℕ, ℤ, Bool, false, List, Option}
 use Rattle.lorel_trees.specs.Types.{Oid, Value, Op, Mode}
 use Rattle.lore_base.specs.Names.{is_reserved}
 
@@ -57,10 +57,12 @@ mutual
 pub data Path : Type 0 where
   rooted : Name → Parts → Path
 
--- atom = number | text
+-- atom = number | text | flag
+-- flag = "true" | "false"
 pub data Atom : Type 0 where
   number : (value : ℤ) → Atom
   chars : (text : List ℕ) → Atom
+  flag : (holds : Bool) → Atom
 
 mutual
   -- literal = local | [ local ] atom | [ local ] "{" [ member { "," member } ] "}"
@@ -137,6 +139,10 @@ pub data Item : Type 0 where
 pub data Select : Type 0 where
   query : Item → (others : List Item) → Tail → Select
 
+-- paths = "select" path { "," path } tail
+pub data Paths : Type 0 where
+  paths : Path → (others : List Path) → Tail → Paths
+
 -- ( literal | path )
 pub data Addition : Type 0 where
   fresh : Literal → Addition
@@ -165,6 +171,14 @@ pub data DumpText : Type 0 where
 --           | "dump"
 --           | "restore" dumptext
 --           | "generate" number number
+--           | "history" ( "on" | "off" )
+--           | "at" number select
+--           | "changes" number number
+--           | "blocks"
+--           | "blocks" select
+--           | "watch" name ":=" paths
+--           | "unwatch" name
+--           | "show" name
 pub data Statement : Type 0 where
   load : Name → Literal → Statement
   bind : Name → Path → Statement
@@ -182,3 +196,11 @@ pub data Statement : Type 0 where
   dump : Statement
   restore : DumpText → Statement
   generate : (seed count : ℤ) → Statement
+  history : (on : Bool) → Statement
+  select_at : (moment : ℤ) → Select → Statement
+  changes : (first last : ℤ) → Statement
+  blocks : Statement
+  blocks_of : Select → Statement
+  watch : Name → Paths → Statement
+  unwatch : Name → Statement
+  show : Name → Statement

@@ -1,26 +1,52 @@
 -- Values and literals of the grammar: for each derivation its tokens with those that follow, its tree, and
 -- how deep it nests: how many braces enclose its innermost place.
-use Rattle.std.specs.Prelude.{ℕ, ◌+◌, max, List, ◌∷◌, Option, Some, None}
-use Rattle.lorel_trees.specs.Types.{Value, Whole, Chars, Complex, Kind}
-use Rattle.lorel_lex.specs.declared.token_types.Kind.TheVariants as k
-use Rattle.lorel_lex.specs.declared.token_types.Sign.TheVariants as s
+use Rattle.std.specs.Prelude.{ℕ, ◌+◌, max, Bool, true, false, if◌then◌else◌, List, ◌∷◌, codes, Option, Some, None, option_map}
+use Rattle.std.specs.Option.{is_some}
+use Rattle.std.specs.Str.{bytes_eq}
+use Rattle.lore_base.specs.Comparisons.{flag_text}
+use Rattle.lorel_trees.specs.Types.{Value, Whole, Chars, Flag, Complex, Kind}
+use Rattle.lorel_tokens.specs.declared.token_types.Kind.TheVariants as k
+use Rattle.lorel_tokens.specs.declared.token_types.Sign.TheVariants as s
 use Rattle.lorel_trees.specs.Trees as t
 use Rattle.lorel_trees.specs.Grammar as g
 use Rattle.lorel_trees.specs.Paths.{spell_label, text_of_label}
 
--- ( atom | "{" "}" )
-abbrev pub spell_value : Value → List Kind → List Kind
-spell_value (Whole number) rest = k.Number number ∷ rest
-spell_value (Chars text) rest = k.Chars text ∷ rest
-spell_value Complex rest = k.Symbol s.LeftBrace ∷ k.Symbol s.RightBrace ∷ rest
+-- the one token of an atom; that of a flag is a reserved word, so no path begins with it
+abbrev pub atom_kind : g.Atom → Kind
+atom_kind (g.number value) = k.Number value
+atom_kind (g.chars text) = k.Chars text
+atom_kind (g.flag holds) = k.Word (flag_text holds)
 
 abbrev pub spell_atom : g.Atom → List Kind → List Kind
-spell_atom (g.number value) rest = k.Number value ∷ rest
-spell_atom (g.chars text) rest = k.Chars text ∷ rest
+spell_atom atom rest = atom_kind atom ∷ rest
 
 abbrev pub value_of_atom : g.Atom → Value
 value_of_atom (g.number value) = Whole value
 value_of_atom (g.chars text) = Chars text
+value_of_atom (g.flag holds) = Flag holds
+
+-- the flag that a word writes
+abbrev pub flag_of : List ℕ → Option Bool
+flag_of word =
+    if bytes_eq word (codes "true") then Some true
+    else (if bytes_eq word (codes "false") then Some false else None)
+
+-- the atom that a token is, if it is one
+abbrev pub atom_of : Kind → Option g.Atom
+atom_of (k.Number value) = Some (g.number value)
+atom_of (k.Chars text) = Some (g.chars text)
+atom_of (k.Word word) = option_map g.flag (flag_of word)
+atom_of _ = None
+
+abbrev pub is_atom_kind : Kind → Bool
+is_atom_kind kind = is_some (atom_of kind)
+
+-- ( atom | "{" "}" )
+abbrev pub spell_value : Value → List Kind → List Kind
+spell_value (Whole number) rest = spell_atom (g.number number) rest
+spell_value (Chars text) rest = spell_atom (g.chars text) rest
+spell_value (Flag holds) rest = spell_atom (g.flag holds) rest
+spell_value Complex rest = k.Symbol s.LeftBrace ∷ k.Symbol s.RightBrace ∷ rest
 
 -- [ local ]
 abbrev pub spell_mark : Option ℕ → List Kind → List Kind

@@ -2,8 +2,8 @@
 -- tree, and how deep it nests.
 use Rattle.std.specs.Prelude.{ℕ, max, List, [], ◌∷◌, codes, map, Option, Some, None, option_map}
 use Rattle.lorel_trees.specs.Types.{Kind}
-use Rattle.lorel_lex.specs.declared.token_types.Kind.TheVariants as k
-use Rattle.lorel_lex.specs.declared.token_types.Sign.TheVariants as s
+use Rattle.lorel_tokens.specs.declared.token_types.Kind.TheVariants as k
+use Rattle.lorel_tokens.specs.declared.token_types.Sign.TheVariants as s
 use Rattle.lorel_trees.specs.Trees as t
 use Rattle.lorel_trees.specs.Grammar as g
 use Rattle.lorel_trees.specs.Repetitions.{spell_each, nest_each}
@@ -83,3 +83,17 @@ tree_select (g.query first others end) =
 abbrev pub nest_select : g.Select → ℕ
 nest_select (g.query first others end) =
     max (max (nest_item first) (nest_each nest_item others)) (nest_tail end)
+
+-- selects of paths alone, which are selects whose items are these paths
+
+abbrev pub select_of_paths : g.Paths → g.Select
+select_of_paths (g.paths first others end) = g.query (g.object first) (map g.object others) end
+
+abbrev pub spell_paths : g.Paths → List Kind → List Kind
+spell_paths query rest = spell_select (select_of_paths query) rest
+
+abbrev pub tree_paths : g.Paths → t.SelectTree
+tree_paths query = tree_select (select_of_paths query)
+
+abbrev pub nest_paths : g.Paths → ℕ
+nest_paths query = nest_select (select_of_paths query)

@@ -2,7 +2,7 @@
 -- within their limits, numbers of 64 bits with a sign, and locals and object numbers of 32 bits.
 use Rattle.std.specs.Prelude.{◌≡◌, ◌≤◌, List, [], All}
 use Rattle.lorel_trees.specs.Types.{NESTING, Kind}
-use Rattle.lorel_lex.specs.Tokens.{HasForm}
+use Rattle.lorel_tokens.specs.Forms.{HasForm}
 use Rattle.lorel_trees.specs.declared.dump_trees.DumpTree.{DumpTree}
 use Rattle.lorel_trees.specs.Trees as t
 use Rattle.lorel_trees.specs.Grammar.{Literal, DumpText}

@@ -1,16 +1,16 @@
 -- Dump texts and statements of the grammar: for each derivation its tokens with those that follow, its tree,
 -- and how deep it nests.
-use Rattle.std.specs.Prelude.{ℕ, max, List, ◌∷◌, codes, map}
+use Rattle.std.specs.Prelude.{ℕ, max, Bool, true, false, List, ◌∷◌, codes, map}
 use Rattle.lorel_trees.specs.Types.{Oid, Value, Mode, Auto, Top, Bottom, Guided, Kind}
-use Rattle.lorel_lex.specs.declared.token_types.Kind.TheVariants as k
-use Rattle.lorel_lex.specs.declared.token_types.Sign.TheVariants as s
+use Rattle.lorel_tokens.specs.declared.token_types.Kind.TheVariants as k
+use Rattle.lorel_tokens.specs.declared.token_types.Sign.TheVariants as s
 use Rattle.lorel_trees.specs.declared.dump_trees.DumpTree.{DumpTree}
 use Rattle.lorel_trees.specs.Trees as t
 use Rattle.lorel_trees.specs.Grammar as g
 use Rattle.lorel_trees.specs.Repetitions.{spell_each}
 use Rattle.lorel_trees.specs.Paths.{spell_name, text_of_name, spell_label, text_of_label, spell_label_path, texts_of_labels, spell_path, tree_path, nest_path}
 use Rattle.lorel_trees.specs.Literals.{spell_value, spell_literal, tree_literal, nest_literal}
-use Rattle.lorel_trees.specs.Selects.{spell_tail, tree_tail, nest_tail, spell_select, tree_select, nest_select}
+use Rattle.lorel_trees.specs.Selects.{spell_tail, tree_tail, nest_tail, spell_select, tree_select, nest_select, spell_paths, tree_paths, nest_paths}
 
 -- dump texts
 
@@ -88,6 +88,11 @@ abbrev pub nest_addition : g.Addition → ℕ
 nest_addition (g.fresh literal) = nest_literal literal
 nest_addition (g.link path) = nest_path path
 
+-- "on" | "off"
+abbrev pub switch_text : Bool → List ℕ
+switch_text true = codes "on"
+switch_text false = codes "off"
+
 -- statements
 
 abbrev pub tree_label_path : (List ℕ → List (List ℕ) → t.StatementTree) → g.LabelPath → t.StatementTree
@@ -120,6 +125,17 @@ spell_statement g.dump rest = k.Word (codes "dump") ∷ rest
 spell_statement (g.restore text) rest = k.Word (codes "restore") ∷ spell_dump_text text rest
 spell_statement (g.generate seed count) rest =
     k.Word (codes "generate") ∷ k.Number seed ∷ k.Number count ∷ rest
+spell_statement (g.history on) rest = k.Word (codes "history") ∷ k.Word (switch_text on) ∷ rest
+spell_statement (g.select_at moment inner) rest =
+    k.Word (codes "at") ∷ k.Number moment ∷ spell_select inner rest
+spell_statement (g.changes first last) rest =
+    k.Word (codes "changes") ∷ k.Number first ∷ k.Number last ∷ rest
+spell_statement g.blocks rest = k.Word (codes "blocks") ∷ rest
+spell_statement (g.blocks_of inner) rest = k.Word (codes "blocks") ∷ spell_select inner rest
+spell_statement (g.watch name inner) rest =
+    k.Word (codes "watch") ∷ spell_name name (k.Symbol s.Assign ∷ spell_paths inner rest)
+spell_statement (g.unwatch name) rest = k.Word (codes "unwatch") ∷ spell_name name rest
+spell_statement (g.show name) rest = k.Word (codes "show") ∷ spell_name name rest
 
 abbrev pub tree_statement : g.Statement → t.StatementTree
 tree_statement (g.load name literal) = t.load (text_of_name name) (tree_literal literal)
@@ -140,6 +156,14 @@ tree_statement (g.set_plan mode) = t.set_plan mode
 tree_statement g.dump = t.dump
 tree_statement (g.restore text) = t.restore (tree_dump_text text)
 tree_statement (g.generate seed count) = t.generate seed count
+tree_statement (g.history on) = t.history on
+tree_statement (g.select_at moment inner) = t.select_at moment (tree_select inner)
+tree_statement (g.changes first last) = t.changes first last
+tree_statement g.blocks = t.blocks
+tree_statement (g.blocks_of inner) = t.blocks_of (tree_select inner)
+tree_statement (g.watch name inner) = t.watch (text_of_name name) (tree_paths inner)
+tree_statement (g.unwatch name) = t.unwatch (text_of_name name)
+tree_statement (g.show name) = t.show (text_of_name name)
 
 abbrev pub nest_statement : g.Statement → ℕ
 nest_statement (g.load name literal) = nest_literal literal
@@ -160,3 +184,11 @@ nest_statement (g.set_plan mode) = 0
 nest_statement g.dump = 0
 nest_statement (g.restore text) = 0
 nest_statement (g.generate seed count) = 0
+nest_statement (g.history on) = 0
+nest_statement (g.select_at moment inner) = nest_select inner
+nest_statement (g.changes first last) = 0
+nest_statement g.blocks = 0
+nest_statement (g.blocks_of inner) = nest_select inner
+nest_statement (g.watch name inner) = nest_paths inner
+nest_statement (g.unwatch name) = 0
+nest_statement (g.show name) = 0

@@ -2,8 +2,8 @@
 use Rattle.std.specs.Prelude.{◌≡◌, ◌++◌, List, [], ◌∷◌}
 use Rattle.lorel_trees.specs.Types.{Plain, Kind}
 use Rattle.lore_base.specs.Paths as p
-use Rattle.lorel_lex.specs.declared.token_types.Kind.TheVariants as k
-use Rattle.lorel_lex.specs.declared.token_types.Sign.TheVariants as s
+use Rattle.lorel_tokens.specs.declared.token_types.Kind.TheVariants as k
+use Rattle.lorel_tokens.specs.declared.token_types.Sign.TheVariants as s
 use Rattle.lorel_trees.specs.Grammar as g
 use Rattle.lorel_trees.specs.Paths.{text_of_label, spell_path, tree_path, nest_path, spell_label}
 

@@ -1,6 +1,6 @@
 -- The trees of the language as plain data: what they are without pointers and room. Two trees are equal where
 -- these are.
-use Rattle.std.specs.Prelude.{ℕ, ℤ, List, [], ◌∷◌, map, Option, option_map}
+use Rattle.std.specs.Prelude.{ℕ, ℤ, Bool, List, [], ◌∷◌, map, Option, option_map}
 use Rattle.lorel_trees.specs.Types.{Value, Op, Mode}
 use Rattle.lore_base.specs.Paths.{PathTree, path_trees}
 use Rattle.lorel_trees.specs.declared.rooted_paths.Rooted.{Rooted}
@@ -100,6 +100,14 @@ pub data StatementTree : Type 0 where
   dump : StatementTree
   restore : (text : DumpTree) → StatementTree
   generate : (seed count : ℤ) → StatementTree
+  history : (on : Bool) → StatementTree
+  select_at : (moment : ℤ) (query : SelectTree) → StatementTree
+  changes : (first last : ℤ) → StatementTree
+  blocks : StatementTree
+  blocks_of : (query : SelectTree) → StatementTree
+  watch : (name : List ℕ) (query : SelectTree) → StatementTree
+  unwatch : (name : List ℕ) → StatementTree
+  show : (name : List ℕ) → StatementTree
 
 -- The plain data of the program's trees.
 
@@ -202,3 +210,11 @@ statement_tree (s.SetPlan mode) = set_plan mode
 statement_tree s.Dump = dump
 statement_tree (s.Restore text) = restore text
 statement_tree (s.Generate seed count) = generate seed count
+statement_tree (s.History on) = history on
+statement_tree (s.At moment query) = select_at moment (select_tree query)
+statement_tree (s.ChangesList first last) = changes first last
+statement_tree s.Blocks = blocks
+statement_tree (s.BlocksSelect query) = blocks_of (select_tree query)
+statement_tree (s.Watch name query) = watch name (select_tree query)
+statement_tree (s.Unwatch name) = unwatch name
+statement_tree (s.Show name) = show name

@@ -11,7 +11,7 @@ use std::alloc::Global;
 /// What a comparison compares.
 #[derive(Drop)]
 pub enum Operand {
-    /// A whole number or a text.
+    /// A whole number, a text or a flag.
     Atom(Value),
     /// Each object that the path reaches.
     At(Rooted),

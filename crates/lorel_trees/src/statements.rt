@@ -1,7 +1,8 @@
 ghost use Rattle.std.specs.Prelude.{◌≡◌, IfOk};
 ghost use Rattle.lorel_trees.specs.Trees.{StatementTree, load, bind, unname, assign, add_new};
-ghost use Rattle.lorel_trees.specs.Trees.{add_link, remove};
-ghost use Rattle.lorel_trees.specs.Trees.{rooted_tree, literal_tree, tail_tree, statement_tree};
+ghost use Rattle.lorel_trees.specs.Trees.{add_link, remove, watch};
+ghost use Rattle.lorel_trees.specs.Trees.{rooted_tree, literal_tree, tail_tree, select_tree};
+ghost use Rattle.lorel_trees.specs.Trees.{statement_tree};
 
 use crate::dump_trees::DumpTree;
 use crate::literals::Literal;
@@ -74,6 +75,25 @@ pub enum Statement {
     Restore(DumpTree),
     /// `generate seed count`
     Generate(i64, i64),
+    /// `history on` and `history off`
+    History(bool),
+    /// `at moment` and a select
+    At(i64, Select),
+    /// `changes first last`
+    ChangesList(i64, i64),
+    /// `blocks`
+    Blocks,
+    /// `blocks` and a select
+    BlocksSelect(Select),
+    /// `watch name := select`; its items are paths alone.
+    Watch {
+        name: OemText,
+        select: Select,
+    },
+    /// `unwatch name`
+    Unwatch(OemText),
+    /// `show name`
+    Show(OemText),
 }
 
 impl TryCopy for Statement {
@@ -119,6 +139,14 @@ impl TryCopy for Statement {
             Statement::Dump => Ok(Statement::Dump),
             Statement::Restore(dump) => Ok(Statement::Restore(dump.try_copy(alloc)?)),
             Statement::Generate(seed, count) => Ok(Statement::Generate(*seed, *count)),
+            Statement::History(on) => Ok(Statement::History(*on)),
+            Statement::At(moment, select) => Ok(Statement::At(*moment, select.try_copy(alloc)?)),
+            Statement::ChangesList(first, last) => Ok(Statement::ChangesList(*first, *last)),
+            Statement::Blocks => Ok(Statement::Blocks),
+            Statement::BlocksSelect(select) => Ok(Statement::BlocksSelect(select.try_copy(alloc)?)),
+            Statement::Watch { name, select } => copy_watch(alloc, name, select),
+            Statement::Unwatch(name) => Ok(Statement::Unwatch(name.try_copy(alloc)?)),
+            Statement::Show(name) => Ok(Statement::Show(name.try_copy(alloc)?)),
         }
     }
 }
@@ -144,6 +172,14 @@ fn copy_unname(alloc: Global, name: &OemText) -> Result<Statement, NoMemory>
 {
     let name = name.try_copy(alloc)?;
     Ok(Statement::Unname { name })
+}
+
+fn copy_watch(alloc: Global, name: &OemText, select: &Select) -> Result<Statement, NoMemory>
+    ensures { IfOk result (λ copy. statement_tree copy ≡ watch name.now (select_tree select.now)) }
+{
+    let name = name.try_copy(alloc)?;
+    let select = select.try_copy(alloc)?;
+    Ok(Statement::Watch { name, select })
 }
 
 fn copy_assign(

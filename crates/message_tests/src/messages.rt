@@ -102,6 +102,8 @@ fn check_dumps(alloc: Global) -> Result<(), Fail> {
 fn check_guides(alloc: Global) -> Result<(), Fail> {
     let nodes = "more target sets than the limit on the guide's nodes";
     check(alloc, &GuideFault::Nodes, nodes)?;
+    let cells = "more members of target sets than a guide may have";
+    check(alloc, &GuideFault::Cells, cells)?;
     check(alloc, &GuideFault::NoMemory, MEMORY)
 }
 
@@ -134,6 +136,10 @@ fn check_stores(alloc: Global) -> Result<(), Fail> {
         (StoreFault::TooManyObjects, "too many objects"),
         (StoreFault::TooManyEdges, "too many edges"),
         (StoreFault::GuideNodes, "too many nodes of the guide"),
+        (
+            StoreFault::GuideCells,
+            "too many members of the guide's sets",
+        ),
         (StoreFault::NoMemory, MEMORY),
     ] {
         check(alloc, &fault, text)?;
@@ -144,6 +150,8 @@ fn check_stores(alloc: Global) -> Result<(), Fail> {
 fn check_restores(alloc: Global) -> Result<(), Fail> {
     let nodes = "too many nodes of the guide";
     check(alloc, &RestoreFault::GuideNodes, nodes)?;
+    let cells = "too many members of the guide's sets";
+    check(alloc, &RestoreFault::GuideCells, cells)?;
     check(alloc, &RestoreFault::NoMemory, MEMORY)
 }
 

@@ -1,17 +1,19 @@
-ghost use Rattle.std.specs.Prelude.{◌↔◌, ℕ, List, ℤ, IsTrue, IfSome, IfNone};
+ghost use Rattle.std.specs.Prelude.{◌≡◌, ◌↔◌, ℕ, Bool, List, ℤ, IsTrue, IfSome, IfNone};
 ghost use Rattle.std.specs.declared.cmp.Ordering.{Ordering as Order};
-ghost use Rattle.lore_base.specs.Comparisons.{ReadsAs, CompareAs, Admits, IsTextOf};
-ghost use Rattle.lore_base.specs.Comparisons.{AreAlike, Compares};
+ghost use Rattle.lore_base.specs.Comparisons.{ReadsAs, ReadsAsFlag, flag_text, CompareAs};
+ghost use Rattle.lore_base.specs.Comparisons.{Admits, IsTextOf, AreAlike, Compares};
 ghost use Rattle.lore_base.specs.Wildcards.{IsLike};
 
 use itoa::Buffer;
 use lore_base::{OemText, Op, Value, is_like, read_whole};
 use std::cmp::Ordering;
 
-/// Whether the comparison holds. Two whole numbers compare as numbers, two texts by their bytes, a
-/// whole number and a text as numbers where the text reads as one. What can't be compared so, and
-/// whatever a complex value takes part in, is false under every operator, `!=` too. `like` takes
-/// numbers as their decimal texts. Takes no memory and copies no text.
+/// Whether the comparison holds. Two whole numbers compare as numbers, two texts by their bytes,
+/// two flags with false before true; a whole number and a text as numbers where the text reads as
+/// one, a flag and a text as flags where the text is `true` or `false`. What can't be compared so,
+/// and whatever a complex value takes part in, is false under every operator, `!=` too. `like`
+/// takes numbers as their decimal texts and flags as `true` or `false`. Takes no memory and copies
+/// no text.
 pub fn compare(a: &Value, op: Op, b: &Value) -> bool
     ensures { IsTrue result ↔ Compares a.now op b.now }
 {
@@ -33,6 +35,26 @@ pub fn as_whole(text: &OemText) -> Option<i64>
     read_whole(text.as_bytes())
 }
 
+/// The flag that a text reads as: `true` or `false`, and no other. None exactly where the text is
+/// neither. Takes no memory.
+pub fn as_flag(text: &OemText) -> Option<bool>
+    ensures some { IfSome result (λ flag. ReadsAsFlag text.now flag) }
+    ensures none { IfNone result ((flag : Bool) → ¬ ReadsAsFlag text.now flag) }
+{
+    match text.as_bytes() {
+        b"true" => Some(true),
+        b"false" => Some(false),
+        _ => None,
+    }
+}
+
+// The text of a flag: `true` or `false`.
+pub(crate) fn flag_text(flag: bool) -> &'static [u8]
+    ensures { result.now ≡ flag_text flag }
+{
+    if flag { b"true" } else { b"false" }
+}
+
 /// Whether the text is like the pattern, in which every `%` stands for zero or more characters and
 /// every `_` for exactly one. Takes no memory.
 pub fn like(text: &OemText, pattern: &OemText) -> bool
@@ -51,6 +73,9 @@ fn order_of(a: &Value, b: &Value) -> Option<Ordering>
         (Value::Chars(a), Value::Chars(b)) => Some(a.as_bytes().cmp(b.as_bytes())),
         (Value::Whole(a), Value::Chars(b)) => Some(a.cmp(&as_whole(b)?)),
         (Value::Chars(a), Value::Whole(b)) => Some(as_whole(a)?.cmp(b)),
+        (Value::Flag(a), Value::Flag(b)) => Some(a.cmp(b)),
+        (Value::Flag(a), Value::Chars(b)) => Some(a.cmp(&as_flag(b)?)),
+        (Value::Chars(a), Value::Flag(b)) => Some(as_flag(a)?.cmp(b)),
         _ => None,
     }
 }
@@ -94,6 +119,7 @@ fn text_of<'a>(value: &'a Value, digits: &'a mut Buffer) -> Option<&'a [u8]>
     match value {
         Value::Whole(number) => Some(digits.format(*number).as_bytes()),
         Value::Chars(text) => Some(text.as_bytes()),
+        Value::Flag(flag) => Some(flag_text(*flag)),
         Value::Complex => None,
     }
 }

@@ -4,18 +4,20 @@ ghost use Rattle.lore_base.specs.Quotes.{escape, in_quotes};
 ghost use Rattle.lore_base.specs.Printed.{printed, label_text};
 ghost use Rattle.lore_base.specs.Pieces.{Puts};
 
+use crate::comparing::flag_text;
 use itoa::Buffer;
 use lore_base::{Out, Value, is_identifier};
 
 /// Puts a value: decimal digits, behind a `-` where the number is negative, a text in quotes with
-/// its escapes, or `{}` for any complex value. Takes no memory of its own. A fault is that of a
-/// put, and has put a front of this, and not the whole.
+/// its escapes, `true` or `false`, or `{}` for any complex value. Takes no memory of its own. A
+/// fault is that of a put, and has put a front of this, and not the whole.
 pub fn print_value<O: Out>(value: &Value, out: &mut O) -> Result<(), O::Fault>
     ensures { Puts O.is_memory (O.state out.old) (printed value.now) (O.state out.new) result }
 {
     match value {
         Value::Whole(number) => out.put(Buffer::new().format(*number).as_bytes()),
         Value::Chars(text) => put_quoted(b'"', text.as_bytes(), out),
+        Value::Flag(flag) => out.put(flag_text(*flag)),
         Value::Complex => out.put(b"{}"),
     }
 }

@@ -6,7 +6,7 @@ use Rattle.oem_changes.specs.Types.{Oid, Label, Edge}
 use Rattle.lore_base.specs.Walks.{Walk, edge_of}
 use Rattle.lore_base.proofs.MemberLaws.{Contains-none, Contains-head, Contains-tail, Contains-cases, Contains-same}
 use Rattle.lore_base.proofs.WalkLaws.{Walk-within, Walk-append}
-use Rattle.oem_changes.proofs.ToldLaws.{IsTold, told_member, told_oid, told_same}
+use Rattle.lore_base.proofs.ToldLaws.{IsTold, told_member, told_oid, told_same}
 
 -- what each edge of a walk keeps holds at its end, if it holds at its start
 pub kept_walk : (edges : List Edge) (P : Oid → Type 0)

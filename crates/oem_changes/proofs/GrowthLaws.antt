@@ -17,7 +17,7 @@ use Rattle.oem_changes.specs.Growth.{Grows}
 use Rattle.oem_changes.specs.Laws.{ChangesGrow}
 use Rattle.oem_changes.proofs.AscentLaws.{AllPairs-within}
 use Rattle.oem_changes.proofs.CountLaws.{distinct_as_long}
-use Rattle.oem_changes.proofs.ToldLaws.{told_member, told_edge}
+use Rattle.lore_base.proofs.ToldLaws.{told_member, told_edge}
 use Rattle.oem_changes.proofs.EdgeOrderLaws.{edges_ordered}
 use Rattle.oem_changes.proofs.DeterminedLaws.{one_after}
 use Rattle.oem_changes.proofs.RootedLaws.{numbered_within}

@@ -1,6 +1,5 @@
 pub mod AscentLaws
 pub mod CountLaws
-pub mod ToldLaws
 pub mod EdgeOrderLaws
 pub mod TableLaws
 pub mod ClosureLaws

@@ -11,7 +11,7 @@ use Rattle.lore_base.specs.ChangeSets.{NamesThen, ObjectsThen, IsLiveThen, IsCom
 use Rattle.lore_base.specs.ChangeSets.{AreNumberedFrom, IsAtHand, HasChildren, FitsGraph, IsGraphAfter}
 use Rattle.lore_base.proofs.MemberLaws.{Contains-none, Contains-cases}
 use Rattle.lore_base.proofs.WalkLaws.{Walk-push}
-use Rattle.oem_changes.proofs.ToldLaws.{IsTold, told_oid, told_paired}
+use Rattle.lore_base.proofs.ToldLaws.{IsTold, told_oid, told_paired}
 
 -- what holds of each member of a list holds of all
 pub All-of_members : {X : Type 0} (P : X → Type 0) (xs : List X) → ((x : X) → Contains xs x → P x) → All P xs

@@ -16,8 +16,8 @@ use Rattle.oem_changes.proofs.AscentLaws.{IsEither, AllPairs-nil, AllPairs-once,
 use Rattle.oem_changes.proofs.AscentLaws.{some_ordered_among}
 use Rattle.oem_changes.proofs.EdgeOrderLaws.{edges_ordered}
 use Rattle.oem_changes.proofs.TableLaws.{IsNamedBefore, names_ordered, one_entry, table_from_AllPairs}
-use Rattle.oem_changes.proofs.ToldLaws.{IsTold, told_same, told_not, told_either, told_member, told_paired}
-use Rattle.oem_changes.proofs.ToldLaws.{told_bytes, told_edge, passing, members_passing, AllPairs-passing}
+use Rattle.lore_base.proofs.ToldLaws.{IsTold, told_same, told_not, told_either, told_member, told_paired}
+use Rattle.lore_base.proofs.ToldLaws.{told_bytes, told_edge, passing, members_passing, AllPairs-passing}
 use Rattle.oem_changes.proofs.RootedLaws.{told_live, numbered_within}
 use Rattle.oem_changes.proofs.ClosureLaws.{IsWalkedTo, told_walked, Contains-mapped, mapped_from}
 

@@ -4,14 +4,9 @@ use Rattle.std.specs.List.{Contains}
 use Rattle.lore_base.specs.Databases.{OemGraph}
 use Rattle.lore_base.specs.ChangeSets.{HasChildren, IsGraphAfter}
 use Rattle.lore_base.specs.ChangeCauses.{AddsToAtom, HidesChildren, Outgrows}
-use Rattle.oem_changes.specs.Types.{Oid, Edge, Value, Whole, Chars, Complex, Changes}
-use Rattle.oem_changes.proofs.ToldLaws.{IsTold, told_same, told_not, told_both, told_some, told_oid, told_below}
+use Rattle.oem_changes.specs.Types.{Oid, Edge, Value, Complex, Changes}
+use Rattle.lore_base.proofs.ToldLaws.{IsTold, told_same, told_not, told_both, told_some, told_oid, told_below, told_complex}
 use Rattle.oem_changes.proofs.DeterminedLaws.{one_after}
-
-pub told_complex : (value : Value) → IsTold (value ≡ Complex)
-told_complex (Whole number) = inr (λ is. cc)
-told_complex (Chars text) = inr (λ is. cc)
-told_complex Complex = inl refl
 
 -- the object is the parent, and has an atomic value
 abbrev IsAtomicParent : Edge → Oid × Value → Type 0

@@ -1,7 +1,7 @@
 -- Laws of changes: what they leave is determined, exists, is well-formed, and is valid where the limits are kept.
 use Rattle.std.specs.Prelude.{◌≡◌, ◌+◌, ◌≤◌, List, ◌++◌, length}
 use Rattle.lore_base.specs.Databases.{OemGraph, Database, IsWellFormed, IsRooted, IsValid}
-use Rattle.lore_base.specs.TargetSets.{AreMoreThan}
+use Rattle.lore_base.specs.GuideLimits.{FitsGuide}
 use Rattle.lore_base.specs.ChangeSets.{FitsGraph, Fits, IsGraphAfter, IsAfter, AreSame}
 use Rattle.oem_changes.specs.Types.{Edge, Changes, NAMES, OBJECTS, EDGES}
 use Rattle.oem_changes.specs.Growth.{Grows}
@@ -26,13 +26,13 @@ abbrev pub ChangesKeepRooted : Type 0
 ChangesKeepRooted = (before : OemGraph) (changes : Changes) (after : OemGraph)
     → IsWellFormed before → FitsGraph before changes → IsGraphAfter before changes after → IsRooted after
 
--- changes that fit a valid database, and keep to the limits on names, objects, edges and sets that label paths lead to,
--- leave a valid one
+-- changes that fit a valid database, and keep to the limits on names, objects, edges and the sets of a guide, leave a
+-- valid one
 abbrev pub ChangesKeepValid : Type 0
 ChangesKeepValid = (before : Database) (changes : Changes) (after : Database)
     → IsValid before → Fits before changes → IsAfter before changes after
     → length after.graph.names ≤ NAMES → length after.graph.objects ≤ OBJECTS → length after.graph.edges ≤ EDGES
-    → (¬ AreMoreThan after.nodes after.graph.names after.graph.edges)
+    → FitsGuide after.nodes after.graph.names after.graph.edges
     → IsValid after
 
 -- what the changes leave: the names of before, the objects of before and those made, and so many edges more

@@ -2,7 +2,7 @@
 use Rattle.std.specs.Prelude.{ℕ, ◌≤◌, ◌↔◌, List, ◌++◌, length, Contains}
 use Rattle.oem_graph.specs.Types.{Oid, Edge, Value}
 use Rattle.lore_base.specs.Databases.{OemGraph, AreAscendingEdges}
-use Rattle.lore_base.specs.ChangeSets.{IsOnlyIn}
+use Rattle.lore_base.specs.Deltas.{IsOnlyIn}
 use Rattle.oem_graph.specs.Graphs.{RoomyGraph}
 
 -- what becomes of a list: more items come behind it, or a whole list stands in its place

@@ -1,7 +1,10 @@
-ghost use Rattle.std.specs.Prelude.{◌≡◌, ◌↔◌, length, map, slice_get, IsTrue, IfOk, OnOk};
+ghost use Rattle.std.specs.Prelude.{◌≡◌, ◌↔◌, length, map, slice_get, Some, Contains};
+ghost use Rattle.std.specs.Prelude.{IsTrue, IfOk, OnOk, IfSome, IfNone};
+ghost use Rattle.std.specs.Option.{option_copied};
+ghost use Rattle.oem_graph.specs.Types.{Value as TheValue};
 ghost use Rattle.lore_base.specs.Names.{object_of};
 ghost use Rattle.lore_base.specs.Databases.{IsWellFormed, AreAscendingObjects, AreAscendingEdges};
-ghost use Rattle.lore_base.specs.Databases.{new_graph};
+ghost use Rattle.lore_base.specs.Databases.{IsLive, new_graph};
 ghost use Rattle.lore_base.specs.ChangeSets.{HasChildren, FitsGraph, IsOverlay, IsGraphAfter};
 ghost use Rattle.lore_base.specs.ChangeSets.{AreDead};
 ghost use Rattle.oem_graph.specs.Graphs.{IsIndexable, graph_from};
@@ -138,6 +141,17 @@ impl Graph {
         ensures indexable { IsIndexable self.now.graph }
     {
         self.next
+    }
+
+    /// The object's value; None exactly where the object isn't live. Takes no memory and counts no
+    /// step.
+    pub fn value(&self, oid: Oid) -> Option<&Value>
+        ensures found { IfSome result (λ value. Contains self.now.graph.objects (oid, value.now)) }
+        ensures none { IfNone result (¬ IsLive self.now.graph.objects oid) }
+        ensures only { (value : TheValue) → Contains self.now.graph.objects (oid, value)
+            → option_copied result ≡ Some value }
+    {
+        value_in(self.objects.as_slice(), oid)
     }
 
     /// Whether an edge leaves the object. Takes no memory and counts no step.
@@ -284,6 +298,6 @@ impl ValueOf for Graph {
     ghost objects = { λ g. g.graph.objects };
 
     fn value_of(&self, oid: Oid) -> Option<&Value> {
-        value_in(self.objects.as_slice(), oid)
+        self.value(oid)
     }
 }

@@ -6,10 +6,8 @@
 
 pub use dead::dead_objects;
 
-mod children;
 mod cuts;
 mod dead;
 mod lower_parents;
-mod met;
 mod near;
 mod reached;

@@ -1,36 +1,12 @@
-ghost use Rattle.std.specs.Prelude.{◌≡◌, true, not, List, map, filter, IfOk, AllPairs, ◌<◌, Contains};
+ghost use Rattle.std.specs.Prelude.{◌≡◌, not, List, filter, IfOk, AllPairs, ◌<◌, Contains};
 ghost use Rattle.lore_base.specs.TargetSets.{ListsInOrder};
-ghost use Rattle.oem_reach.specs.inside.Reached.{IsWalkedFrom, met_at, is_listed, AreLeft};
+ghost use Rattle.oem_reach.specs.inside.Reached.{IsWalkedFrom, is_listed, AreLeft};
 
-use crate::children::Children;
-use crate::met::Met;
-use graph_search::search;
 use index_traits::Adjacent;
-use lore_base::{EdgeBuf, NoMemory, Oid, OidBuf, Steps};
+use lore_base::{NoMemory, Oid, OidBuf, Steps};
+use object_search::GraphArcs;
 use std::alloc::Global;
 use std::sync::ledger::Ledger;
-
-// The objects as places of a search.
-fn places_of(alloc: Global, oids: &[Oid]) -> Result<Vec<(Oid, Met)>, NoMemory>
-    ensures { IfOk result (λ places. places.items ≡ map met_at oids.now) }
-{
-    let mut places = Vec::with_capacity(alloc, oids.len())?;
-    'oids: for oid in oids {
-        places.push((*oid, Met(true)))?;
-    }
-    Ok(places)
-}
-
-// The objects of the places.
-fn objects_of(alloc: Global, places: &[(Oid, Met)]) -> Result<OidBuf, NoMemory>
-    ensures { IfOk result (λ oids. oids ≡ map (λ place. place.0) places.now) }
-{
-    let mut oids = OidBuf::with_capacity(alloc, places.len())?;
-    'places: for place in places {
-        oids.push(place.0)?;
-    }
-    Ok(oids)
-}
 
 // The objects that some walk reaches from one of the starts, ascending, the starts among them.
 pub(crate) fn reached_from<A: Adjacent, L: Ledger>(
@@ -41,15 +17,8 @@ pub(crate) fn reached_from<A: Adjacent, L: Ledger>(
 ) -> Result<OidBuf, NoMemory>
     ensures { IfOk result (ListsInOrder (IsWalkedFrom (A.edges graph.now) starts.now)) }
 {
-    let mut children = Children {
-        graph,
-        edges: EdgeBuf::new(alloc),
-    };
-    let places = places_of(alloc, starts)?;
-    let met = search(alloc, &mut children, places.as_slice(), steps)?;
-    let mut oids = objects_of(alloc, met.as_slice())?;
-    oids.sort_set();
-    Ok(oids)
+    let arcs = GraphArcs { graph };
+    object_search::reached_from(alloc, &arcs, starts, steps)
 }
 
 // Whether the object is one of the ascending ones, found by binary search.

@@ -7,3 +7,4 @@ pub use Rattle.lore_base.specs.declared.values.Value.TheVariants.{Complex}
 pub use Rattle.lore_base.specs.declared.refusals.Refusal.{Refusal}
 pub use Rattle.lore_base.specs.declared.refusals.Refusal.TheVariants as refusals
 pub use Rattle.lore_base.specs.declared.limits.TheConstants.{LABELS, NEXT_NUMBER}
+pub use Rattle.lore_base.specs.declared.limits.TheConstants.{SEED, FEWEST_PERSONS, MOST_PERSONS}

@@ -1,6 +1,7 @@
 ghost use Rattle.std.specs.Prelude.{◌≡◌, ◌+◌, ◌*◌, ◌%◌, ◌≤◌, ◌<◌, ◌^◌, ℕ, List, ◌++◌, length, map};
 ghost use Rattle.std.specs.Prelude.{flat_map, codes, IfOk, OnOk};
 ghost use Rattle.oem_labels.specs.Labels.{label_in};
+ghost use Rattle.oem_text.specs.Types.{FEWEST_PERSONS, MOST_PERSONS};
 ghost use Rattle.oem_text.specs.Layouts.{edge_from};
 ghost use Rattle.oem_text.specs.Generated as spec;
 ghost use Rattle.oem_text.specs.Generated.{generated_arcs, generated_labels, numbers_from};
@@ -17,7 +18,7 @@ pub(crate) fn edges_of(
     next: u64,
     labels: &[Label],
 ) -> Result<EdgeBuf, NoMemory>
-    requires count { (20 ≤ count) × (count ≤ 10000) }
+    requires count { (FEWEST_PERSONS ≤ count) × (count ≤ MOST_PERSONS) }
     requires labels { length labels.now ≡ 10 }
     requires numbers { next + (4 * count + 111) ≤ 2 ^ 32 }
     ensures { IfOk result (λ edges. (table : List (List ℕ))
@@ -54,7 +55,7 @@ fn edge(parent: u64, label: Label, child: u64) -> Edge
 // The number of person i, where the root has the number `next`.
 fn person(next: u64, i: u32) -> u64
     requires some { 1 ≤ i }
-    requires few { i ≤ 10000 }
+    requires few { i ≤ MOST_PERSONS }
     requires number { next < 2 ^ 32 }
     ensures { result ≡ next + spec.person_place i }
 {
@@ -63,7 +64,7 @@ fn person(next: u64, i: u32) -> u64
 
 // The number of club c, where the root has the number `next`.
 fn club(next: u64, count: u32, c: u32) -> u64
-    requires few { count ≤ 10000 }
+    requires few { count ≤ MOST_PERSONS }
     requires digit { c < 10 }
     requires number { next < 2 ^ 32 }
     ensures { result ≡ next + spec.club_place count c }
@@ -72,7 +73,7 @@ fn club(next: u64, count: u32, c: u32) -> u64
 }
 
 fn put_persons(next: u64, count: u32, label: Label, edges: &mut EdgeBuf) -> Result<(), NoMemory>
-    requires few { count ≤ 10000 }
+    requires few { count ≤ MOST_PERSONS }
     requires numbers { next + (4 * count + 111) ≤ 2 ^ 32 }
     ensures { OnOk result ((table : List (List ℕ)) → label ≡ label_in table (codes "person")
         → edges.new ≡ edges.old
@@ -91,7 +92,7 @@ fn put_edges_of_persons(
     labels: &[Label],
     edges: &mut EdgeBuf,
 ) -> Result<(), NoMemory>
-    requires few { count ≤ 10000 }
+    requires few { count ≤ MOST_PERSONS }
     requires labels { length labels.now ≡ 10 }
     requires numbers { next + (4 * count + 111) ≤ 2 ^ 32 }
     ensures { OnOk result ((table : List (List ℕ))
@@ -113,7 +114,7 @@ fn put_edges_of_person(
     edges: &mut EdgeBuf,
 ) -> Result<(), NoMemory>
     requires some { 1 ≤ i }
-    requires few { i ≤ 10000 }
+    requires few { i ≤ MOST_PERSONS }
     requires labels { length labels.now ≡ 10 }
     requires numbers { next + (4 * i + 1) ≤ 2 ^ 32 }
     ensures { OnOk result ((table : List (List ℕ))
@@ -152,7 +153,7 @@ fn put_edges_of_clubs(
     labels: &[Label],
     edges: &mut EdgeBuf,
 ) -> Result<(), NoMemory>
-    requires few { count ≤ 10000 }
+    requires few { count ≤ MOST_PERSONS }
     requires labels { length labels.now ≡ 10 }
     requires numbers { next + (4 * count + 111) ≤ 2 ^ 32 }
     ensures { OnOk result ((table : List (List ℕ))
@@ -174,7 +175,7 @@ fn put_edges_of_club(
     labels: &[Label],
     edges: &mut EdgeBuf,
 ) -> Result<(), NoMemory>
-    requires few { count ≤ 10000 }
+    requires few { count ≤ MOST_PERSONS }
     requires digit { c < 10 }
     requires labels { length labels.now ≡ 10 }
     requires numbers { next + (4 * count + 111) ≤ 2 ^ 32 }
@@ -195,7 +196,7 @@ fn put_members(
     label: Label,
     edges: &mut EdgeBuf,
 ) -> Result<(), NoMemory>
-    requires few { count ≤ 10000 }
+    requires few { count ≤ MOST_PERSONS }
     requires digit { c < 10 }
     requires numbers { next + (4 * count + 111) ≤ 2 ^ 32 }
     ensures { OnOk result ((table : List (List ℕ)) → label ≡ label_in table (codes "member")

@@ -2,6 +2,7 @@ ghost use Rattle.std.specs.Prelude.{◌≡◌, ◌+◌, ◌*◌, ◌≤◌, ◌<
 ghost use Rattle.std.specs.Prelude.{◌-◌, IfOk, OnOk};
 ghost use Rattle.std.specs.Fmt.{decimal};
 ghost use Rattle.lore_base.specs.declared.values.Value.TheVariants.{Complex, Chars};
+ghost use Rattle.oem_text.specs.Types.{SEED, MOST_PERSONS};
 ghost use Rattle.oem_text.specs.Literals.{numbered};
 ghost use Rattle.oem_text.specs.Generated.{generated_values, person_values, numbers_from};
 ghost use Rattle.oem_text.specs.Generated.{drawn_after, age_from};
@@ -18,8 +19,8 @@ pub(crate) fn objects_of(
     count: u32,
     next: u64,
 ) -> Result<ObjectList, NoMemory>
-    requires few { count ≤ 10000 }
-    requires seed { seed < 2 ^ 31 }
+    requires few { count ≤ MOST_PERSONS }
+    requires seed { seed ≤ SEED }
     requires numbers { next + (4 * count + 111) ≤ 2 ^ 32 }
     ensures { IfOk result (λ objects. objects ≡ numbered next (generated_values seed count)) }
 {
@@ -51,8 +52,8 @@ fn put_persons(
     first: u64,
     objects: &mut ObjectList,
 ) -> Result<(), NoMemory>
-    requires few { count ≤ 10000 }
-    requires seed { seed < 2 ^ 31 }
+    requires few { count ≤ MOST_PERSONS }
+    requires seed { seed ≤ SEED }
     requires numbers { first + 4 * count ≤ 2 ^ 32 }
     ensures { OnOk result (objects.new
         ≡ objects.old ++ numbered first (flat_map (person_values seed) (numbers_from 1 count))) }

@@ -1,8 +1,8 @@
-ghost use Rattle.std.specs.Prelude.{◌≡◌, ◌≤◌, ◌<◌, ◌^◌, map, IfOk, IfErr, OnOk, IfSome};
+ghost use Rattle.std.specs.Prelude.{◌≡◌, ◌≤◌, ◌<◌, map, IfOk, IfErr, OnOk, IfSome};
 ghost use Rattle.std.specs.Prelude.{IfNone};
 ghost use Rattle.lore_base.specs.Verdicts.{IsClear, IsToldBy};
 ghost use Rattle.oem_labels.specs.Labels.{label_in};
-ghost use Rattle.oem_text.specs.Types.{LABELS as THE_LABELS};
+ghost use Rattle.oem_text.specs.Types.{LABELS as THE_LABELS, SEED, FEWEST_PERSONS, MOST_PERSONS};
 ghost use Rattle.oem_text.specs.Layouts.{table_of, with_texts, count_with};
 ghost use Rattle.oem_text.specs.Faults.{text_refusal};
 ghost use Rattle.oem_text.specs.Generated.{IsGenerated, GeneratedCause, generated_order};
@@ -37,8 +37,8 @@ pub fn generated(
     next: u64,
     labels: &LabelTable,
 ) -> Result<Part, TextFault>
-    requires seed { seed < 2 ^ 31 }
-    requires count { (20 ≤ count) × (count ≤ 10000) }
+    requires seed { seed ≤ SEED }
+    requires count { (FEWEST_PERSONS ≤ count) × (count ≤ MOST_PERSONS) }
     ensures part { IfOk result (λ part. IsGenerated labels.now next seed count part) }
     ensures ok { let cause = GeneratedCause labels.now next count in
         OnOk result (IsClear cause generated_order) }

@@ -6,11 +6,11 @@ use Rattle.std.proofs.lemmas.List.Elements.{All-nil, All-cons, All-head, All-tai
 use Rattle.std.proofs.lemmas.Option.{same_Some, none-some}
 use Rattle.lore_base.specs.Paths.{PathTree, Reaches}
 use Rattle.lore_base.proofs.WalkLaws.{Walk-within}
-use Rattle.lorel_ranges.specs.Conditions.{CondOf}
-use Rattle.lorel_bind.specs.Bound.{RangeTree, BoundPathTree, BoundTree}
-use Rattle.lorel_bind.specs.Bindings.{IsRunnable}
-use Rattle.lorel_bind.specs.SlotRows.{StartsAt, HoldsOver}
-use Rattle.lorel_bind.specs.Plans.{StepTree, forward, from_value, backward, check, filter, Probe, FollowOn, IsChain, tests, along, guided_step, back_steps, bottom_steps, AreStepsOf}
+use Rattle.lorel_bound.specs.Conditions.{CondOf}
+use Rattle.lorel_bound.specs.Bound.{RangeTree, BoundPathTree, BoundTree}
+use Rattle.lorel_bound.specs.Runnable.{IsRunnable}
+use Rattle.lorel_bound.specs.SlotRows.{StartsAt, HoldsOver}
+use Rattle.lorel_bound.specs.Plans.{StepTree, forward, from_value, backward, check, filter, Probe, FollowOn, IsChain, tests, along, guided_step, back_steps, bottom_steps, AreStepsOf}
 use Rattle.plan_ops.specs.Types.{Oid, Label, Edge, Value, Start, RANGES, PlanKind}
 use Rattle.plan_ops.specs.Types.starts
 use Rattle.plan_ops.specs.Types.plan_kinds

@@ -11,17 +11,17 @@ use Rattle.lore_base.specs.Comparisons.{Compares}
 use Rattle.lore_base.proofs.MemberLaws.{Contains-head}
 use Rattle.lore_base.proofs.WalkLaws.{Walk-within, Walk-split}
 use Rattle.index_traits.specs.Entries.{AreValueEntries, entry_of, IsProbed}
-use Rattle.lore_base.specs.declared.values.Value.TheVariants.{Whole, Chars, Complex}
+use Rattle.lore_base.specs.declared.values.Value.TheVariants.{Whole, Chars, Flag, Complex}
 use Rattle.lore_base.specs.declared.operators.Op.TheVariants.{Like}
 use Rattle.lore_base.specs.declared.operators.Op.{Op}
 use Rattle.lore_base.specs.declared.paths.Pattern.TheVariants.{Plain}
-use Rattle.lorel_bind.specs.declared.bound.BoundStart.TheVariants as bound_starts
-use Rattle.lorel_ranges.specs.Conditions.{CondOf, CondsOf, and, or, not, exists, for_all, same, compare, at, constant, no_cond, cond, paths_of, paths_of_all, paths_in}
-use Rattle.lorel_bind.specs.Holding.{Holds, AllHold}
-use Rattle.lorel_bind.specs.Bound.{BoundPathTree, BoundTree}
-use Rattle.lorel_bind.specs.Bindings.{IsBoundWithin, IsRunnable}
-use Rattle.lorel_bind.specs.SlotRows.{MeetsBy, HoldsOver}
-use Rattle.lorel_bind.specs.Plans.{Probe, IsFitting, IsFirstFitting, IsTaken, CanBeBottom, IsLabelOf, IsCandidate, from_value}
+use Rattle.lorel_bound.specs.declared.conditions.BoundStart.TheVariants as bound_starts
+use Rattle.lorel_bound.specs.Conditions.{CondOf, CondsOf, and, or, not, exists, for_all, same, compare, at, constant, no_cond, cond, paths_of, paths_of_all, paths_in}
+use Rattle.lorel_bound.specs.Holding.{Holds, AllHold}
+use Rattle.lorel_bound.specs.Bound.{BoundPathTree, BoundTree}
+use Rattle.lorel_bound.specs.Runnable.{IsBoundWithin, IsRunnable}
+use Rattle.lorel_bound.specs.SlotRows.{MeetsBy, HoldsOver}
+use Rattle.lorel_bound.specs.Plans.{Probe, IsFitting, IsFirstFitting, IsTaken, CanBeBottom, IsLabelOf, IsCandidate, from_value}
 use Rattle.plan_ops.specs.Types.{Oid, Label, Edge, Value}
 use Rattle.plan_ops.specs.Steps.{StepsOver, Meets}
 
@@ -132,6 +132,7 @@ one_label texts apart a b text first second = elim (cases_lt a.0 b.0) [
 complex_compares : (op : Op) (b : Value) → Compares Complex op b → op ≡ Like
 complex_compares op (Whole b) compares = elim compares [ inl ordered ↦ absurd ordered.1 | inr like ↦ like.0 ]
 complex_compares op (Chars b) compares = elim compares [ inl ordered ↦ absurd ordered.1 | inr like ↦ like.0 ]
+complex_compares op (Flag b) compares = elim compares [ inl ordered ↦ absurd ordered.1 | inr like ↦ like.0 ]
 complex_compares op Complex compares = elim compares [ inl ordered ↦ absurd ordered.1 | inr like ↦ like.0 ]
 
 module _ (over : StepsOver) (objects : List (Oid × Value)) (apart : AllPairs (λ a b. a ≢ b) over.labels)

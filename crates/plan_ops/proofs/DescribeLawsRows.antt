@@ -5,9 +5,9 @@ use Rattle.std.proofs.lemmas.List.{length-replicate}
 use Rattle.std.proofs.lemmas.Option.{same_Some, none-some}
 use Rattle.lore_base.specs.Walks.{oid_of}
 use Rattle.lore_base.specs.Paths.{Reaches}
-use Rattle.lorel_bind.specs.Bound.{RangeTree}
-use Rattle.lorel_bind.specs.Bindings.{IsWithin, AreInOrder}
-use Rattle.lorel_bind.specs.SlotRows.{StartsAt, AreFilled}
+use Rattle.lorel_bound.specs.Bound.{RangeTree}
+use Rattle.lorel_bound.specs.Runnable.{IsWithin, AreInOrder}
+use Rattle.lorel_bound.specs.SlotRows.{StartsAt, AreFilled}
 use Rattle.plan_ops.specs.Types.{Oid, Edge, Start, RANGES}
 use Rattle.plan_ops.specs.Types.starts
 use Rattle.plan_ops.specs.Steps.{Connects, in_eight}

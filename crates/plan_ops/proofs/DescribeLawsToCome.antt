@@ -3,9 +3,9 @@ use Rattle.std.proofs.Common.{◌≡◌, ◌≢◌, ◌↔◌, ℕ, suc, List, [
 use Rattle.std.proofs.lemmas.List.Elements.{All-head, All-tail}
 use Rattle.lore_base.specs.Paths.{PathTree}
 use Rattle.lore_base.proofs.MemberLaws.{Contains-none, Contains-head, Contains-cases}
-use Rattle.lorel_bind.specs.Bindings.{IsRunnable}
-use Rattle.lorel_bind.specs.Bound.{RangeTree, BoundTree}
-use Rattle.lorel_bind.specs.Plans.{StepTree, forward, from_value, check, along, guided_step, back_steps, bottom_steps, tests, Probe, AreStepsOf}
+use Rattle.lorel_bound.specs.Runnable.{IsRunnable}
+use Rattle.lorel_bound.specs.Bound.{RangeTree, BoundTree}
+use Rattle.lorel_bound.specs.Plans.{StepTree, forward, from_value, check, along, guided_step, back_steps, bottom_steps, tests, Probe, AreStepsOf}
 use Rattle.plan_ops.specs.Types.{Oid, Label, Value, Start, PlanKind, PartialRow}
 use Rattle.plan_ops.specs.Types.starts
 use Rattle.plan_ops.specs.Types.plan_kinds

@@ -6,8 +6,8 @@ use Rattle.std.proofs.lemmas.Option.{none-some, same_Some, slice_get-get_or}
 use Rattle.std.proofs.lemmas.List.{length-set, nil_from_length}
 use Rattle.std.proofs.lemmas.List.Elements.{All-nil, All-cons, All-head, All-tail}
 use Rattle.lore_base.specs.Walks.{oid_of}
-use Rattle.lorel_bind.specs.SlotRows.{StartsAt}
-use Rattle.lorel_bind.specs.Plans.{StepTree, forward, from_guide, from_value, backward, check, filter}
+use Rattle.lorel_bound.specs.SlotRows.{StartsAt}
+use Rattle.lorel_bound.specs.Plans.{StepTree, forward, from_guide, from_value, backward, check, filter}
 use Rattle.plan_ops.specs.Types.{Oid, Start, RANGES}
 use Rattle.plan_ops.specs.Types.starts
 use Rattle.plan_ops.specs.Steps.{StepsOver, Meets, IsLeft, Finishes, slot_of}

@@ -13,9 +13,9 @@ use Rattle.lore_base.specs.TargetSets.{ListsInOrder}
 use Rattle.lore_base.proofs.MemberLaws.{Contains-none, Contains-head, Contains-cases}
 use Rattle.index_traits.specs.Entries.{IsFound}
 use Rattle.product_walk.specs.ProductWalks.{ReachesInto}
-use Rattle.lorel_bind.specs.Bindings.{IsWithin}
-use Rattle.lorel_bind.specs.SlotRows.{StartsAt}
-use Rattle.lorel_bind.specs.Plans.{StepTree, forward, from_guide, from_value, backward, check, IsCandidate}
+use Rattle.lorel_bound.specs.Runnable.{IsWithin}
+use Rattle.lorel_bound.specs.SlotRows.{StartsAt}
+use Rattle.lorel_bound.specs.Plans.{StepTree, forward, from_guide, from_value, backward, check, IsCandidate}
 use Rattle.plan_ops.specs.Types.{Oid, Label, Edge, Value, Op, ValueEntry, Start, RANGES}
 use Rattle.plan_ops.specs.Types.starts
 use Rattle.plan_ops.specs.Steps.{StepsOver, Meets, Connects, slot_of}

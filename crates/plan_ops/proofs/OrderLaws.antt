@@ -3,10 +3,10 @@ use Rattle.std.proofs.Common.{◌≡◌, ◌≢◌, ℕ, zero, suc, ◌+◌, ◌
 use Rattle.std.proofs.lemmas.List.Elements.{All-nil, All-cons}
 use Rattle.std.proofs.lemmas.Option.{same_Some, none-some}
 use Rattle.lore_base.specs.Paths.{PathTree}
-use Rattle.lorel_ranges.specs.Conditions.{CondOf}
-use Rattle.lorel_bind.specs.Bound.{RangeTree, BoundPathTree, BoundTree}
-use Rattle.lorel_bind.specs.Bindings.{IsWithin, AreInOrder as AreRangesInOrder, IsRunnable}
-use Rattle.lorel_bind.specs.Plans.{StepTree, forward, backward, check, filter, Probe, tests, along, guided_step, back_steps, bottom_steps, AreStepsOf}
+use Rattle.lorel_bound.specs.Conditions.{CondOf}
+use Rattle.lorel_bound.specs.Bound.{RangeTree, BoundPathTree, BoundTree}
+use Rattle.lorel_bound.specs.Runnable.{IsWithin, AreInOrder as AreRangesInOrder, IsRunnable}
+use Rattle.lorel_bound.specs.Plans.{StepTree, forward, backward, check, filter, Probe, tests, along, guided_step, back_steps, bottom_steps, AreStepsOf}
 use Rattle.plan_ops.specs.Types.{Oid, Label, Start, RANGES, PlanKind}
 use Rattle.plan_ops.specs.Types.starts
 use Rattle.plan_ops.specs.Types.plan_kinds

@@ -4,8 +4,8 @@ use Rattle.std.proofs.lemmas.List.Elements.{All-cons, All-head, All-tail}
 use Rattle.std.proofs.lemmas.Option.{same_Some}
 use Rattle.lore_base.specs.Paths.{PathTree}
 use Rattle.lore_base.proofs.MemberLaws.{Contains-head, Contains-tail}
-use Rattle.lorel_bind.specs.Bound.{RangeTree}
-use Rattle.lorel_bind.specs.Plans.{StepTree, backward, along, back_steps}
+use Rattle.lorel_bound.specs.Bound.{RangeTree}
+use Rattle.lorel_bound.specs.Plans.{StepTree, backward, along, back_steps}
 use Rattle.plan_ops.specs.Types.{Start}
 use Rattle.plan_ops.specs.Steps.{slot_of, IsLeft}
 

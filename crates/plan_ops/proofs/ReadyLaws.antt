@@ -6,12 +6,12 @@ use Rattle.std.proofs.lemmas.List.{length-map, get_or-map, map_push, map_more}
 use Rattle.std.proofs.lemmas.List.Sums.{get_or-le-sum_by}
 use Rattle.lore_base.specs.Paths.{PathTree, leaves}
 use Rattle.lore_base.proofs.MemberLaws.{Contains-head}
-use Rattle.lorel_bind.specs.declared.bound.BoundStart.TheVariants as bound_starts
-use Rattle.lorel_ranges.specs.Conditions.{CondOf, CondsOf, and, or, not, exists, for_all, same, compare, no_cond, cond, paths_of, paths_of_all, paths_in}
-use Rattle.lorel_bind.specs.Bound.{RangeTree, BoundPathTree, BoundTree}
-use Rattle.lorel_bind.specs.Bindings.{IsRunnable}
-use Rattle.lorel_bind.specs.declared.plans.PlanStep.{PlanStep}
-use Rattle.lorel_bind.specs.Plans.{StepTree, step_tree, forward, from_value, backward, check, Probe, IsFitting, IsFirstFitting, IsTaken, CanBeBottom, tests, along, guided_step, back_steps, bottom_steps, AreStepsOf}
+use Rattle.lorel_bound.specs.declared.conditions.BoundStart.TheVariants as bound_starts
+use Rattle.lorel_bound.specs.Conditions.{CondOf, CondsOf, and, or, not, exists, for_all, same, compare, no_cond, cond, paths_of, paths_of_all, paths_in}
+use Rattle.lorel_bound.specs.Bound.{RangeTree, BoundPathTree, BoundTree}
+use Rattle.lorel_bound.specs.Runnable.{IsRunnable}
+use Rattle.lorel_bound.specs.declared.plans.PlanStep.{PlanStep}
+use Rattle.lorel_bound.specs.Plans.{StepTree, step_tree, forward, from_value, backward, check, Probe, IsFitting, IsFirstFitting, IsTaken, CanBeBottom, tests, along, guided_step, back_steps, bottom_steps, AreStepsOf}
 use Rattle.plan_ops.specs.Types.{Oid, Label, Start, LEAVES, RANGES, PlanKind, PartialRow}
 use Rattle.plan_ops.specs.Types.starts
 use Rattle.plan_ops.specs.Types.plan_kinds

@@ -9,7 +9,7 @@ use Rattle.std.proofs.lemmas.List.Elements.{All-nil, All-cons, All-append, All-h
 use Rattle.std.proofs.lemmas.List.Sums.{sum_by_push, sum_by-append, sum_by-le}
 use Rattle.lore_base.proofs.MemberLaws.{Contains-none}
 use Rattle.lore_base.specs.Paths.{PathTree}
-use Rattle.lorel_bind.specs.Plans.{StepTree, forward, from_guide, from_value, backward, check, filter}
+use Rattle.lorel_bound.specs.Plans.{StepTree, forward, from_guide, from_value, backward, check, filter}
 use Rattle.plan_ops.specs.Types.{Oid, Start, PartialRow, RANGES}
 use Rattle.plan_ops.specs.Types.starts
 use Rattle.plan_ops.specs.Steps.{StepsOver, Meets, Finishes, IsLeft, slot_of}

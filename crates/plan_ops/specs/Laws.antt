@@ -1,11 +1,11 @@
 -- Laws of plans.
 use Rattle.std.specs.Prelude.{◌≢◌, ◌↔◌, ℕ, List, [], AllPairs}
 use Rattle.lore_base.specs.Paths.{Reaches}
-use Rattle.lorel_bind.specs.Bound.{BoundTree}
-use Rattle.lorel_bind.specs.Bindings.{IsRunnable}
-use Rattle.lorel_bind.specs.SlotRows.{HoldsOver}
+use Rattle.lorel_bound.specs.Bound.{BoundTree}
+use Rattle.lorel_bound.specs.Runnable.{IsRunnable}
+use Rattle.lorel_bound.specs.SlotRows.{HoldsOver}
 use Rattle.index_traits.specs.Entries.{AreLinks, AreValueEntries}
-use Rattle.lorel_bind.specs.Plans.{StepTree, AreStepsOf}
+use Rattle.lorel_bound.specs.Plans.{StepTree, AreStepsOf}
 use Rattle.plan_ops.specs.Types.{Oid, Edge, Value, ValueEntry, PlanKind}
 use Rattle.plan_ops.specs.Steps.{StepsOver, Finishes, IsSought, in_eight}
 

@@ -1,6 +1,6 @@
 -- Which rows are still to come, and which plans read no edge.
 use Rattle.std.specs.Prelude.{◌≡◌, ◌≢◌, ◌↔◌, ℕ, suc, ◌+◌, ◌-◌, ◌*◌, ◌^◌, zero, ◌⊎◌, List, ◌∷◌, drop, sum_by, Option, Some, None, All, AllPairs, Contains}
-use Rattle.lorel_bind.specs.Plans.{StepTree, forward, from_guide, from_value, filter, IsCandidate}
+use Rattle.lorel_bound.specs.Plans.{StepTree, forward, from_guide, from_value, filter, IsCandidate}
 use Rattle.plan_ops.specs.Types.{Oid, Plan, PartialRow}
 use Rattle.plan_ops.specs.Steps.{StepsOver, Finishes}
 

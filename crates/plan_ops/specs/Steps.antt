@@ -4,9 +4,9 @@ use Rattle.std.specs.Prelude.{◌≡◌, ◌≢◌, ◌↔◌, ℕ, ◌-◌, Lis
 use Rattle.lore_base.specs.Walks.{oid_of}
 use Rattle.lore_base.specs.Paths.{PathTree, Reaches}
 use Rattle.index_traits.specs.Entries.{AreValueEntries}
-use Rattle.lorel_bind.specs.Bound.{RangeTree, BoundTree}
-use Rattle.lorel_bind.specs.SlotRows.{StartsAt, AreFilled, HoldsOver}
-use Rattle.lorel_bind.specs.Plans.{StepTree, forward, from_guide, from_value, backward, check, filter, IsCandidate}
+use Rattle.lorel_bound.specs.Bound.{RangeTree, BoundTree}
+use Rattle.lorel_bound.specs.SlotRows.{StartsAt, AreFilled, HoldsOver}
+use Rattle.lorel_bound.specs.Plans.{StepTree, forward, from_guide, from_value, backward, check, filter, IsCandidate}
 use Rattle.plan_ops.specs.Types.{Oid, Edge, Value, ValueEntry, Start, RANGES}
 use Rattle.plan_ops.specs.Types.starts
 

@@ -7,9 +7,9 @@ pub use Rattle.lore_base.specs.declared.values.Value.TheVariants.{Complex}
 pub use Rattle.lore_base.specs.declared.limits.TheConstants.{RANGES, LEAVES}
 pub use Rattle.lore_base.specs.declared.operators.Op.{Op}
 pub use Rattle.index_traits.specs.declared.entries.ValueEntry.{ValueEntry}
-pub use Rattle.lorel_bind.specs.declared.bound.Start.{Start}
-pub use Rattle.lorel_bind.specs.declared.bound.Start.TheVariants as starts
-pub use Rattle.lorel_bind.specs.declared.plans.PlanKind.{PlanKind}
-pub use Rattle.lorel_bind.specs.declared.plans.PlanKind.TheVariants as plan_kinds
-pub use Rattle.lorel_bind.specs.declared.plans.Plan.{Plan}
+pub use Rattle.lorel_bound.specs.declared.bound.Start.{Start}
+pub use Rattle.lorel_bound.specs.declared.bound.Start.TheVariants as starts
+pub use Rattle.lorel_bound.specs.declared.plans.PlanKind.{PlanKind}
+pub use Rattle.lorel_bound.specs.declared.plans.PlanKind.TheVariants as plan_kinds
+pub use Rattle.lorel_bound.specs.declared.plans.Plan.{Plan}
 pub use Rattle.plan_ops.specs.declared.partial_rows.PartialRow.{PartialRow}

@@ -1,11 +1,11 @@
 ghost use Rattle.std.specs.Prelude.{◌≡◌, map, All, IfOk};
-ghost use Rattle.lorel_bind.specs.Plans.{step_tree};
+ghost use Rattle.lorel_bound.specs.Plans.{step_tree};
 ghost use Rattle.plan_ops.specs.inside.Ready.{CanBeReady, HasFound, ready_tree};
 
 use crate::step_objects::selected;
 use index_traits::Paths;
 use lore_base::{Label, NoMemory, Oid, OidBuf, Op, Path, Value};
-use lorel_bind::{PlanStep, Start};
+use lorel_bound::{PlanStep, Start};
 use product_walk::{Route, WayBack};
 use std::alloc::Global;
 

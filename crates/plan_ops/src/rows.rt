@@ -1,8 +1,8 @@
 ghost use Rattle.std.specs.Prelude.{◌≡◌, ◌≢◌, ◌↔◌, ◌<◌, ◌≤◌, ◌⊎◌, List, length, All, AllPairs};
 ghost use Rattle.std.specs.Prelude.{IfOk, IfSome, OnOk, OnErr};
-ghost use Rattle.lorel_bind.specs.Bound.{bound_tree};
-ghost use Rattle.lorel_bind.specs.Bindings.{IsRunnable};
-ghost use Rattle.lorel_bind.specs.Plans.{IsPlanOf, steps_of};
+ghost use Rattle.lorel_bound.specs.Bound.{bound_tree};
+ghost use Rattle.lorel_bound.specs.Runnable.{IsRunnable};
+ghost use Rattle.lorel_bound.specs.Plans.{IsPlanOf, steps_of};
 ghost use Rattle.plan_ops.specs.Types.{Oid as TheOid, Value as TheValue};
 ghost use Rattle.plan_ops.specs.Steps.{steps_over, Agrees, IsSought};
 ghost use Rattle.plan_ops.specs.Rows.{IsToCome, AreSame, AnswersNext, AreQuiet, ReadNothing};
@@ -15,7 +15,7 @@ use crate::ready_steps::{ReadyStep, ready_steps};
 use crate::sources::Sources;
 use index_traits::{Adjacent, Links, Paths, Row, RowTest, Values};
 use lore_base::{NoMemory, Steps};
-use lorel_bind::{Bound, Plan};
+use lorel_bound::{Bound, Plan};
 use oem_labels::LabelTable;
 use std::alloc::Global;
 use std::marker::Model;
@@ -34,7 +34,7 @@ pub struct Rows<'a, A: Adjacent, K: Links, V: Values, P: Paths, T: RowTest> {
 impl<'a, A: Adjacent, K: Links, V: Values, P: Paths, T: RowTest> Model for Rows<'a, A, K, V, P, T> {
     ghost use Rattle.std.specs.Coded.{codes};
     ghost use Rattle.lore_base.specs.contracts.paths.Path as path_contract;
-    ghost use Rattle.lorel_bind.specs.Plans.{steps_of};
+    ghost use Rattle.lorel_bound.specs.Plans.{steps_of};
     ghost use Rattle.plan_ops.specs.Steps.{steps_over};
     ghost use Rattle.plan_ops.specs.Rows.{RowsLeft};
     ghost use Rattle.plan_ops.specs.inside.Machines.{IsReadyMachine};

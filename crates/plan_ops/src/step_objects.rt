@@ -3,7 +3,7 @@ ghost use Rattle.std.specs.Prelude.{IsTrue, IfOk, OnOk};
 ghost use Rattle.index_traits.specs.Entries.{IsProbed};
 ghost use Rattle.lore_base.specs.Paths.{path_tree, leaves, Reaches};
 ghost use Rattle.lore_base.specs.TargetSets.{ListsInOrder};
-ghost use Rattle.lorel_bind.specs.Plans.{IsCandidate};
+ghost use Rattle.lorel_bound.specs.Plans.{IsCandidate};
 ghost use Rattle.product_walk.specs.ProductWalks.{ReachesInto};
 ghost use Rattle.plan_ops.specs.Types.{Complex, LEAVES};
 

@@ -14,15 +14,15 @@ use Rattle.lore_base.specs.Lists.{ExtendsBy}
 use Rattle.lore_base.specs.TargetSets.{ListsInOrder}
 use Rattle.lore_base.proofs.MemberLaws.{Contains-same}
 use Rattle.index_traits.specs.Entries.{entry_of, IsFound}
-use Rattle.lorel_bind.specs.declared.bound.Bound.{Bound}
-use Rattle.lorel_bind.specs.declared.bound.Range.{Range}
-use Rattle.lorel_bind.specs.Bound.{RangeTree, range_tree, BoundTree, bound_tree}
-use Rattle.lorel_bind.specs.Bindings.{IsRunnable}
-use Rattle.lorel_bind.specs.Plans.{Probe, path_to}
-use Rattle.lorel_ranges.proofs.ToldLaws.{IsTold, told_by, told_same, told_both}
-use Rattle.lorel_ranges.proofs.ListedLaws.{IsListed, listed_members, listed_one, listed_same, listed_over, listed_where}
-use Rattle.lorel_bind.proofs.ComparedLaws.{told_compares}
-use Rattle.lorel_bind.proofs.AscentLaws.{IsOrder, some_ordered}
+use Rattle.lorel_bound.specs.declared.bound.Bound.{Bound}
+use Rattle.lorel_bound.specs.declared.bound.Range.{Range}
+use Rattle.lorel_bound.specs.Bound.{RangeTree, range_tree, BoundTree, bound_tree}
+use Rattle.lorel_bound.specs.Runnable.{IsRunnable}
+use Rattle.lorel_bound.specs.Plans.{Probe, path_to}
+use Rattle.lore_base.proofs.ToldLaws.{IsTold, told_by, told_same, told_both}
+use Rattle.lorel_bound.proofs.ListedLaws.{IsListed, listed_members, listed_one, listed_same, listed_over, listed_where}
+use Rattle.lorel_bound.proofs.ComparedLaws.{told_compares}
+use Rattle.lorel_bound.proofs.AscentLaws.{IsOrder, some_ordered}
 use Rattle.planner.specs.Types.{Oid, Label, ValueEntry}
 use Rattle.planner.specs.Choices.{IsCount}
 

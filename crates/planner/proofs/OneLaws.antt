@@ -5,8 +5,8 @@ use Rattle.std.proofs.lemmas.Bool.{cases_lt}
 use Rattle.std.proofs.lemmas.Option.{slice_get_within, get_or_from_slice_get}
 use Rattle.lore_base.specs.Paths.{PathTree, Reaches}
 use Rattle.lore_base.proofs.TargetLaws.{ListsInOrder-unique}
-use Rattle.lorel_bind.specs.Bound.{BoundTree}
-use Rattle.lorel_bind.specs.Plans.{Probe, IsLabelOf, IsCandidate, path_to, bottom_steps, tests}
+use Rattle.lorel_bound.specs.Bound.{BoundTree}
+use Rattle.lorel_bound.specs.Plans.{Probe, IsLabelOf, IsCandidate, path_to, bottom_steps, tests}
 use Rattle.planner.specs.Types.{Oid, Label, ValueEntry}
 use Rattle.planner.specs.Types.plan_kinds
 use Rattle.planner.specs.Choices.{IsGivenCount, AreCounted}

@@ -10,11 +10,11 @@ use Rattle.lore_base.specs.declared.paths.PathList.{PathList}
 use Rattle.lore_base.specs.declared.operators.Op.{Op}
 use Rattle.lore_base.specs.declared.values.Value.{Value}
 use Rattle.lore_base.specs.Paths.{PathTree, step, any, seq, trees_of, path_tree, path_trees, path_step, list_step}
-use Rattle.lorel_bind.specs.declared.bound.Range.{Range}
-use Rattle.lorel_bind.specs.declared.bound.BoundCond.{BoundCond}
-use Rattle.lorel_bind.specs.Bound.{BoundPathTree, range_tree, bound_cond, conds_from}
-use Rattle.lorel_ranges.specs.Conditions.{CondOf, compare, at, constant}
-use Rattle.lorel_bind.specs.Plans.{Probe, IsFitting, DoesNotFit, IsFirstFitting, FollowOn}
+use Rattle.lorel_bound.specs.declared.bound.Range.{Range}
+use Rattle.lorel_bound.specs.declared.conditions.BoundCond.{BoundCond}
+use Rattle.lorel_bound.specs.Bound.{BoundPathTree, range_tree, bound_cond, conds_from}
+use Rattle.lorel_bound.specs.Conditions.{CondOf, compare, at, constant}
+use Rattle.lorel_bound.specs.Plans.{Probe, IsFitting, DoesNotFit, IsFirstFitting, FollowOn}
 use Rattle.planner.specs.Types.starts
 use Rattle.planner.specs.Types.{Plain}
 use Rattle.planner.specs.inside.Probes.{EndsIn, PartsEndIn}

@@ -1,10 +1,10 @@
 -- Steps back along a chain of ranges, put together from the last range on.
 use Rattle.std.proofs.Common.{◌≡◌, ℕ, suc, ◌+◌, ◌<◌, ◌≤◌, List, [], ◌∷◌, ◌++◌, length, map, get_or, take, sym, ap, ◌∙◌, arith, append_assoc}
 use Rattle.std.proofs.lemmas.List.{take_more, length-take-le, length-map, map-append}
-use Rattle.lorel_bind.specs.declared.bound.Range.{Range}
-use Rattle.lorel_bind.specs.declared.plans.PlanStep.{PlanStep}
-use Rattle.lorel_bind.specs.Bound.{RangeTree, range_tree}
-use Rattle.lorel_bind.specs.Plans.{StepTree, step_tree, backward, back_steps}
+use Rattle.lorel_bound.specs.declared.bound.Range.{Range}
+use Rattle.lorel_bound.specs.declared.plans.PlanStep.{PlanStep}
+use Rattle.lorel_bound.specs.Bound.{RangeTree, range_tree}
+use Rattle.lorel_bound.specs.Plans.{StepTree, step_tree, backward, back_steps}
 
 -- the step against the last range comes first
 back_last : (slot at : ℕ) (ranges : List RangeTree) (range : RangeTree) (further : List StepTree) → at ≡ slot + length ranges

@@ -5,10 +5,10 @@ use Rattle.std.proofs.lemmas.List.Elements.{All-contains, Contains-append_left, 
 use Rattle.lore_base.specs.Paths.{PathTree, step, seq, trees_of}
 use Rattle.lore_base.proofs.MemberLaws.{Contains-head}
 use Rattle.index_traits.specs.Entries.{IsProbed}
-use Rattle.lorel_bind.specs.Bound.{RangeTree, BoundPathTree, BoundTree}
-use Rattle.lorel_bind.specs.Bindings.{IsBoundWithin, IsRunnable}
-use Rattle.lorel_ranges.specs.Conditions.{CondOf, CondsOf, and, compare, no_cond, cond, at, constant, paths_of, paths_of_all, paths_in}
-use Rattle.lorel_bind.specs.Plans.{Probe, IsFitting, IsFirstFitting, IsTaken, IsChain, CanBeBottom}
+use Rattle.lorel_bound.specs.Bound.{RangeTree, BoundPathTree, BoundTree}
+use Rattle.lorel_bound.specs.Runnable.{IsBoundWithin, IsRunnable}
+use Rattle.lorel_bound.specs.Conditions.{CondOf, CondsOf, and, compare, no_cond, cond, at, constant, paths_of, paths_of_all, paths_in}
+use Rattle.lorel_bound.specs.Plans.{Probe, IsFitting, IsFirstFitting, IsTaken, IsChain, CanBeBottom}
 use Rattle.planner.specs.Types.{Oid, Complex, Plain}
 use Rattle.planner.specs.Types.starts
 use Rattle.planner.specs.Types.bound_starts

@@ -2,8 +2,8 @@
 use Rattle.std.specs.Prelude.{◌≡◌, ℕ, ◌⊎◌, Bool, false, nat_lt, nat_le, if◌then◌else◌, List, length, Option, Some, None, is_some}
 use Rattle.lore_base.specs.Paths.{PathTree}
 use Rattle.lore_base.specs.TargetSets.{ListsInOrder}
-use Rattle.lorel_bind.specs.Bound.{BoundTree}
-use Rattle.lorel_bind.specs.Plans.{Probe, CanBeBottom, CannotBeBottom, path_to, IsLabelOf, IsCandidate}
+use Rattle.lorel_bound.specs.Bound.{BoundTree}
+use Rattle.lorel_bound.specs.Plans.{Probe, CanBeBottom, CannotBeBottom, path_to, IsLabelOf, IsCandidate}
 use Rattle.planner.specs.Types.{Oid, Label, Mode, ValueEntry, PlanKind}
 use Rattle.planner.specs.Types.modes
 use Rattle.planner.specs.Types.plan_kinds

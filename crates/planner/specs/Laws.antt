@@ -2,8 +2,8 @@
 use Rattle.std.specs.Prelude.{◌≡◌, ◌≢◌, ℕ, List, AllPairs, Option}
 use Rattle.lore_base.specs.Paths.{Reaches}
 use Rattle.lore_base.specs.declared.edges.Edge.{Edge}
-use Rattle.lorel_bind.specs.Bound.{BoundTree}
-use Rattle.lorel_bind.specs.Plans.{Probe, StepTree, CanBeBottom, AreStepsOf}
+use Rattle.lorel_bound.specs.Bound.{BoundTree}
+use Rattle.lorel_bound.specs.Plans.{Probe, StepTree, CanBeBottom, AreStepsOf}
 use Rattle.planner.specs.Types.{Oid, ValueEntry, PlanKind}
 use Rattle.planner.specs.Choices.{AreCounts}
 

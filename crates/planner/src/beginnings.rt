@@ -1,13 +1,13 @@
 ghost use Rattle.std.specs.Prelude.{◌≡◌, ◌↔◌, map, IsTrue, IfSome, IfNone};
-ghost use Rattle.lorel_bind.specs.Bound.{range_tree, bound_tree};
-ghost use Rattle.lorel_bind.specs.Plans.{FollowOn, IsChain, CanBeBottom, CannotBeBottom};
+ghost use Rattle.lorel_bound.specs.Bound.{range_tree, bound_tree};
+ghost use Rattle.lorel_bound.specs.Plans.{FollowOn, IsChain, CanBeBottom, CannotBeBottom};
 ghost use Rattle.planner.specs.Types.{Oid as TheOid};
 ghost use Rattle.planner.specs.Types.starts;
 ghost use Rattle.planner.specs.inside.Probes.{probe_tree};
 
 use crate::probes::{Probe, taken};
 use lore_base::Oid;
-use lorel_bind::{Bound, Range, Start};
+use lorel_bound::{Bound, Range, Start};
 
 /// What a bottom plan goes between: the values that a comparison asks for, and a named object.
 #[derive(Clone, Copy)]

@@ -1,9 +1,9 @@
 ghost use Rattle.std.specs.Prelude.{◌≡◌, ◌≤◌, ℕ, List, length, map, None, IfOk};
 ghost use Rattle.lore_base.specs.TargetSets.{ListsInOrder};
-ghost use Rattle.lorel_bind.specs.Bound.{bound_tree};
-ghost use Rattle.lorel_bind.specs.Bindings.{IsRunnable};
-ghost use Rattle.lorel_bind.specs.Plans.{Probe as TheProbe, CanBeBottom, path_to, IsLabelOf};
-ghost use Rattle.lorel_bind.specs.Plans.{IsPlanOf, AreStepsOf, step_tree};
+ghost use Rattle.lorel_bound.specs.Bound.{bound_tree};
+ghost use Rattle.lorel_bound.specs.Runnable.{IsRunnable};
+ghost use Rattle.lorel_bound.specs.Plans.{Probe as TheProbe, CanBeBottom, path_to, IsLabelOf};
+ghost use Rattle.lorel_bound.specs.Plans.{IsPlanOf, AreStepsOf, step_tree};
 ghost use Rattle.planner.specs.Types.{Oid as TheOid};
 ghost use Rattle.planner.specs.Choices.{AreCounts, kind_by};
 ghost use Rattle.planner.specs.inside.Probes.{probe_tree};
@@ -14,7 +14,7 @@ use crate::settings::Setting;
 use crate::stepping::{steps_from_names, steps_from_values};
 use index_traits::{Paths, Values};
 use lore_base::{Label, Mode, NoMemory};
-use lorel_bind::{Bound, Plan, PlanKind, PlanSteps};
+use lorel_bound::{Bound, Plan, PlanKind, PlanSteps};
 use oem_labels::LabelTable;
 use std::alloc::Global;
 

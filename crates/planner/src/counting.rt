@@ -2,9 +2,9 @@ ghost use Rattle.std.specs.Prelude.{◌≡◌, ◌≢◌, ◌<◌, ◌^◌, List
 ghost use Rattle.lore_base.specs.Paths.{path_tree, seq, trees_of};
 ghost use Rattle.lore_base.specs.TargetSets.{ListsInOrder};
 ghost use Rattle.index_traits.specs.Entries.{IsProbed};
-ghost use Rattle.lorel_bind.specs.Bound.{range_tree, bound_tree};
-ghost use Rattle.lorel_bind.specs.Bindings.{IsRunnable};
-ghost use Rattle.lorel_bind.specs.Plans.{IsCandidate, path_to};
+ghost use Rattle.lorel_bound.specs.Bound.{range_tree, bound_tree};
+ghost use Rattle.lorel_bound.specs.Runnable.{IsRunnable};
+ghost use Rattle.lorel_bound.specs.Plans.{IsCandidate, path_to};
 ghost use Rattle.planner.specs.Types.{Oid as TheOid, Complex};
 ghost use Rattle.planner.specs.Choices.{IsCount};
 ghost use Rattle.planner.specs.inside.Probes.{probe_tree};
@@ -13,7 +13,7 @@ use crate::beginnings::Beginning;
 use crate::probes::Probe;
 use index_traits::{Paths, Values};
 use lore_base::{Label, NoMemory, OidBuf, Path, PathList, TryCopy};
-use lorel_bind::{Bound, Range};
+use lorel_bound::{Bound, Range};
 use std::alloc::Global;
 
 /// How many objects have a value that is asked for, by the label that has the text; none without

@@ -1,16 +1,16 @@
 ghost use Rattle.std.specs.Prelude.{◌≡◌, ◌≢◌, ◌↔◌, ℕ, List, map, IsTrue, IfSome, IfNone};
 ghost use Rattle.lore_base.specs.Paths.{path_tree, step};
 ghost use Rattle.index_traits.specs.Entries.{IsProbed};
-ghost use Rattle.lorel_bind.specs.Bound.{bound_cond, bound_conds, conds_from};
-ghost use Rattle.lorel_bind.specs.Bound.{bound_operand, bound_path};
-ghost use Rattle.lorel_ranges.specs.Conditions.{compare, at, constant};
-ghost use Rattle.lorel_bind.specs.Plans.{Probe as TheProbe, IsFitting, DoesNotFit};
-ghost use Rattle.lorel_bind.specs.Plans.{IsFirstFitting, IsTaken};
-ghost use Rattle.planner.specs.Types.{Complex, Plain};
+ghost use Rattle.lorel_bound.specs.Bound.{bound_cond, bound_conds, conds_from};
+ghost use Rattle.lorel_bound.specs.Bound.{bound_operand, bound_path};
+ghost use Rattle.lorel_bound.specs.Conditions.{compare, at, constant};
+ghost use Rattle.lorel_bound.specs.Plans.{Probe as TheProbe, IsFitting, DoesNotFit};
+ghost use Rattle.lorel_bound.specs.Plans.{IsFirstFitting, IsTaken};
+ghost use Rattle.planner.specs.Types.{Plain};
 ghost use Rattle.planner.specs.inside.Probes.{probe_tree, EndsIn, PartsEndIn};
 
 use lore_base::{OemText, Op, Path, Pattern, Value};
-use lorel_bind::{BoundCond, BoundCondList, BoundOperand, BoundPath, BoundStart};
+use lorel_bound::{BoundCond, BoundCondList, BoundOperand, BoundPath, BoundStart};
 
 /// What a comparison asks for: a path from a slot to objects that a label leads to, and how their
 /// values compare.
@@ -82,7 +82,7 @@ fn path_comparison<'b>(path: &'b BoundPath, op: Op, value: &'b Value) -> Option<
     ensures none { IfNone result
         (DoesNotFit (compare (at (bound_path path.now)) op (constant value.now))) }
 {
-    if !is_probed(op) || is_complex(value) {
+    if !is_probed(op) || value.is_complex() {
         return None;
     }
     let BoundStart::Slot(slot) = path.start else {
@@ -103,13 +103,6 @@ fn is_probed(op: Op) -> bool
     ensures { IsTrue result ↔ IsProbed op }
 {
     !matches!(op, Op::Ne | Op::Like)
-}
-
-// Whether the value is no atom.
-fn is_complex(value: &Value) -> bool
-    ensures { IsTrue result ↔ (value.now ≡ Complex) }
-{
-    matches!(value, Value::Complex)
 }
 
 // The text of the plain label that is the last part of a path.

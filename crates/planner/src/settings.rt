@@ -3,7 +3,7 @@ ghost use Rattle.planner.specs.Types.plan_kinds;
 ghost use Rattle.planner.specs.Choices.{is_fewer, kind_by};
 
 use lore_base::Mode;
-use lorel_bind::PlanKind;
+use lorel_bound::PlanKind;
 
 /// What decides the kind of a plan beside the counts: the mode, and how many objects and nodes of
 /// the guide there are.

@@ -1,15 +1,15 @@
 ghost use Rattle.std.specs.Prelude.{◌≡◌, ◌+◌, ◌<◌, ◌^◌, List, ◌++◌, length, map, take, IfOk, OnOk};
-ghost use Rattle.lorel_bind.specs.Bound.{range_tree, bound_tree};
-ghost use Rattle.lorel_bind.specs.Bindings.{IsRunnable};
-ghost use Rattle.lorel_bind.specs.Plans.{StepTree, step_tree, from_value, backward, check};
-ghost use Rattle.lorel_bind.specs.Plans.{along, back_steps, bottom_steps, tests};
+ghost use Rattle.lorel_bound.specs.Bound.{range_tree, bound_tree};
+ghost use Rattle.lorel_bound.specs.Runnable.{IsRunnable};
+ghost use Rattle.lorel_bound.specs.Plans.{StepTree, step_tree, from_value, backward, check};
+ghost use Rattle.lorel_bound.specs.Plans.{along, back_steps, bottom_steps, tests};
 ghost use Rattle.planner.specs.inside.Probes.{probe_tree};
 ghost use Rattle.planner.specs.inside.Stepping.{step_by};
 
 use crate::beginnings::Beginning;
 use crate::probes::Probe;
 use lore_base::{Label, NoMemory, Oid, TryCopy};
-use lorel_bind::{Bound, PlanStep, PlanSteps, Range, Start};
+use lorel_bound::{Bound, PlanStep, PlanSteps, Range, Start};
 use std::alloc::Global;
 
 // The step along a range, which fills this slot; where the guide is asked, it tells what is reached

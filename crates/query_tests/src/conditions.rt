@@ -1,13 +1,13 @@
 ghost use Rattle.std.specs.Prelude.{◌≡◌, ◌<◌, ◌≤◌};
 ghost use Rattle.std.specs.Bool.{OnTrue};
-ghost use Rattle.lorel_bind.specs.Bound.{bound_cond};
-ghost use Rattle.lorel_ranges.specs.Conditions.{paths_of};
+ghost use Rattle.lorel_bound.specs.Bound.{bound_cond};
+ghost use Rattle.lorel_bound.specs.Conditions.{paths_of};
 ghost use Rattle.lorel_eval.specs.Types.{LEAVES};
 ghost use Rattle.lorel_eval.specs.Tests.{rest_leaves};
 
 use index_traits::{NaiveEdges, Row, RowTest, ValueOf};
 use lore_base::{Edge, EdgeBuf, Label, NoMemory, Oid, Op, Path, Steps, Value, path_leaf_count};
-use lorel_bind::{BoundCond, BoundOperand, BoundPath, BoundStart};
+use lorel_bound::{BoundCond, BoundOperand, BoundPath, BoundStart};
 use lorel_eval::Test;
 use oem_labels::LabelTable;
 use std::alloc::Global;

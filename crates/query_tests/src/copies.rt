@@ -1,9 +1,9 @@
 use crate::conditions::leading_to;
-use answers::{Answer, AnswerRow};
 use lore_base::limits::CHUNK_BYTES;
 use lore_base::{Label, NoMemory, Oid, Path, TryCopy, Word};
-use lorel_bind::{
-    Bound, BoundCond, Cell, CellList, CellOf, PlanStep, PlanSteps, Range, RangeList, Start,
+use lorel_bound::{
+    Answer, AnswerRow, Bound, BoundCond, Cell, CellList, CellOf, PlanStep, PlanSteps, Range,
+    RangeList, Start,
 };
 use lorel_lex::{Kind, Sign, TokenList, tokens};
 use std::alloc::Global;

@@ -1,5 +1,5 @@
 -- Why the changes of a form of update are refused, and when they aren't.
-use Rattle.std.proofs.Common.{◌≡◌, ◌≢◌, ◌⊎◌, ℕ, ◌+◌, ◌<◌, ◌≤◌, true, false, List, [], ◌∷◌, ◌++◌, length, map, Option, Some, None, Contains, refl, sym, ap, subst, inl, inr, ◌∙◌, arith, true≢false}
+use Rattle.std.proofs.Common.{◌≡◌, ◌≢◌, ◌⊎◌, ℕ, ◌+◌, ◌<◌, ◌≤◌, Bool, true, false, if◌then◌else◌, List, [], ◌∷◌, ◌++◌, length, map, Option, Some, None, Contains, refl, sym, ap, subst, inl, inr, ◌∙◌, arith, true≢false}
 use Rattle.std.specs.List.{filter}
 use Rattle.lore_base.specs.Databases.{OemGraph}
 use Rattle.lore_base.specs.Verdicts.{IsFirst, IsClear}
@@ -8,10 +8,11 @@ use Rattle.lore_base.specs.ChangeCauses.{AddsToAtom, HidesChildren, ChangeCause}
 use Rattle.lore_base.specs.Walks.{edge_of}
 use Rattle.lore_base.proofs.MemberLaws.{Contains-none, Contains-same}
 use Rattle.oem_labels.specs.Labels.{first_uses, label_in}
-use Rattle.updates.specs.Types.{Oid, Label, Edge, Value, Whole, Chars, Complex, Changes, Refusal, LABELS, NEXT_NUMBER}
+use Rattle.lore_base.proofs.ToldLaws.{told_complex, complex_decides, atom_only}
+use Rattle.updates.specs.Types.{Oid, Label, Edge, Value, Whole, Chars, Flag, Complex, Changes, Refusal, LABELS, NEXT_NUMBER}
 use Rattle.updates.specs.Types.refusals
 use Rattle.updates.specs.Effects.{Pair, is_atomic, targets, takers, assigning, links, linking, unlinking, no_changes}
-use Rattle.updates.specs.inside.RowTests.{has_child, hides_children, links_atom, any_atomic_link}
+use Rattle.updates.specs.inside.RowTests.{has_child, any_parent, hides_children, links_atom, any_atomic_link}
 use Rattle.updates.specs.inside.Forms.{form_order}
 use Rattle.updates.proofs.RowLaws.{any_found, any_holds, not_true, atomic_found, atomic_holds, child_found, child_holds, map_found, map_holds, link_found, link_holds}
 
@@ -27,15 +28,23 @@ hides_by graph value rows changes is atomic row there parent = record {
   parent = child_found graph.edges row.0 parent;
 }
 
+-- an atomic value is taken by all targets
+taken : (objects : List (Oid × Value)) (value : Value) (oids : List Oid) → value ≢ Complex → takers objects value oids ≡ oids
+taken objects (Whole number) oids atom = refl
+taken objects (Chars text) oids atom = refl
+taken objects (Flag flag) oids atom = refl
+taken objects Complex oids atom = absurd (atom refl)
+
 pub hides : (graph : OemGraph) (value : Value) (rows : List Pair) → hides_children graph.edges value rows ≡ true
     → HidesChildren graph (assigning graph.objects value (targets rows))
-hides graph (Whole number) rows h =
-    let found = any_found (λ (row : Pair). has_child graph.edges row.0) rows h in
-    hides_by graph (Whole number) rows (assigning graph.objects (Whole number) (targets rows)) refl (λ same. cc) found.0 found.1 found.2
-hides graph (Chars text) rows h =
-    let found = any_found (λ (row : Pair). has_child graph.edges row.0) rows h in
-    hides_by graph (Chars text) rows (assigning graph.objects (Chars text) (targets rows)) refl (λ same. cc) found.0 found.1 found.2
-hides graph Complex rows h = absurd (true≢false (sym h))
+hides graph value rows h = elim (told_complex value) [
+  | inl complex ↦ absurd (true≢false (sym h ∙ ap (λ (b : Bool). if b then false else any_parent graph.edges rows) ((complex_decides value).1 complex)))
+  | inr atom ↦ (
+      let some = sym (ap (λ (b : Bool). if b then false else any_parent graph.edges rows) (atom_only value atom)) ∙ h in
+      let found = any_found (λ (row : Pair). has_child graph.edges row.0) rows some in
+      hides_by graph value rows (assigning graph.objects value (targets rows))
+      (ap (λ (oids : List Oid). map (λ oid. (oid, value)) oids) (taken graph.objects value (targets rows) atom)) atom found.0 found.1 found.2)
+]
 
 -- what is given a value is the target of a row
 given_target : (value : Value) (rows : List Pair) (oid : Oid) (given : Value) → Contains {X = Oid × Value} (map (λ o. (o, value)) (targets rows)) (oid, given)
@@ -54,15 +63,17 @@ unhidden_by graph value rows changes is none hidden =
 
 pub unhidden : (graph : OemGraph) (value : Value) (rows : List Pair) → hides_children graph.edges value rows ≡ false
     → HidesChildren graph (assigning graph.objects value (targets rows)) → ⊥
-unhidden graph (Whole number) rows h hidden =
-    unhidden_by graph (Whole number) rows (assigning graph.objects (Whole number) (targets rows)) refl
-    (λ row there parent. not_true _ h (any_holds (λ (r : Pair). has_child graph.edges r.0) rows row there parent)) hidden
-unhidden graph (Chars text) rows h hidden =
-    unhidden_by graph (Chars text) rows (assigning graph.objects (Chars text) (targets rows)) refl
-    (λ row there parent. not_true _ h (any_holds (λ (r : Pair). has_child graph.edges r.0) rows row there parent)) hidden
-unhidden graph Complex rows h hidden =
-    let pair = map_found (λ (oid : Oid). (oid, Complex)) (filter (is_atomic graph.objects) (targets rows)) (hidden.oid, hidden.value) hidden.valued in
-    hidden.atomic (sym (ap (λ (p : Oid × Value). p.1) pair.2))
+unhidden graph value rows h hidden = elim (told_complex value) [
+  | inl complex ↦ (
+      let valued = subst (λ (v : Value). Contains {X = Oid × Value} (map (λ oid. (oid, v)) (takers graph.objects v (targets rows))) (hidden.oid, hidden.value)) complex hidden.valued in
+      let pair = map_found (λ (oid : Oid). (oid, Complex)) (filter (is_atomic graph.objects) (targets rows)) (hidden.oid, hidden.value) valued in
+      hidden.atomic (sym (ap (λ (p : Oid × Value). p.1) pair.2)))
+  | inr atom ↦ (
+      let none = sym (ap (λ (b : Bool). if b then false else any_parent graph.edges rows) (atom_only value atom)) ∙ h in
+      unhidden_by graph value rows (assigning graph.objects value (targets rows))
+      (ap (λ (oids : List Oid). map (λ oid. (oid, value)) oids) (taken graph.objects value (targets rows) atom))
+      (λ row there parent. not_true _ none (any_holds (λ (r : Pair). has_child graph.edges r.0) rows row there parent)) hidden)
+]
 
 -- ---- links
 pub link_adds : (table : List (List ℕ)) (graph : OemGraph) (label : List ℕ) (rows : List Pair) → any_atomic_link graph.objects rows ≡ true

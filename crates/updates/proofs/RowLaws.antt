@@ -4,11 +4,12 @@ use Rattle.std.specs.List.{list_any, flat_map}
 use Rattle.std.proofs.lemmas.List.Elements.{Contains-append_left, Contains-append_right, Contains-append_cases}
 use Rattle.std.proofs.lemmas.Bool.Decides.{nat_tests}
 use Rattle.lore_base.proofs.MemberLaws.{Contains-none, Contains-head, Contains-tail, Contains-cases}
-use Rattle.updates.specs.Types.{Oid, Label, Edge, Value, Whole, Chars, Complex}
+use Rattle.lore_base.proofs.ToldLaws.{told_complex, complex_decides, complex_only, atom_only}
+use Rattle.updates.specs.Types.{Oid, Label, Edge, Value, Complex}
 use Rattle.lore_base.specs.Walks.{edge_of}
-use Rattle.lore_base.specs.Databases.{IsLive}
+use Rattle.lore_base.specs.Databases.{IsLive, is_complex}
 use Rattle.lore_base.specs.ChangeSets.{HasChildren}
-use Rattle.updates.specs.Effects.{Pair, is_complex, is_atomic, targets, link_of, links}
+use Rattle.updates.specs.Effects.{Pair, is_atomic, targets, link_of, links}
 use Rattle.updates.specs.inside.RowTests.{has_child, links_atom}
 
 or_cases : (a b : Bool) → (a || b) ≡ true → (a ≡ true) ⊎ (b ≡ true)
@@ -52,20 +53,11 @@ and_both true b h k = k
 and_both false b h k = absurd (true≢false (sym h))
 
 -- ---- values
-pub complex_only : (value : Value) → is_complex value ≡ true → value ≡ Complex
-complex_only (Whole number) h = absurd (true≢false (sym h))
-complex_only (Chars text) h = absurd (true≢false (sym h))
-complex_only Complex h = refl
-
 atomic_test : (value : Value) → (if is_complex value then false else true) ≡ true → value ≢ Complex
-atomic_test (Whole number) h same = absurd (cc)
-atomic_test (Chars text) h same = absurd (cc)
-atomic_test Complex h same = true≢false (sym h)
+atomic_test value h same = true≢false (sym h ∙ ap (λ (b : Bool). if b then false else true) ((complex_decides value).1 same))
 
 atomic_passes : (value : Value) → value ≢ Complex → (if is_complex value then false else true) ≡ true
-atomic_passes (Whole number) h = refl
-atomic_passes (Chars text) h = refl
-atomic_passes Complex h = absurd (h refl)
+atomic_passes value atom = ap (λ (b : Bool). if b then false else true) (atom_only value atom)
 
 -- numbers that are equal make objects equal
 same_oid : (a b : Oid) → eqb a.0 b.0 ≡ true → a ≡ b
@@ -94,10 +86,11 @@ atomic_holds objects oid value there atomic =
 -- told by the one value that the object has, or by none
 pub atomic_is : (objects : List (Oid × Value)) (oid : Oid) (value : Value) → Contains objects (oid, value)
     → ((other : Value) → Contains objects (oid, other) → other ≡ value) → not (is_complex value) ≡ is_atomic objects oid
-atomic_is objects oid (Whole number) there only = sym (atomic_holds objects oid (Whole number) there (λ same. cc))
-atomic_is objects oid (Chars text) there only = sym (atomic_holds objects oid (Chars text) there (λ same. cc))
-atomic_is objects oid Complex there only =
-    sym (is_false (is_atomic objects oid) (λ h. let found = atomic_found objects oid h in found.2 (only found.0 found.1)))
+atomic_is objects oid value there only = elim (told_complex value) [
+  | inl complex ↦ ap not ((complex_decides value).1 complex)
+      ∙ sym (is_false (is_atomic objects oid) (λ h. let found = atomic_found objects oid h in found.2 (only found.0 found.1 ∙ complex)))
+  | inr atom ↦ ap not (atom_only value atom) ∙ sym (atomic_holds objects oid value there atom)
+]
 
 pub atomic_none : (objects : List (Oid × Value)) (oid : Oid) → (IsLive objects oid → ⊥) → false ≡ is_atomic objects oid
 atomic_none objects oid none =

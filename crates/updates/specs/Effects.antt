@@ -4,9 +4,9 @@ use Rattle.std.specs.Prelude.{◌≡◌, ℕ, ◌+◌, List, [], ◌∷◌, ◌+
 use Rattle.std.specs.Prelude.{Bool, true, false, ◌&&◌, ◌==◌, if◌then◌else◌}
 use Rattle.std.specs.List.{list_any, flat_map}
 use Rattle.std.specs.Str.{bytes_eq}
-use Rattle.updates.specs.Types.{Oid, Label, Edge, Value, Whole, Chars, Complex, Changes}
+use Rattle.updates.specs.Types.{Oid, Label, Edge, Value, Complex, Changes}
 use Rattle.lore_base.specs.Walks.{oid_of, edge_of}
-use Rattle.lore_base.specs.Databases.{OemGraph}
+use Rattle.lore_base.specs.Databases.{OemGraph, is_complex}
 use Rattle.lorel_trees.specs.Trees.{LiteralTree, StatementTree, assign, add_new, add_link, remove}
 use Rattle.oem_labels.specs.Labels.{first_uses, label_in}
 use Rattle.oem_text.specs.Literals.{Body, bodies, labels_of, arcs_of, numbered, edge_at, objects_of, edges_of}
@@ -22,11 +22,6 @@ targets rows = map (λ row. row.0) rows
 -- no change
 abbrev pub no_changes : Changes
 no_changes = record { made = []; values = []; added = []; removed = []; named = []; unnamed = []; labels = [] }
-
-abbrev pub is_complex : Value → Bool
-is_complex (Whole number) = false
-is_complex (Chars text) = false
-is_complex Complex = true
 
 -- whether the object has an atomic value
 abbrev pub is_atomic : List (Oid × Value) → Oid → Bool

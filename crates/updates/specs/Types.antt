@@ -3,7 +3,7 @@ pub use Rattle.lore_base.specs.declared.edges.Oid.{Oid}
 pub use Rattle.lore_base.specs.declared.edges.Label.{Label}
 pub use Rattle.lore_base.specs.declared.edges.Edge.{Edge}
 pub use Rattle.lore_base.specs.declared.values.Value.{Value}
-pub use Rattle.lore_base.specs.declared.values.Value.TheVariants.{Whole, Chars, Complex}
+pub use Rattle.lore_base.specs.declared.values.Value.TheVariants.{Whole, Chars, Flag, Complex}
 pub use Rattle.lore_base.specs.declared.change_set.Changes.{Changes}
 pub use Rattle.lore_base.specs.declared.refusals.Refusal.{Refusal}
 pub use Rattle.lore_base.specs.declared.refusals.Refusal.TheVariants as refusals

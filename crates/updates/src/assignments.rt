@@ -9,7 +9,7 @@ ghost use Rattle.updates.specs.Faults.{refusal_of};
 
 use crate::faults::UpdateFault;
 use crate::limit_tests::has_too_many;
-use crate::row_tests::{hides_children, is_atomic, is_complex};
+use crate::row_tests::{hides_children, is_atomic};
 use crate::update_changes::PairList;
 use lore_base::{Changes, NoMemory, ObjectList, Oid, TryCopy, Value};
 use oem_graph::Graph;
@@ -57,7 +57,7 @@ fn values_given(
     ensures { let takers = takers graph.now.graph.objects value.now (targets rows.now) in
         IfOk result (λ values. values ≡ map (λ oid. (oid, value.now)) takers) }
 {
-    if is_complex(value) {
+    if value.is_complex() {
         emptied(alloc, rows, graph)
     } else {
         with_value(alloc, value, rows)

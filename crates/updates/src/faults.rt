@@ -25,13 +25,13 @@ pub enum UpdateFault {
     /// The number of a new object would pass the greatest one.
     #[error("the numbers of objects are spent")]
     OidsSpent,
-    /// There would be more than 4,096 labels.
+    /// There would be more labels than `LABELS`.
     #[error("too many labels")]
     TooManyLabels,
-    /// There would be more than 65,536 objects.
+    /// There would be more objects than `OBJECTS`.
     #[error("too many objects")]
     TooManyObjects,
-    /// There would be more than 262,144 edges.
+    /// There would be more edges than `EDGES`.
     #[error("too many edges")]
     TooManyEdges,
     /// Memory was refused.

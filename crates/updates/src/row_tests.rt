@@ -1,5 +1,5 @@
 ghost use Rattle.std.specs.Prelude.{◌≡◌};
-ghost use Rattle.updates.specs.Effects.{is_atomic, is_complex};
+ghost use Rattle.updates.specs.Effects.{is_atomic};
 ghost use Rattle.updates.specs.inside.RowTests.{has_child, any_parent, hides_children};
 ghost use Rattle.updates.specs.inside.RowTests.{any_atomic, any_atomic_link};
 
@@ -12,19 +12,8 @@ pub(crate) fn is_atomic(graph: &Graph, oid: Oid) -> bool
     ensures { result ≡ is_atomic graph.now.graph.objects oid }
 {
     match graph.value_of(oid) {
-        Some(value) => !is_complex(value),
+        Some(value) => !value.is_complex(),
         None => false,
-    }
-}
-
-/// Whether it is the value of a complex object.
-pub(crate) fn is_complex(value: &Value) -> bool
-    ensures { result ≡ is_complex value.now }
-{
-    match value {
-        Value::Whole(_) => false,
-        Value::Chars(_) => false,
-        Value::Complex => true,
     }
 }
 
@@ -51,7 +40,7 @@ fn any_parent(graph: &Graph, rows: &[(Oid, Option<Oid>)]) -> bool
 pub(crate) fn hides_children(graph: &Graph, value: &Value, rows: &[(Oid, Option<Oid>)]) -> bool
     ensures { result ≡ hides_children graph.now.graph.edges value.now rows.now }
 {
-    if is_complex(value) {
+    if value.is_complex() {
         return false;
     }
     any_parent(graph, rows)

@@ -1,7 +1,7 @@
 -- The entries of pairs that leave go, and those of pairs that come in come.
 use Rattle.std.proofs.Common.{◌⊎◌, inl, inr, List, Contains}
 use Rattle.index_traits.specs.Entries.{entry_cmp}
-use Rattle.oem_changes.proofs.ToldLaws.{told_member, told_oid}
+use Rattle.lore_base.proofs.ToldLaws.{told_member, told_oid}
 use Rattle.value_changes.specs.Types.{ValueEntry}
 use Rattle.value_changes.specs.declared.pairs.Pair.{Pair}
 use Rattle.value_changes.specs.EntryChanges.{HasEntry, AreEntryChanges}

@@ -5,7 +5,7 @@ use Rattle.std.proofs.lemmas.List.Elements.{Contains-append_left, Contains-appen
 use Rattle.lore_base.specs.Walks.{edge_of}
 use Rattle.lore_base.proofs.MemberLaws.{Contains-same}
 use Rattle.oem_changes.proofs.ClosureLaws.{Contains-mapped, mapped_from}
-use Rattle.oem_changes.proofs.ToldLaws.{IsTold, told_by, told_same, told_both, told_oid}
+use Rattle.lore_base.proofs.ToldLaws.{IsTold, told_by, told_same, told_both, told_oid}
 use Rattle.value_changes.specs.Types.{Oid, Edge}
 use Rattle.value_changes.specs.declared.pairs.Pair.{Pair}
 use Rattle.value_changes.specs.inside.Pairs.{pair_of, AreKept, IsPairOf, IsThere}

@@ -4,7 +4,7 @@ use Rattle.std.proofs.Common.{◌⊎◌, ◌↔◌, inl, inr, List, Contains, re
 use Rattle.lore_base.specs.Databases.{IsLive}
 use Rattle.lore_base.specs.Walks.{edge_of}
 use Rattle.index_traits.specs.Entries.{IsEntered}
-use Rattle.oem_changes.proofs.ToldLaws.{told_member, told_oid, told_edge}
+use Rattle.lore_base.proofs.ToldLaws.{told_member, told_oid, told_edge}
 use Rattle.value_changes.specs.Types.{Oid, Label, Edge, Value}
 use Rattle.value_changes.specs.declared.pairs.Pair.{Pair}
 use Rattle.value_changes.specs.EntryChanges.{State, IsSettled, AreGraphChanges}

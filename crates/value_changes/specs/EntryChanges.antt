@@ -2,7 +2,7 @@
 use Rattle.std.specs.Prelude.{◌≡◌, ◌⊎◌, ◌↔◌, List, Contains}
 use Rattle.value_changes.specs.Types.{Oid, Edge, Value, ValueEntry}
 use Rattle.lore_base.specs.Databases.{IsLive}
-use Rattle.lore_base.specs.ChangeSets.{IsOnlyIn}
+use Rattle.lore_base.specs.Deltas.{IsOnlyIn}
 use Rattle.index_traits.specs.Entries.{IsValueEntry, AreAscendingEntries}
 
 -- objects with their values, and edges

@@ -1,7 +1,7 @@
 -- The order of entries by label, key and object.
-use Rattle.std.proofs.Common.{◌≡◌, ℕ, true, nat_cmp, Less, Equal, Greater, refl}
+use Rattle.std.proofs.Common.{◌≡◌, ℕ, true, false, nat_cmp, Less, Equal, Greater, refl}
 use Rattle.std.specs.declared.cmp.Ordering.{Ordering}
-use Rattle.std.specs.Ordering.{ordering_then, is_eq}
+use Rattle.std.specs.Ordering.{ordering_then, is_eq, bool_cmp}
 use Rattle.std.specs.Cmp.{IsTotalOrder}
 use Rattle.std.proofs.lemmas.Bool.Decides.{nat_tests}
 use Rattle.std.proofs.lemmas.Cmp.{nat_cmp_total, on_total, then_total}
@@ -40,3 +40,10 @@ pub equal_is : (o : Ordering) → is_eq o ≡ true → o ≡ Equal
 equal_is Less h = absurd (cc)
 equal_is Equal h = refl
 equal_is Greater h = absurd (cc)
+
+-- flags that compare as equal are one
+pub exact_flag : IsExact bool_cmp
+exact_flag false false h = refl
+exact_flag true true h = refl
+exact_flag false true h = absurd (cc)
+exact_flag true false h = absurd (cc)

@@ -4,6 +4,7 @@ pub mod KeyLaws
 pub mod CompareLaws
 pub mod RunLaws
 pub mod FoundLaws
+pub mod EntryLaws
 pub mod OrderLaws
 pub mod SplitLaws
 pub mod ChangeLaws

@@ -1,119 +1,162 @@
 -- The one list of entries that the orders stand for: which entries it holds, and that they ascend.
-use Rattle.std.proofs.Common.{◌≡◌, ◌⊎◌, inl, inr, ℕ, ℤ, Equal, List, [], ◌∷◌, map, Contains, nat_cmp, subst, sym, ap, ◌∙◌, arith}
-use Rattle.std.specs.BTreeSet.{insert_key}
-use Rattle.std.specs.Cmp.{IsTotalOrder}
-use Rattle.std.proofs.lemmas.Cmp.{nat_cmp_total, on_total, then_total}
+use Rattle.std.proofs.Common.{◌≡◌, ◌≢◌, ◌↔◌, inl, inr, ℕ, ℤ, Bool, Less, List, [], ◌++◌, map, All, Contains, subst, refl, sym, ◌∙◌}
+use Rattle.std.proofs.lemmas.List.Elements.{Contains-append_left, Contains-append_right, Contains-append_cases}
+use Rattle.lore_base.proofs.ListLaws.{AllPairs-unique}
+use Rattle.lore_base.proofs.MemberLaws.{Contains-none, Contains-same}
 use Rattle.index_traits.specs.Entries.{AreAscendingEntries, entry_of, entry_cmp}
-use Rattle.lore_base.proofs.MemberLaws.{Contains-none, Contains-head, Contains-tail, Contains-cases, Contains-same}
-use Rattle.value_index.specs.Types.{Oid, Label, Value, Whole, Chars, Complex, ValueEntry, Entry}
-use Rattle.value_index.specs.inside.Orders.{keyed, Stands, HasOnce, whole_entry, chars_entry, with_entries, in_order}
-use Rattle.value_index.proofs.KeyLaws.{first_same, rest_equal, last_same}
-use Rattle.value_index.proofs.ListLaws.{mapped, unmapped}
-use Rattle.value_index.proofs.InsertLaws.{inserted, kept-inserted, new-inserted, ascend-inserted}
+use Rattle.value_index.specs.Types.{Oid, Label, Value, Whole, Chars, Flag, Complex, ValueEntry, Entry}
+use Rattle.value_index.specs.inside.Keys.{keyed, ListsKeys, IsWhole, IsText, IsFlag, IsReading, IsFlagReading}
+use Rattle.value_index.specs.inside.Orders.{Orders, orders_of, AreOrders, value_entry, value_entries, in_order}
+use Rattle.value_index.proofs.EntryLaws.{same_label, same_object, same_entry, in-with, new-with, ascend-with, ascend-none, less_once, one_own}
+use Rattle.value_index.proofs.ListLaws.{mapped, unmapped, All-member}
 
-pub entry_total : IsTotalOrder entry_cmp
-entry_total = then_total (on_total (λ (e : ValueEntry). e.label.0) nat_cmp_total) (on_total (λ (e : ValueEntry). e.object.0) nat_cmp_total)
+-- the entries of keys that are values
+module _ {K : Type 0} (make : K → Value) (list : List (Entry K)) (entry : ValueEntry) where
+  part-from : Contains (map (value_entry make) list) entry → (key : K) × Contains list (keyed entry.label key entry.object) × (entry.value ≡ make key)
+  part-from at =
+      let own = unmapped (value_entry make) list entry at in
+      subst (λ (e : ValueEntry). (key : K) × Contains list (keyed e.label key e.object) × (e.value ≡ make key)) own.2 (own.0.key, own.1, refl)
 
--- equal entries have the label and the object in common
-pub same_label : (a b : ValueEntry) → entry_cmp a b ≡ Equal → a.label ≡ b.label
-same_label a b equal = let number : a.label.0 ≡ b.label.0 = first_same a.label.0 b.label.0 _ equal in ap (λ n. record { 0 = n }) number
+  part-to : (key : K) → Contains list (keyed entry.label key entry.object) → entry.value ≡ make key → Contains (map (value_entry make) list) entry
+  part-to key at is =
+      let back = sym is in
+      Contains-same (map (value_entry make) list) (value_entry make (keyed entry.label key entry.object)) entry
+      (λ i. record { label = entry.label; value = back i; object = entry.object })
+      (mapped (value_entry make) list (keyed entry.label key entry.object) at)
 
-pub same_object : (a b : ValueEntry) → entry_cmp a b ≡ Equal → a.object ≡ b.object
-same_object a b equal = let number : a.object.0 ≡ b.object.0 = last_same _ _ (rest_equal (nat_cmp a.label.0 b.label.0) _ equal) in ap (λ n. record { 0 = n }) number
+  -- are atomic where these are
+  part-atomic : ((key : K) → make key ≡ Complex → ⊥) → Contains (map (value_entry make) list) entry → entry.value ≢ Complex
+  part-atomic atomic at complex = let part = part-from at in atomic part.0 (sym part.2 ∙ complex)
 
-same_entry : (a b : ValueEntry) → a.label ≡ b.label → a.value ≡ b.value → a.object ≡ b.object → a ≡ b
-same_entry a b label value object = λ i. record { label = label i; value = value i; object = object i }
-
-in-with : (xs ys : List ValueEntry) (entry : ValueEntry) → Contains (with_entries xs ys) entry → Contains xs entry ⊎ Contains ys entry
-in-with xs [] entry at = inl at
-in-with xs (y ∷ ys) entry at = elim (in-with (insert_key entry_cmp xs y) ys entry at) [
-  | inl there ↦ elim (inserted entry_cmp xs y entry there) [ inl kept ↦ inl kept | inr same ↦ inr (Contains-same (y ∷ ys) y entry same (Contains-head y ys)) ]
-  | inr later ↦ inr (Contains-tail y ys entry later)
-]
-
-kept-with : (xs ys : List ValueEntry) (entry : ValueEntry) → Contains xs entry → Contains (with_entries xs ys) entry
-kept-with xs [] entry at = at
-kept-with xs (y ∷ ys) entry at = kept-with (insert_key entry_cmp xs y) ys entry (kept-inserted entry_cmp xs y entry at)
-
--- an entry stands there if no other one is equal
-new-with : (xs ys : List ValueEntry) (entry : ValueEntry)
-    → ((other : ValueEntry) → Contains xs other ⊎ Contains ys other → entry_cmp entry other ≡ Equal → other ≡ entry)
-    → Contains ys entry → Contains (with_entries xs ys) entry
-new-with xs [] entry alone at = absurd (Contains-none entry at)
-new-with xs (y ∷ ys) entry alone at = elim (Contains-cases y ys entry at) [
-  | inl same ↦ kept-with (insert_key entry_cmp xs y) ys entry (Contains-same (insert_key entry_cmp xs y) y entry same
-      (new-inserted entry_cmp xs y (λ other there equal.
-      alone other (inl there) (subst (λ (e : ValueEntry). entry_cmp e other ≡ Equal) same equal) ∙ sym same)))
-  | inr later ↦ new-with (insert_key entry_cmp xs y) ys entry (λ other either equal. elim either [
-    | inl there ↦ elim (inserted entry_cmp xs y other there) [
-      | inl kept ↦ alone other (inl kept) equal
-      | inr same ↦ alone other (inr (Contains-same (y ∷ ys) y other same (Contains-head y ys))) equal
+-- one after another
+by_parts : (orders : Orders) (entry : ValueEntry) (P : Type 0) → (Contains (map (value_entry Whole) orders.wholes) entry → P)
+    → (Contains (map (value_entry Chars) orders.chars) entry → P) → (Contains (map (value_entry Flag) orders.flags) entry → P)
+    → Contains (value_entries orders) entry → P
+by_parts orders entry P whole text flag at =
+    elim (Contains-append_cases (map (value_entry Whole) orders.wholes) (map (value_entry Chars) orders.chars ++ map (value_entry Flag) orders.flags) entry at) [
+      | inl first ↦ whole first
+      | inr rest ↦ elim (Contains-append_cases (map (value_entry Chars) orders.chars) (map (value_entry Flag) orders.flags) entry rest) [
+        | inl second ↦ text second
+        | inr third ↦ flag third
+      ]
     ]
-    | inr behind ↦ alone other (inr (Contains-tail y ys other behind)) equal
-  ]) later
-]
 
-ascend-with : (xs ys : List ValueEntry) → AreAscendingEntries xs → AreAscendingEntries (with_entries xs ys)
-ascend-with xs [] ascend = ascend
-ascend-with xs (y ∷ ys) ascend = ascend-with (insert_key entry_cmp xs y) ys (ascend-inserted entry_cmp entry_total xs y ascend)
+module _ (orders : Orders) where
+  pub ascend-in_order : AreAscendingEntries (in_order orders)
+  ascend-in_order = ascend-with [] (value_entries orders) ascend-none
 
-ascend-none : AreAscendingEntries []
-ascend-none i j d lt len = absurd (omega (arith, len))
+  listed-from : (entry : ValueEntry) → Contains (in_order orders) entry → Contains (value_entries orders) entry
+  listed-from entry at = elim (in-with [] (value_entries orders) entry at) [ inl none ↦ absurd (Contains-none entry none) | inr there ↦ there ]
 
-module _ (wholes : List (Entry ℤ)) (chars : List (Entry (List ℕ))) where
-  pub ascend-in_order : AreAscendingEntries (in_order wholes chars)
-  ascend-in_order = ascend-with (with_entries [] (map whole_entry wholes)) (map chars_entry chars) (ascend-with [] (map whole_entry wholes) ascend-none)
+  -- what they hold is atomic
+  pub atomic-in_order : (entry : ValueEntry) → Contains (in_order orders) entry → entry.value ≢ Complex
+  atomic-in_order entry at =
+      by_parts orders entry (entry.value ≢ Complex)
+      (part-atomic Whole orders.wholes entry (λ key same. cc))
+      (part-atomic Chars orders.chars entry (λ key same. cc))
+      (part-atomic Flag orders.flags entry (λ key same. cc))
+      (listed-from entry at)
 
-  from_whole : (entry : ValueEntry) → Contains (map whole_entry wholes) entry → Stands wholes chars entry.label entry.value entry.object
-  from_whole entry at =
-      let own = unmapped whole_entry wholes entry at in
-      subst (λ (e : ValueEntry). Stands wholes chars e.label e.value e.object) own.2 own.1
+module _ (IsEntry : ValueEntry → Type 0) where
+  part-entry : {K : Type 0} (make : K → Value) (list : List (Entry K)) → ListsKeys (λ value key. value ≡ make key) IsEntry list
+      → (entry : ValueEntry) → Contains (map (value_entry make) list) entry → IsEntry entry
+  part-entry make list lists entry at =
+      let part = part-from make list entry at in
+      let own = (lists entry.label part.0 entry.object).0 part.1 in
+      subst (λ (v : Value). IsEntry (entry_of entry.label v entry.object)) (own.2 ∙ sym part.2) own.1
 
-  from_chars : (entry : ValueEntry) → Contains (map chars_entry chars) entry → Stands wholes chars entry.label entry.value entry.object
-  from_chars entry at =
-      let own = unmapped chars_entry chars entry at in
-      subst (λ (e : ValueEntry). Stands wholes chars e.label e.value e.object) own.2 own.1
+  module _ (atomic : (entry : ValueEntry) → IsEntry entry → entry.value ≢ Complex)
+      (single : (a b : ValueEntry) → IsEntry a → IsEntry b → a.label ≡ b.label → a.object ≡ b.object → a.value ≡ b.value)
+      (orders : Orders) (are : AreOrders IsEntry orders) where
+    values-from : (entry : ValueEntry) → Contains (value_entries orders) entry → IsEntry entry
+    values-from entry at =
+        by_parts orders entry (IsEntry entry)
+        (part-entry Whole orders.wholes are.wholes entry)
+        (part-entry Chars orders.chars are.chars entry)
+        (part-entry Flag orders.flags are.flags entry) at
 
-  from_first : (entry : ValueEntry) → Contains (with_entries [] (map whole_entry wholes)) entry → Stands wholes chars entry.label entry.value entry.object
-  from_first entry at = elim (in-with [] (map whole_entry wholes) entry at) [
-    | inl none ↦ absurd (Contains-none entry none)
-    | inr there ↦ from_whole entry there
-  ]
+    values-to : (entry : ValueEntry) → IsEntry entry → Contains (value_entries orders) entry
+    values-to entry is =
+        let wholes = map (value_entry Whole) orders.wholes in
+        let chars = map (value_entry Chars) orders.chars in
+        let flags = map (value_entry Flag) orders.flags in
+        elim entry.value as (λ (v : Value). entry.value ≡ v → Contains (value_entries orders) entry) [
+          | Whole number ↦ λ value_is. Contains-append_left wholes (chars ++ flags) entry
+              (part-to Whole orders.wholes entry number ((are.wholes entry.label number entry.object).1 (entry.value, is, value_is)) value_is)
+          | Chars text ↦ λ value_is. Contains-append_right wholes (chars ++ flags) entry (Contains-append_left chars flags entry
+              (part-to Chars orders.chars entry text ((are.chars entry.label text entry.object).1 (entry.value, is, value_is)) value_is))
+          | Flag flag ↦ λ value_is. Contains-append_right wholes (chars ++ flags) entry (Contains-append_right chars flags entry
+              (part-to Flag orders.flags entry flag ((are.flags entry.label flag entry.object).1 (entry.value, is, value_is)) value_is))
+          | Complex ↦ λ value_is. absurd (atomic entry is value_is)
+        ] refl
 
-  -- an entry of the list stands in the order of its value
-  pub standing : (entry : ValueEntry) → Contains (in_order wholes chars) entry → Stands wholes chars entry.label entry.value entry.object
-  standing entry at = elim (in-with (with_entries [] (map whole_entry wholes)) (map chars_entry chars) entry at) [
-    | inl first ↦ from_first entry first
-    | inr second ↦ from_chars entry second
-  ]
+    -- the list holds exactly the entries whose keys the orders list
+    pub in_order-exact : (entry : ValueEntry) → Contains (in_order orders) entry ↔ IsEntry entry
+    in_order-exact entry = (
+      λ at. values-from entry (listed-from orders entry at),
+      λ is. new-with [] (value_entries orders) entry (λ other either equal. elim either [
+        | inl none ↦ absurd (Contains-none other none)
+        | inr there ↦ (
+            let other_is = values-from other there in
+            let label = sym (same_label entry other equal) in
+            let object = sym (same_object entry other equal) in
+            same_entry other entry label (single other entry other_is is label object) object)
+      ]) (values-to entry is),
+    )
 
-  module _ (once : HasOnce wholes chars) (label : Label) (object : Oid) where
-    alone : (value : Value) → Stands wholes chars label value object → (other : ValueEntry) → Stands wholes chars other.label other.value other.object
-        → entry_cmp (entry_of label value object) other ≡ Equal → other ≡ entry_of label value object
-    alone value at other there equal =
-        let one = same_label (entry_of label value object) other equal in
-        let two = same_object (entry_of label value object) other equal in
-        let moved = subst (λ (o : Oid). Stands wholes chars label other.value o) (sym two)
-        (subst (λ (l : Label). Stands wholes chars l other.value other.object) (sym one) there) in
-        same_entry other (entry_of label value object) (sym one) (once label object other.value value moved at) (sym two)
+-- the keys of other entries that are the same
+lists-like : {K : Type 0} (HasKey : Value → K → Type 0) (E F : ValueEntry → Type 0) → ((entry : ValueEntry) → E entry ↔ F entry)
+    → (list : List (Entry K)) → ListsKeys HasKey E list → ListsKeys HasKey F list
+lists-like HasKey E F same list lists label key object = (
+  λ at. (let own = (lists label key object).0 at in (own.0, (same (entry_of label own.0 object)).0 own.1, own.2)),
+  λ own. (lists label key object).1 (own.0, (same (entry_of label own.0 object)).1 own.1, own.2),
+)
 
-    listed_whole : (number : ℤ) → Contains wholes (keyed label number object) → Contains (in_order wholes chars) (entry_of label (Whole number) object)
-    listed_whole number at =
-        kept-with (with_entries [] (map whole_entry wholes)) (map chars_entry chars) _
-        (new-with [] (map whole_entry wholes) _ (λ other either equal. elim either [
-          | inl none ↦ absurd (Contains-none other none)
-          | inr there ↦ alone (Whole number) at other (from_whole other there) equal
-        ]) (mapped whole_entry wholes (keyed label number object) at))
+pub orders-like : (E F : ValueEntry → Type 0) → ((entry : ValueEntry) → E entry ↔ F entry) → (orders : Orders) → AreOrders E orders → AreOrders F orders
+orders-like E F same orders are = record {
+  wholes = lists-like IsWhole E F same orders.wholes are.wholes;
+  chars = lists-like IsText E F same orders.chars are.chars;
+  flags = lists-like IsFlag E F same orders.flags are.flags;
+  readings = lists-like IsReading E F same orders.readings are.readings;
+  flag_readings = lists-like IsFlagReading E F same orders.flag_readings are.flag_readings;
+}
 
-    listed_chars : (text : List ℕ) → Contains chars (keyed label text object) → Contains (in_order wholes chars) (entry_of label (Chars text) object)
-    listed_chars text at =
-        new-with (with_entries [] (map whole_entry wholes)) (map chars_entry chars) _ (λ other either equal. elim either [
-          | inl first ↦ alone (Chars text) at other (from_first other first) equal
-          | inr second ↦ alone (Chars text) at other (from_chars other second) equal
-        ]) (mapped chars_entry chars (keyed label text object) at)
+-- Entries that were split.
+module _ (entries : List ValueEntry) (ascend : AreAscendingEntries entries) (atomic : All (λ entry. entry.value ≢ Complex) entries)
+    (orders : Orders) (are : AreOrders (Contains entries) orders) where
+  split-single : (a b : ValueEntry) → Contains entries a → Contains entries b → a.label ≡ b.label → a.object ≡ b.object → a.value ≡ b.value
+  split-single a b first second label object =
+      one_own entries ascend a.label a.object a.value b.value first
+      (subst (λ (o : Oid). Contains entries (entry_of a.label b.value o)) (sym object)
+      (subst (λ (l : Label). Contains entries (entry_of l b.value b.object)) (sym label) second))
 
-    -- what stands in the order of its value is an entry of the list
-    pub listed : (value : Value) → Stands wholes chars label value object → Contains (in_order wholes chars) (entry_of label value object)
-    listed (Whole number) at = listed_whole number at
-    listed (Chars text) at = listed_chars text at
-    listed Complex at = absurd at
+  split-exact : (entry : ValueEntry) → Contains (in_order orders) entry ↔ Contains entries entry
+  split-exact = in_order-exact (Contains entries) (All-member (λ e. e.value ≢ Complex) entries atomic) split-single orders are
+
+  -- the orders stand for them
+  pub split-same : in_order orders ≡ entries
+  split-same = AllPairs-unique (λ a b. entry_cmp a b ≡ Less) less_once (in_order orders) entries (ascend-in_order orders) ascend split-exact
+
+  pub split-orders : AreOrders (Contains (in_order orders)) orders
+  split-orders = orders-like (Contains entries) (Contains (in_order orders)) (λ entry. ((split-exact entry).1, (split-exact entry).0)) orders are
+
+-- the same of five lists of keys
+module _ (entries : List ValueEntry) (ascend : AreAscendingEntries entries) (atomic : All (λ entry. entry.value ≢ Complex) entries)
+    (wholes : List (Entry ℤ)) (chars : List (Entry (List ℕ))) (flags : List (Entry Bool)) (readings : List (Entry ℤ)) (flag_readings : List (Entry Bool))
+    (in_wholes : ListsKeys IsWhole (Contains entries) wholes) (in_chars : ListsKeys IsText (Contains entries) chars)
+    (in_flags : ListsKeys IsFlag (Contains entries) flags) (in_readings : ListsKeys IsReading (Contains entries) readings)
+    (in_flag_readings : ListsKeys IsFlagReading (Contains entries) flag_readings) where
+  split_are : AreOrders (Contains entries) (orders_of wholes chars flags readings flag_readings)
+  split_are = record {
+    wholes = in_wholes;
+    chars = in_chars;
+    flags = in_flags;
+    readings = in_readings;
+    flag_readings = in_flag_readings;
+  }
+
+  pub five-same : in_order (orders_of wholes chars flags readings flag_readings) ≡ entries
+  five-same = split-same entries ascend atomic (orders_of wholes chars flags readings flag_readings) split_are
+
+  pub five-orders : AreOrders (Contains (in_order (orders_of wholes chars flags readings flag_readings))) (orders_of wholes chars flags readings flag_readings)
+  five-orders = split-orders entries ascend atomic (orders_of wholes chars flags readings flag_readings) split_are

@@ -1,110 +1,164 @@
--- The objects of the runs of a probe are those that are found, each once.
-use Rattle.std.proofs.Common.{◌≡◌, ◌≢◌, ◌↔◌, ◌⊎◌, inl, inr, ℕ, ℤ, List, ◌++◌, get_or, AllPairs, Contains, subst, sym}
-use Rattle.std.specs.Ordering.{int_cmp}
+-- What a probe finds: in each order the objects whose key there compares so, in all of them those that are found.
+use Rattle.std.proofs.Common.{◌≡◌, ◌≢◌, ◌↔◌, ◌⊎◌, inl, inr, ◌<◌, Bor, List, ◌++◌, get_or, Contains, subst, sym, ap, ◌∙◌, arith}
+use Rattle.std.specs.Prelude.{Option, Some, None, IfSome, IfNone}
+use Rattle.std.specs.Option.{option_copied}
+use Rattle.std.specs.Cmp.{IsTotalOrder, bool_cmp_total}
+use Rattle.std.specs.Ordering.{int_cmp, bool_cmp}
+use Rattle.std.specs.declared.cmp.Ordering.{Ordering}
 use Rattle.std.proofs.lemmas.Cmp.{int_cmp_total, nat_list_cmp_total}
 use Rattle.std.proofs.lemmas.List.Elements.{Contains-append_left, Contains-append_right, Contains-append_cases, Contains-get_or}
 use Rattle.lore_base.specs.Bytes.{bytes_cmp}
-use Rattle.lore_base.specs.Comparisons.{ReadsAs, Compares}
+use Rattle.lore_base.specs.Comparisons.{Admits, Compares}
 use Rattle.lore_base.proofs.ListLaws.{AllPairs-append}
-use Rattle.lore_base.proofs.MemberLaws.{Contains-same}
-use Rattle.index_traits.specs.Entries.{IsProbed, IsFound}
-use Rattle.value_index.specs.Types.{Oid, Label, Value, Whole, Chars, Complex, Op, Entry}
-use Rattle.value_index.specs.inside.Orders.{keyed, Stands, HasOnce, AreReadings, in_order}
-use Rattle.value_index.specs.inside.Runs.{IsRun, ListsOnce, objects_in}
-use Rattle.value_index.proofs.CompareLaws.{ReadsAs-unique, reading_whole, whole_reading}
+use Rattle.lore_base.proofs.MemberLaws.{Contains-none, Contains-same}
+use Rattle.index_traits.specs.Entries.{AreAscendingEntries, entry_of, IsProbed, IsFound}
+use Rattle.value_index.specs.Types.{Oid, Label, Value, Op, ValueEntry, Entry}
+use Rattle.value_index.specs.inside.Keys.{keyed, ListsKeys, IsWhole, IsText, IsFlag, IsReading, IsFlagReading, SeeksWhole, SeeksFlag}
+use Rattle.value_index.specs.inside.Orders.{Orders, AreOrders}
+use Rattle.value_index.specs.inside.Runs.{AscendByKey, run_at, ListsOnce, objects_in}
+use Rattle.value_index.proofs.CompareLaws.{KeysCompare, ByWholes, ByTexts, ByFlags, ByReadings, ByFlagReadings, ByReads, ByNoText, ByNoWhole, ByKeys}
+use Rattle.value_index.proofs.CompareLaws.{compares_by, only_wholes, only_texts, only_flags, only_readings}
+use Rattle.value_index.proofs.CompareLaws.{one_whole, one_text, one_flag, one_reading, one_flag_reading, one_sought_whole, one_sought_flag}
+use Rattle.value_index.proofs.EntryLaws.{one_own}
 use Rattle.value_index.proofs.RunLaws.{run-objects, run-once}
-use Rattle.value_index.proofs.OrderLaws.{standing, listed}
 
-module _ (wholes : List (Entry ℤ)) (chars : List (Entry (List ℕ))) (once : HasOnce wholes chars) (label : Label) (op : Op) (value : Value) where
-  -- the object has a whole number that compares so, or a text
-  OfWholes : Oid → Type 0
-  OfWholes oid = (number : ℤ) × Contains wholes (keyed label number oid) × Compares (Whole number) op value
+-- the object has an entry of the label whose value passes
+abbrev FoundBy : List ValueEntry → Label → (Value → Type 0) → Oid → Type 0
+FoundBy entries label P oid = (own : Value) × Contains entries (entry_of label own oid) × P own
 
-  OfChars : Oid → Type 0
-  OfChars oid = (text : List ℕ) × Contains chars (keyed label text oid) × Compares (Chars text) op value
+-- an order's answer to a probe: the run of the key that the value is sought by
+pub record IsAnswer {K : Type 0} (Seeks : Value → K → Type 0) (cmp : K → K → Ordering) (label : Label) (op : Op) (value : Value)
+    (list run : List (Entry K)) : Type 0 where
+  pub sought : Option K
+  pub some : IfSome sought (λ key. Seeks value key)
+  pub none : IfNone sought ((key : K) → ¬ Seeks value key)
+  pub ascend : AscendByKey cmp list
+  pub run_is : run ≡ run_at cmp label op sought list
 
-  found_parts : (oid : Oid) → IsFound (in_order wholes chars) label op value oid → OfWholes oid ⊎ OfChars oid
-  unfolding OfWholes OfChars
-  found_parts oid found =
-      elim found.0 as (λ own. Stands wholes chars label own oid → Compares own op value → OfWholes oid ⊎ OfChars oid) [
-        | Whole number ↦ λ at compares. inl (number, at, compares)
-        | Chars text ↦ λ at compares. inr (text, at, compares)
-        | Complex ↦ λ none _. absurd none
-      ] (standing wholes chars _ found.1) found.2
+-- an answer to a key that is borrowed, among entries that are
+pub answer_of : {K : Type 0} (Seeks : Value → K → Type 0) (cmp : K → K → Ordering) (label : Label) (op : Op) (value : Value)
+    (list run seen : List (Entry K)) (sought copied : Option K) → IfSome sought (λ key. Seeks value key)
+    → IfNone sought ((key : K) → ¬ Seeks value key) → AscendByKey cmp list → copied ≡ sought → seen ≡ list
+    → run ≡ run_at cmp label op copied seen → IsAnswer Seeks cmp label op value list run
+answer_of Seeks cmp label op value list run seen sought copied some none ascend copied_is seen_is run_is = record {
+  sought = sought;
+  some = some;
+  none = none;
+  ascend = ascend;
+  run_is = run_is ∙ ap (λ k. run_at cmp label op k seen) copied_is ∙ ap (λ l. run_at cmp label op sought l) seen_is;
+}
 
-  parts_found : (oid : Oid) → OfWholes oid ⊎ OfChars oid → IsFound (in_order wholes chars) label op value oid
-  unfolding OfWholes OfChars
-  parts_found oid either = elim either [
-    | inl h ↦ (Whole h.0, listed wholes chars once label oid (Whole h.0) h.1, h.2)
-    | inr h ↦ (Chars h.0, listed wholes chars once label oid (Chars h.0) h.1, h.2)
-  ]
+pub copied_some : {K : Type 0} (P : K → Type 0) (found : Option (Bor K)) → IfSome found (λ key. P key.now) → IfSome (option_copied found) (λ key. P key)
+copied_some P None some = some
+copied_some P (Some key) some = some
 
-  parts_apart : (oid : Oid) → OfWholes oid → OfChars oid → ⊥
-  unfolding OfWholes OfChars
-  parts_apart oid first second =
-      let same : Whole first.0 ≡ Chars second.0 = once label oid (Whole first.0) (Chars second.0) first.1 second.1 in
-      absurd (cc)
+pub copied_none : {K : Type 0} (P : Type 0) (found : Option (Bor K)) → IfNone found P → IfNone (option_copied found) P
+copied_none P None none = none
+copied_none P (Some key) none = none
 
-  one_whole : (oid : Oid) (a b : ℤ) → Contains wholes (keyed label a oid) → Contains wholes (keyed label b oid) → a ≡ b
-  one_whole oid a b first second = let same : Whole a ≡ Whole b = once label oid (Whole a) (Whole b) first second in cc
+module _ {K : Type 0} (HasKey Seeks : Value → K → Type 0) (cmp : K → K → Ordering) (total : IsTotalOrder cmp)
+    (one_key : (value : Value) (a b : K) → HasKey value a → HasKey value b → a ≡ b)
+    (one_sought : (value : Value) (a b : K) → Seeks value a → Seeks value b → a ≡ b)
+    (entries : List ValueEntry) (ascend : AreAscendingEntries entries) (label : Label) (op : Op) (probed : IsProbed op) (value : Value)
+    (list : List (Entry K)) (lists : ListsKeys HasKey (Contains entries) list) where
+  one_in : (oid : Oid) (a b : K) → Contains list (keyed label a oid) → Contains list (keyed label b oid) → a ≡ b
+  one_in oid a b first second =
+      let own = (lists label a oid).0 first in
+      let other = (lists label b oid).0 second in
+      let same = one_own entries ascend label oid own.0 other.0 own.1 other.1 in
+      one_key other.0 a b (subst (λ (v : Value). HasKey v a) same own.2) other.2
 
-  one_text : (oid : Oid) (a b : List ℕ) → Contains chars (keyed label a oid) → Contains chars (keyed label b oid) → a ≡ b
-  one_text oid a b first second = let same : Chars a ≡ Chars b = once label oid (Chars a) (Chars b) first second in cc
-
-  -- the objects of the whole numbers that compare so, and those of the texts that do
-  both_parts : (first second : List Oid) → AllPairs (λ a b. a ≢ b) first → AllPairs (λ a b. a ≢ b) second
-      → ((oid : Oid) → Contains first oid ↔ OfWholes oid) → ((oid : Oid) → Contains second oid ↔ OfChars oid)
-      → ListsOnce (IsFound (in_order wholes chars) label op value) (first ++ second)
-  both_parts first second once_first once_second in_first in_second = record {
-    once = AllPairs-append (λ a b. a ≢ b) first second once_first once_second (λ i j d lt_i lt_j same.
-        parts_apart (get_or second j d)
-        ((in_first (get_or second j d)).0 (Contains-same first _ _ same (Contains-get_or first i d lt_i)))
-        ((in_second (get_or second j d)).0 (Contains-get_or second j d lt_j)));
+  sought-finds : (sought : Option K) → IfSome sought (λ key. Seeks value key) → IfNone sought ((key : K) → ¬ Seeks value key) → AscendByKey cmp list
+      → ListsOnce (FoundBy entries label (KeysCompare HasKey Seeks cmp op value)) (objects_in (run_at cmp label op sought list))
+  sought-finds None some none ascends = record {
+    once = λ i j d lt len. let none_len : j < 0 = len in absurd (omega (arith, none_len));
+    exact = λ oid. (λ at. absurd (Contains-none oid at), λ found. absurd (none found.2.2.0 found.2.2.1));
+  }
+  sought-finds (Some key) some none ascends = record {
+    once = run-once cmp label op key list probed total ascends one_in;
     exact = λ oid. (
-      λ at. parts_found oid (elim (Contains-append_cases first second oid at) [
-        | inl there ↦ inl ((in_first oid).0 there)
-        | inr there ↦ inr ((in_second oid).0 there)
-      ]),
-      λ found. elim (found_parts oid found) [
-        | inl h ↦ Contains-append_left first second oid ((in_first oid).1 h)
-        | inr h ↦ Contains-append_right first second oid ((in_second oid).1 h)
+      λ at. (
+          let there = (run-objects cmp label op key list probed oid).0 at in
+          let own = (lists label there.0 oid).0 there.1 in
+          (own.0, own.1, (there.0, own.2, (key, some, there.2)))),
+      λ found. (
+          let held = found.2 in
+          let same = one_sought value held.2.0 key held.2.1 some in
+          (run-objects cmp label op key list probed oid).1 (
+            held.0,
+            (lists label held.0 oid).1 (found.0, found.1, held.1),
+            subst (λ k. Admits op (cmp held.0 k)) same held.2.2,
+          )),
+    );
+  }
+
+  -- an order finds the objects whose key compares so, each once
+  pub order-finds : (run : List (Entry K)) → IsAnswer Seeks cmp label op value list run
+      → ListsOnce (FoundBy entries label (KeysCompare HasKey Seeks cmp op value)) (objects_in run)
+  order-finds run answer =
+      subst (λ (l : List (Entry K)). ListsOnce (FoundBy entries label (KeysCompare HasKey Seeks cmp op value)) (objects_in l)) (sym answer.run_is)
+      (sought-finds answer.sought answer.some answer.none answer.ascend)
+
+module _ (entries : List ValueEntry) (ascend : AreAscendingEntries entries) (label : Label) where
+  -- what two claims find that no value meets both
+  both-find : (P Q : Value → Type 0) → ((own : Value) → P own → Q own → ⊥) → (first second : List Oid)
+      → ListsOnce (FoundBy entries label P) first → ListsOnce (FoundBy entries label Q) second
+      → ListsOnce (FoundBy entries label (λ own. P own ⊎ Q own)) (first ++ second)
+  both-find P Q apart first second firsts seconds = record {
+    once = AllPairs-append (λ a b. a ≢ b) first second firsts.once seconds.once (λ i j d lt_i lt_j same.
+        let oid = get_or second j d in
+        let own = (firsts.exact oid).0 (Contains-same first _ _ same (Contains-get_or first i d lt_i)) in
+        let other = (seconds.exact oid).0 (Contains-get_or second j d lt_j) in
+        let values = one_own entries ascend label oid own.0 other.0 own.1 other.1 in
+        apart other.0 (subst P values own.2) other.2);
+    exact = λ oid. (
+      λ at. elim (Contains-append_cases first second oid at) [
+        | inl there ↦ (let own = (firsts.exact oid).0 there in (own.0, own.1, inl own.2))
+        | inr there ↦ (let own = (seconds.exact oid).0 there in (own.0, own.1, inr own.2))
+      ],
+      λ found. elim found.2 [
+        | inl passes ↦ Contains-append_left first second oid ((firsts.exact oid).1 (found.0, found.1, passes))
+        | inr passes ↦ Contains-append_right first second oid ((seconds.exact oid).1 (found.0, found.1, passes))
       ],
     );
   }
 
-  module _ (run : List (Entry ℤ)) (is : IsRun int_cmp Whole label op value wholes run) where
-    -- a probe for a text: the texts that compare so
-    pub texts-found : (texts : List (Entry (List ℕ))) → IsRun bytes_cmp Chars label op value chars texts
-        → ListsOnce (IsFound (in_order wholes chars) label op value) (objects_in run ++ objects_in texts)
-    unfolding OfWholes OfChars
-    texts-found texts are =
-        both_parts (objects_in run) (objects_in texts)
-        (run-once int_cmp Whole label op value wholes run is int_cmp_total one_whole)
-        (run-once bytes_cmp Chars label op value chars texts are nat_list_cmp_total one_text)
-        (run-objects int_cmp Whole label op value wholes run is)
-        (run-objects bytes_cmp Chars label op value chars texts are)
+  find-like : (P Q : Value → Type 0) → ((own : Value) → P own ↔ Q own) → (oids : List Oid)
+      → ListsOnce (FoundBy entries label P) oids → ListsOnce (FoundBy entries label Q) oids
+  find-like P Q same oids lists = record {
+    once = lists.once;
+    exact = λ oid. (
+      λ at. (let own = (lists.exact oid).0 at in (own.0, own.1, (same own.0).0 own.2)),
+      λ found. (lists.exact oid).1 (found.0, found.1, (same found.0).1 found.2),
+    );
+  }
 
-    -- a probe for a whole number: the texts that read as one that compares so
-    pub readings-found : (number : ℤ) → value ≡ Whole number → IsProbed op → (readings : List (Entry ℤ)) → AreReadings chars readings
-        → (texts : List (Entry ℤ)) → IsRun int_cmp Whole label op value readings texts
-        → ListsOnce (IsFound (in_order wholes chars) label op value) (objects_in run ++ objects_in texts)
-    unfolding OfWholes OfChars
-    readings-found number value_is probed readings read texts are =
-        let objects = run-objects int_cmp Whole label op value readings texts are in
-        both_parts (objects_in run) (objects_in texts)
-        (run-once int_cmp Whole label op value wholes run is int_cmp_total one_whole)
-        (run-once int_cmp Whole label op value readings texts are int_cmp_total (λ oid a b first second.
-        let one = (read label a oid).0 first in
-        let two = (read label b oid).0 second in
-        ReadsAs-unique two.0 a b (subst (λ (l : List ℕ). ReadsAs l a) (one_text oid one.0 two.0 one.1 two.1) one.2) two.2))
-        (run-objects int_cmp Whole label op value wholes run is)
-        (λ oid. (
-          λ at. (
-              let there = (objects oid).0 at in
-              let text = (read label there.0 oid).0 there.1 in
-              let own = subst (λ (v : Value). Compares (Whole there.0) op v) value_is there.2 in
-              (text.0, text.1, subst (λ (v : Value). Compares (Chars text.0) op v) (sym value_is) (reading_whole op probed number there.0 text.0 text.2 own))),
-          λ h. (
-              let own = whole_reading op probed number h.0 (subst (λ (v : Value). Compares (Chars h.0) op v) value_is h.2) in
-              (objects oid).1 (own.0, (read label own.0 oid).1 (h.0, h.1, own.1), subst (λ (v : Value). Compares (Whole own.0) op v) (sym value_is) own.2)),
-        ))
+-- the answers of the five orders
+pub record AreAnswers (orders runs : Orders) (label : Label) (op : Op) (value : Value) : Type 0 where
+  pub wholes : IsAnswer SeeksWhole int_cmp label op value orders.wholes runs.wholes
+  pub chars : IsAnswer IsText bytes_cmp label op value orders.chars runs.chars
+  pub flags : IsAnswer SeeksFlag bool_cmp label op value orders.flags runs.flags
+  pub readings : IsAnswer IsWhole int_cmp label op value orders.readings runs.readings
+  pub flag_readings : IsAnswer IsFlag bool_cmp label op value orders.flag_readings runs.flag_readings
+
+-- they list the objects that are found, each once
+pub answers-find : (entries : List ValueEntry) → AreAscendingEntries entries → (orders : Orders) → AreOrders (Contains entries) orders
+    → (label : Label) (op : Op) → IsProbed op → (value : Value) (runs : Orders) → AreAnswers orders runs label op value
+    → ListsOnce (IsFound entries label op value)
+    (objects_in runs.wholes ++ (objects_in runs.chars ++ (objects_in runs.flags ++ (objects_in runs.readings ++ objects_in runs.flag_readings))))
+answers-find entries ascend orders are label op probed value runs answers =
+    find-like entries ascend label (ByKeys op value) (λ own. Compares own op value) (λ own. let told = compares_by op probed own value in (told.1, told.0)) _
+    (both-find entries ascend label (ByWholes op value) (ByNoWhole op value) (only_wholes op value) _ _
+    (order-finds IsWhole SeeksWhole int_cmp int_cmp_total one_whole one_sought_whole entries ascend label op probed value
+    orders.wholes are.wholes runs.wholes answers.wholes)
+    (both-find entries ascend label (ByTexts op value) (ByNoText op value) (only_texts op value) _ _
+    (order-finds IsText IsText bytes_cmp nat_list_cmp_total one_text one_text entries ascend label op probed value
+    orders.chars are.chars runs.chars answers.chars)
+    (both-find entries ascend label (ByFlags op value) (ByReads op value) (only_flags op value) _ _
+    (order-finds IsFlag SeeksFlag bool_cmp bool_cmp_total one_flag one_sought_flag entries ascend label op probed value
+    orders.flags are.flags runs.flags answers.flags)
+    (both-find entries ascend label (ByReadings op value) (ByFlagReadings op value) (only_readings op value) _ _
+    (order-finds IsReading IsWhole int_cmp int_cmp_total one_reading one_whole entries ascend label op probed value
+    orders.readings are.readings runs.readings answers.readings)
+    (order-finds IsFlagReading IsFlag bool_cmp bool_cmp_total one_flag_reading one_flag entries ascend label op probed value
+    orders.flag_readings are.flag_readings runs.flag_readings answers.flag_readings)))))

@@ -12,10 +12,10 @@ use Rattle.std.proofs.lemmas.Bool.Decides.{nat_tests}
 use Rattle.std.proofs.lemmas.Cmp.{alike_right}
 use Rattle.std.proofs.lemmas.List.{append-nil, get_or-take, get_or-drop, take-append-drop}
 use Rattle.std.proofs.lemmas.List.Elements.{All-tail, filter-append}
-use Rattle.value_index.specs.Types.{Oid, Label, Value, Op, Eq, Ne, Lt, Le, Gt, Ge, Like, Entry}
-use Rattle.value_index.specs.inside.Runs.{key_cmp, AscendByKey, side_of, side_in, run_in, IsRun, objects_in}
-use Rattle.value_index.specs.inside.Orders.{keyed}
-use Rattle.lore_base.specs.Comparisons.{Admits, Compares}
+use Rattle.value_index.specs.Types.{Oid, Label, Op, Eq, Ne, Lt, Le, Gt, Ge, Like, Entry}
+use Rattle.value_index.specs.inside.Runs.{key_cmp, AscendByKey, side_of, side_in, run_in, objects_in}
+use Rattle.value_index.specs.inside.Keys.{keyed}
+use Rattle.lore_base.specs.Comparisons.{Admits}
 use Rattle.lore_base.proofs.MemberLaws.{Contains-same, Contains-filter, unfiltered}
 use Rattle.index_traits.specs.Entries.{IsProbed}
 use Rattle.std.proofs.lemmas.Cmp.{tied_itself}
@@ -180,67 +180,69 @@ in_admits Like order probed h = absurd h
 both_are : (p q : ℕ) (o : Ordering) → p ≡ q → o ≡ Equal → is_eq (ordering_then (nat_cmp p q) o) ≡ true
 both_are p q o same equal = grind (arith, nat_tests)
 
-module _ {K : Type 0} (cmp : K → K → Ordering) (value_of : K → Value) (label : Label) (op : Op) (value : Value) (entries : List (Entry K)) where
-  -- a run that was bisected holds what compares so
-  pub run-found : (probed : IsProbed op) (ascend : AscendByKey cmp entries) (key : K)
-      → ((own : K) → Compares (value_of own) op value ↔ Admits op (cmp own key))
-      → (run : List (Entry K)) → run ≡ run_in cmp label op key entries → IsRun cmp value_of label op value entries run
-  run-found probed ascend key compares run is = rw is (record {
-    ascend = AllPairs-filter (λ a b. key_cmp cmp a b ≡ Less) (λ entry. is_eq (side_in cmp label op key entry)) entries ascend;
-    members = λ entry. (
-      λ at. (
-          let kept = unfiltered (λ e. is_eq (side_in cmp label op key e)) entries entry at in
-          let side = equal_is (side_in cmp label op key entry) kept.1 in
-          let number : entry.label.0 ≡ label.0 = first_same _ _ (side_of op (cmp entry.key key)) side in
-          let order : side_of op (cmp entry.key key) ≡ Equal = rest_equal (nat_cmp entry.label.0 label.0) _ side in
-          (kept.0, ap (λ n. record { 0 = n }) number, (compares entry.key).1 (admits_in op probed (cmp entry.key key) order))),
-      λ is. Contains-filter (λ e. is_eq (side_in cmp label op key e)) entries entry is.0
-          (both_are entry.label.0 label.0 (side_of op (cmp entry.key key)) (ap (λ (l : Label). l.0) is.1)
-          (in_admits op (cmp entry.key key) probed ((compares entry.key).0 is.2))),
-    );
-  })
+module _ {K : Type 0} (cmp : K → K → Ordering) (label : Label) (op : Op) (key : K) (entries : List (Entry K)) where
+  -- which entries stand in the run
+  run-members : IsProbed op → (entry : Entry K) → Contains (run_in cmp label op key entries) entry
+      ↔ (Contains entries entry × (entry.label ≡ label) × Admits op (cmp entry.key key))
+  run-members probed entry = (
+    λ at. (
+        let kept = unfiltered (λ e. is_eq (side_in cmp label op key e)) entries entry at in
+        let side = equal_is (side_in cmp label op key entry) kept.1 in
+        let number : entry.label.0 ≡ label.0 = first_same _ _ (side_of op (cmp entry.key key)) side in
+        let order : side_of op (cmp entry.key key) ≡ Equal = rest_equal (nat_cmp entry.label.0 label.0) _ side in
+        (kept.0, ap (λ n. record { 0 = n }) number, admits_in op probed (cmp entry.key key) order)),
+    λ is. Contains-filter (λ e. is_eq (side_in cmp label op key e)) entries entry is.0
+        (both_are entry.label.0 label.0 (side_of op (cmp entry.key key)) (ap (λ (l : Label). l.0) is.1)
+        (in_admits op (cmp entry.key key) probed is.2)),
+  )
 
-  module _ (run : List (Entry K)) (is : IsRun cmp value_of label op value entries run) where
+  run-ascend : AscendByKey cmp entries → AscendByKey cmp (run_in cmp label op key entries)
+  run-ascend ascend = AllPairs-filter (λ a b. key_cmp cmp a b ≡ Less) (λ entry. is_eq (side_in cmp label op key entry)) entries ascend
+
+  module _ (probed : IsProbed op) where
     -- the objects of a run
-    pub run-objects : (oid : Oid) → Contains (objects_in run) oid ↔ ((key : K) × Contains entries (keyed label key oid) × Compares (value_of key) op value)
+    pub run-objects : (oid : Oid) → Contains (objects_in (run_in cmp label op key entries)) oid
+        ↔ ((own : K) × Contains entries (keyed label own oid) × Admits op (cmp own key))
     run-objects oid = (
       λ at. (
-          let entry = unmapped (λ (e : Entry K). e.object) run oid at in
-          let held = (is.members entry.0).0 entry.1 in
+          let entry = unmapped (λ (e : Entry K). e.object) (run_in cmp label op key entries) oid at in
+          let held = (run-members probed entry.0).0 entry.1 in
           let same : entry.0 ≡ keyed label entry.0.key oid = λ i. record { label = held.1 i; key = entry.0.key; object = entry.2 i } in
           (entry.0.key, Contains-same entries entry.0 _ same held.0, held.2)),
-      λ found. mapped (λ (e : Entry K). e.object) run (keyed label found.0 oid) ((is.members (keyed label found.0 oid)).1 (found.1, refl, found.2)),
+      λ found. mapped (λ (e : Entry K). e.object) (run_in cmp label op key entries) (keyed label found.0 oid)
+          ((run-members probed (keyed label found.0 oid)).1 (found.1, refl, found.2)),
     )
 
-    apart : IsTotalOrder cmp
-        → ((oid : Oid) (a b : K) → Contains entries (keyed label a oid) → Contains entries (keyed label b oid) → a ≡ b)
-        → (i j : ℕ) (e : Entry K) → i < j → j < length run → (get_or run i e).object ≡ (get_or run j e).object → ⊥
-    apart total one i j e lt len same =
-        let a = get_or run i e in
-        let b = get_or run j e in
-        let first = (is.members a).0 (Contains-get_or run i e (omega (arith, lt, len))) in
-        let second = (is.members b).0 (Contains-get_or run j e len) in
-        let a_is : a ≡ keyed label a.key b.object = λ k. record { label = first.1 k; key = a.key; object = same k } in
-        let b_is : b ≡ keyed label b.key b.object = λ k. record { label = second.1 k; key = b.key; object = b.object } in
-        let keys : a.key ≡ b.key = one b.object a.key b.key (Contains-same entries a _ a_is first.0) (Contains-same entries b _ b_is second.0) in
-        let entry : a ≡ b = a_is ∙ ap (λ k. keyed label k b.object) keys ∙ sym b_is in
-        let less : key_cmp cmp a b ≡ Less = is.ascend i j e lt len in
-        let equal : key_cmp cmp a b ≡ Equal = subst (λ x. key_cmp cmp a x ≡ Equal) entry (tied_itself (key_total cmp total) a) in
-        let none : Less ≡ Equal = sym less ∙ equal in
-        absurd (cc)
+    module _ (total : IsTotalOrder cmp) (ascend : AscendByKey cmp entries)
+        (one : (oid : Oid) (a b : K) → Contains entries (keyed label a oid) → Contains entries (keyed label b oid) → a ≡ b) where
+      apart : (i j : ℕ) (e : Entry K) → i < j → j < length (run_in cmp label op key entries)
+          → (get_or (run_in cmp label op key entries) i e).object ≡ (get_or (run_in cmp label op key entries) j e).object → ⊥
+      apart i j e lt len same =
+          let run = run_in cmp label op key entries in
+          let a = get_or run i e in
+          let b = get_or run j e in
+          let first = (run-members probed a).0 (Contains-get_or run i e (omega (arith, lt, len))) in
+          let second = (run-members probed b).0 (Contains-get_or run j e len) in
+          let a_is : a ≡ keyed label a.key b.object = λ k. record { label = first.1 k; key = a.key; object = same k } in
+          let b_is : b ≡ keyed label b.key b.object = λ k. record { label = second.1 k; key = b.key; object = b.object } in
+          let keys : a.key ≡ b.key = one b.object a.key b.key (Contains-same entries a _ a_is first.0) (Contains-same entries b _ b_is second.0) in
+          let entry : a ≡ b = a_is ∙ ap (λ k. keyed label k b.object) keys ∙ sym b_is in
+          let less : key_cmp cmp a b ≡ Less = run-ascend ascend i j e lt len in
+          let equal : key_cmp cmp a b ≡ Equal = subst (λ x. key_cmp cmp a x ≡ Equal) entry (tied_itself (key_total cmp total) a) in
+          let none : Less ≡ Equal = sym less ∙ equal in
+          absurd (cc)
 
-    once_at : IsTotalOrder cmp
-        → ((oid : Oid) (a b : K) → Contains entries (keyed label a oid) → Contains entries (keyed label b oid) → a ≡ b)
-        → (i j : ℕ) (d : Oid) → i < j → j < length (objects_in run) → (e : Entry K) → get_or (objects_in run) i d ≢ get_or (objects_in run) j d
-    once_at total one i j d lt len e =
-        let inside : j < length run = omega (arith, len, length-map run (λ (e : Entry K). e.object)) in
-        rw (get_or-map (λ (e : Entry K). e.object) run i e d (omega (arith, lt, inside)), get_or-map (λ (e : Entry K). e.object) run j e d inside)
-        (apart total one i j e lt inside)
+      once_at : (i j : ℕ) (d : Oid) → i < j → j < length (objects_in (run_in cmp label op key entries)) → (e : Entry K)
+          → get_or (objects_in (run_in cmp label op key entries)) i d ≢ get_or (objects_in (run_in cmp label op key entries)) j d
+      once_at i j d lt len e =
+          let run = run_in cmp label op key entries in
+          let inside : j < length run = omega (arith, len, length-map run (λ (e : Entry K). e.object)) in
+          rw (get_or-map (λ (e : Entry K). e.object) run i e d (omega (arith, lt, inside)), get_or-map (λ (e : Entry K). e.object) run j e d inside)
+          (apart i j e lt inside)
 
-    -- each of them once, where an object has one key
-    pub run-once : IsTotalOrder cmp
-        → ((oid : Oid) (a b : K) → Contains entries (keyed label a oid) → Contains entries (keyed label b oid) → a ≡ b)
-        → AllPairs (λ a b. a ≢ b) (objects_in run)
-    run-once total one i j d lt len =
-        let there = unmapped (λ (e : Entry K). e.object) run _ (Contains-get_or (objects_in run) j d len) in
-        once_at total one i j d lt len there.0
+      -- each of them once, where an object has one key
+      pub run-once : AllPairs (λ a b. a ≢ b) (objects_in (run_in cmp label op key entries))
+      run-once i j d lt len =
+          let run = run_in cmp label op key entries in
+          let there = unmapped (λ (e : Entry K). e.object) run _ (Contains-get_or (objects_in run) j d len) in
+          once_at i j d lt len there.0

@@ -3,7 +3,7 @@ pub use Rattle.index_traits.specs.declared.entries.ValueEntry.{ValueEntry}
 pub use Rattle.lore_base.specs.declared.edges.Oid.{Oid}
 pub use Rattle.lore_base.specs.declared.edges.Label.{Label}
 pub use Rattle.lore_base.specs.declared.values.Value.{Value}
-pub use Rattle.lore_base.specs.declared.values.Value.TheVariants.{Whole, Chars, Complex}
+pub use Rattle.lore_base.specs.declared.values.Value.TheVariants.{Whole, Chars, Flag, Complex}
 pub use Rattle.lore_base.specs.declared.operators.Op.{Op}
 pub use Rattle.lore_base.specs.declared.operators.Op.TheVariants.{Eq, Ne, Lt, Le, Gt, Ge, Like}
 pub use Rattle.value_index.specs.declared.entry.Entry.{Entry}

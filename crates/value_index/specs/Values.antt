@@ -4,11 +4,14 @@ use Rattle.value_index.specs.Types.{ValueEntry, Complex}
 use Rattle.index_traits.specs.Entries.{AreAscendingEntries}
 use Rattle.sorted_list.specs.SortedLists.{IsThen, IsChange, IsLessWith}
 
--- for how many more entries there is room: whole numbers, texts, and texts that read as whole numbers
+-- for how many more entries there is room: whole numbers, texts, flags, texts that read as whole numbers, and texts
+-- that read as flags
 pub record EntryRoom : Type 0 where
   pub wholes : ℕ
   pub chars : ℕ
+  pub flags : ℕ
   pub readings : ℕ
+  pub flag_readings : ℕ
 
 -- entries in the order of label and object, and for how many more there is room
 pub record RoomyEntries : Type 0 where
@@ -25,7 +28,9 @@ pub record PlannedEntries : Type 0 where
 pub record HasRoom (kept : RoomyEntries) (plan : PlannedEntries) : Type 0 where
   pub wholes : plan.needs.wholes ≤ kept.room.wholes
   pub chars : plan.needs.chars ≤ kept.room.chars
+  pub flags : plan.needs.flags ≤ kept.room.flags
   pub readings : plan.needs.readings ≤ kept.room.readings
+  pub flag_readings : plan.needs.flag_readings ≤ kept.room.flag_readings
 
 -- each object has one value in all of its entries then
 abbrev pub HasOneValue : List ValueEntry → List ValueEntry → List ValueEntry → Type 0

@@ -2,4 +2,5 @@
 pub mod Counted
 pub mod Matches
 pub mod Runs
+pub mod Keys
 pub mod Orders

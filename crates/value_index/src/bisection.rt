@@ -1,19 +1,32 @@
 ghost use Rattle.std.specs.Prelude.{◌≡◌};
+ghost use Rattle.std.specs.Option.{option_copied};
 ghost use Rattle.index_traits.specs.Entries.{IsProbed};
-ghost use Rattle.value_index.specs.inside.Runs.{side_of, side_in, AscendByKey, run_in};
+ghost use Rattle.value_index.specs.inside.Runs.{side_of, side_in, AscendByKey, run_in, run_at};
 
 use crate::entry::Entry;
 use lore_base::{Label, Op};
 use std::cmp::Ordering;
 
-// The entries of the label whose key stands so to the given one: one run of the ascending entries,
-// whose two ends are found by bisection.
+// The entries of the label whose key stands so to the one that is sought: one run of the ascending
+// entries, and nothing where no key is sought.
 pub(crate) fn run_of<'a, K: Ord>(
     entries: &'a [Entry<K>],
     label: Label,
     op: Op,
-    key: &K,
+    sought: Option<&K>,
 ) -> &'a [Entry<K>]
+    requires ascend { AscendByKey K.cmp entries.now }
+    requires op { IsProbed op }
+    ensures { result.now ≡ run_at K.cmp label op (option_copied sought.entry) entries.now }
+{
+    match sought {
+        Some(key) => bisected(entries, label, op, key),
+        None => &[],
+    }
+}
+
+// The run of a key, whose two ends are found by bisection.
+fn bisected<'a, K: Ord>(entries: &'a [Entry<K>], label: Label, op: Op, key: &K) -> &'a [Entry<K>]
     requires ascend { AscendByKey K.cmp entries.now }
     requires op { IsProbed op }
     ensures { result.now ≡ run_in K.cmp label op key.now entries.now }

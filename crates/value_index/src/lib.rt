@@ -1,8 +1,8 @@
 //! The atomic values of objects, by the labels of the edges that enter them, searched by bisection.
 //!
-//! Entries stand in three orders: whole numbers, texts, and texts that read as whole numbers. A
-//! change comes in three calls: `prepare` sorts what goes and what comes, `reserve` takes the
-//! memory for it, and `commit` puts it in place and cannot fail.
+//! Entries stand in five orders: whole numbers, texts, flags, texts that read as whole numbers, and
+//! texts that read as flags. A change comes in three calls: `prepare` sorts what goes and what
+//! comes, `reserve` takes the memory for it, and `commit` puts it in place and cannot fail.
 #![tactic(auto)]
 
 pub use naive_values::NaiveValues;
@@ -11,6 +11,7 @@ pub use value_plan::ValuePlan;
 
 mod bisection;
 mod entry;
+mod keys;
 mod naive_values;
 mod orders;
 mod runs;

@@ -1,15 +1,15 @@
-ghost use Rattle.std.specs.Prelude.{◌≡◌, ◌≢◌, ◌<◌, ◌^◌, [], length, IfOk, OnOk};
+ghost use Rattle.std.specs.Prelude.{◌≡◌, ◌<◌, ◌^◌, [], length, IfOk, OnOk};
 ghost use Rattle.lore_base.specs.TargetSets.{ListsInOrder};
 ghost use Rattle.index_traits.specs.Entries.{AreAscendingEntries, IsProbed, IsFound};
 ghost use Rattle.sorted_list.specs.SortedLists.{IsLessWith};
-ghost use Rattle.value_index.specs.Types.{Complex};
 ghost use Rattle.value_index.specs.Values.{FitsEntries, HasRoom};
 ghost use Rattle.value_index.specs.inside.Runs.{ListsOnce};
 
 use crate::bisection::run_of;
 use crate::entry::Entry;
+use crate::keys::{flag_of, number_of, text_of, truth_of, whole_of};
 use crate::orders::EntryOrders;
-use crate::runs::{Runs, numbers_run};
+use crate::runs::Runs;
 use crate::value_plan::ValuePlan;
 use index_traits::{EntryList, Values};
 use lore_base::{Label, NoMemory, OemText, OidBuf, Op, Value};
@@ -17,32 +17,38 @@ use sorted_list::SortedList;
 use std::alloc::Global;
 use std::marker::Model;
 
-/// Value entries in three orders: whole numbers, texts, and texts that read as whole numbers.
-/// Contracts see it as the list of entries in the order of label and object, and for how many more
-/// each order has room.
+/// Value entries in five orders: whole numbers, texts, flags, texts that read as whole numbers, and
+/// texts that read as flags. Contracts see it as the list of entries in the order of label and
+/// object, and for how many more each order has room.
 #[derive(Drop)]
 pub struct ValueIndex {
     wholes: SortedList<Entry<i64>>,
     chars: SortedList<Entry<OemText>>,
+    flags: SortedList<Entry<bool>>,
     readings: SortedList<Entry<i64>>,
+    flag_readings: SortedList<Entry<bool>>,
 }
 
 impl Model for ValueIndex {
     ghost use Rattle.value_index.specs.Values.{RoomyEntries};
-    ghost use Rattle.value_index.specs.inside.Orders.{in_order, AreCountedOrders};
+    ghost use Rattle.value_index.specs.inside.Orders.{orders_of, in_order, AreCountedOrders};
 
     ghost Value = { RoomyEntries };
 
     ghost view = { λ i. record {
-      entries = in_order i.wholes.items i.chars.items;
+      entries = in_order (orders_of i.wholes.items i.chars.items i.flags.items
+          i.readings.items i.flag_readings.items);
       room = record {
         wholes = i.wholes.room;
         chars = i.chars.room;
+        flags = i.flags.room;
         readings = i.readings.room;
+        flag_readings = i.flag_readings.room;
       };
     } };
 
-    ghost invariant = { λ i. AreCountedOrders i.wholes.items i.chars.items i.readings.items };
+    ghost invariant = { λ i. AreCountedOrders (orders_of i.wholes.items i.chars.items i.flags.items
+        i.readings.items i.flag_readings.items) };
 }
 
 impl ValueIndex {
@@ -53,7 +59,9 @@ impl ValueIndex {
         ValueIndex {
             wholes: SortedList::new(alloc),
             chars: SortedList::new(alloc),
+            flags: SortedList::new(alloc),
             readings: SortedList::new(alloc),
+            flag_readings: SortedList::new(alloc),
         }
     }
 
@@ -81,7 +89,9 @@ impl ValueIndex {
     {
         self.wholes.reserve(plan.come.wholes.len())?;
         self.chars.reserve(plan.come.chars.len())?;
+        self.flags.reserve(plan.come.flags.len())?;
         self.readings.reserve(plan.come.readings.len())?;
+        self.flag_readings.reserve(plan.come.flag_readings.len())?;
         Ok(())
     }
 
@@ -96,33 +106,35 @@ impl ValueIndex {
         let EntryOrders {
             wholes,
             chars,
+            flags,
             readings,
+            flag_readings,
         } = come;
         self.wholes.change(gone.wholes.as_slice(), wholes);
         self.chars.change(gone.chars.as_slice(), chars);
+        self.flags.change(gone.flags.as_slice(), flags);
         self.readings.change(gone.readings.as_slice(), readings);
+        self.flag_readings
+            .change(gone.flag_readings.as_slice(), flag_readings);
     }
 
-    // What a probe finds in each order.
+    // What a probe finds in each order: there the entries whose key compares so with the one that
+    // the value has there, or is sought by.
     fn runs(&self, label: Label, op: Op, value: &Value) -> Runs<'_>
         requires op { IsProbed op }
-        requires value { value.now ≢ Complex }
         ensures found { ListsOnce (IsFound self.now.entries label op value.now) result }
         ensures few { length result < 2 ^ 32 }
     {
-        let wholes = numbers_run(self.wholes.as_slice(), label, op, value);
-        match value {
-            Value::Whole(_) => Runs {
-                wholes,
-                readings: numbers_run(self.readings.as_slice(), label, op, value),
-                chars: &[],
-            },
-            Value::Chars(text) => Runs {
-                wholes,
-                readings: &[],
-                chars: run_of(self.chars.as_slice(), label, op, text),
-            },
-            Value::Complex => unreachable!(),
+        let number = number_of(value);
+        let truth = truth_of(value);
+        let whole = whole_of(value);
+        let flag = flag_of(value);
+        Runs {
+            wholes: run_of(self.wholes.as_slice(), label, op, number.as_ref()),
+            chars: run_of(self.chars.as_slice(), label, op, text_of(value)),
+            flags: run_of(self.flags.as_slice(), label, op, truth.as_ref()),
+            readings: run_of(self.readings.as_slice(), label, op, whole.as_ref()),
+            flag_readings: run_of(self.flag_readings.as_slice(), label, op, flag.as_ref()),
         }
     }
 }

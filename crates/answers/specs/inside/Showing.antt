@@ -1,11 +1,11 @@
 -- What the cells of a bound select show of rows of slots, made ready, and what is noted of those rows as they come.
 use Rattle.std.specs.Prelude.{◌≡◌, ◌⊎◌, ◌↔◌, ℕ, Bool, true, false, List, Option, Some, None, MatchOption, Contains, slice_get, option_map}
 use Rattle.std.specs.List.{AllZip}
-use Rattle.lorel_bind.specs.declared.bound.Bound.{Bound}
-use Rattle.lorel_bind.specs.declared.bound.Range.{Range}
-use Rattle.lorel_bind.specs.Bindings.{IsWithin}
-use Rattle.lorel_bind.specs.Bound.{bound_tree}
-use Rattle.lorel_bind.specs.SlotRows.{StartsAt}
+use Rattle.lorel_bound.specs.declared.bound.Bound.{Bound}
+use Rattle.lorel_bound.specs.declared.bound.Range.{Range}
+use Rattle.lorel_bound.specs.Runnable.{IsWithin}
+use Rattle.lorel_bound.specs.Bound.{bound_tree}
+use Rattle.lorel_bound.specs.SlotRows.{StartsAt}
 use Rattle.answers.specs.Types.{Oid, Label, Edge, CellOf, Cell, RANGES}
 use Rattle.answers.specs.Types.shown
 use Rattle.answers.specs.Types.cells

@@ -2,8 +2,8 @@
 use Rattle.std.specs.Prelude.{◌≡◌, ℕ, List, Option, Some, slice_get}
 use Rattle.lore_base.specs.Paths.{PathTree, path_tree}
 use Rattle.lore_base.specs.LeastWords.{IsLeastIfAny, IsSpelledWalk}
-use Rattle.lorel_bind.specs.declared.bound.Range.{Range}
-use Rattle.lorel_bind.specs.SlotRows.{StartsAt}
+use Rattle.lorel_bound.specs.declared.bound.Range.{Range}
+use Rattle.lorel_bound.specs.SlotRows.{StartsAt}
 use Rattle.least_words.specs.MachineWords.{word_to}
 use Rattle.answers.specs.Types.{Oid, Label, Edge}
 

@@ -2,12 +2,12 @@
 use Rattle.std.specs.Prelude.{◌≡◌, ◌≢◌, ◌⊎◌, ℕ, ◌<◌, List, [], ◌∷◌, ◌++◌, map, Some, slice_get, All, AllPairs, Contains}
 use Rattle.std.specs.List.{AllZip}
 use Rattle.lore_base.specs.Lists.{Extends}
-use Rattle.lore_base.specs.TargetSets.{ListsInOrder, LabelPath, LeadsTo, LeavesTo, IsStep}
+use Rattle.lore_base.specs.TargetSets.{LabelPath, LeadsTo, LeavesTo, IsStep}
 use Rattle.dataguide.specs.Types.{Oid, Label, Edge, Node, GuideNode}
-use Rattle.dataguide.specs.PathOrder.{ComesBefore}
+use Rattle.lore_base.specs.PathOrder.{ComesBefore}
 use Rattle.dataguide.specs.Guides.{sets_of, HasSet, AscendByLabel}
-use Rattle.dataguide.specs.inside.Arcs.{AreGroups, AreSteps}
-use Rattle.dataguide.specs.inside.Entering.{AreEntered, AreTooMany}
+use Rattle.dataguide.specs.inside.Arcs.{AreSteps}
+use Rattle.dataguide.specs.inside.Entering.{AreEntered}
 
 -- a set with the path that it was found by
 pub record Stop : Type 0 where
@@ -67,21 +67,6 @@ pub record IsSearched (names : List (List ℕ × Oid)) (edges : List Edge) (node
   pub ahead : (stop : Stop) (label : Label) → slice_get trail n ≡ Some stop
       → All (λ earlier. ComesBefore earlier.path (longer stop.path label)) trail
 
--- the sets that the arcs lead to were entered label by label, and the row leads to their nodes
-pub record IsRowEntered (arcs : List (Label × Oid)) (old new : List GuideNode) (row : List (Label × Node))
-    : Type 0 where
-  pub groups : List (Label × List Oid)
-  pub are : AreGroups arcs groups
-  pub entered : AreEntered (sets_of old) (map (λ group. group.1) groups) (sets_of new)
-  pub placed : AllZip (λ group edge. (edge.0 ≡ group.0) × HasSet new edge.1 group.1) groups row
-
--- some sets that the arcs lead to are too many
-pub record AreTooManyGroups (limit : ℕ) (arcs : List (Label × Oid)) (sets : List (List Oid)) : Type 0 where
-  pub groups : List (Label × List Oid)
-  pub sound : All (λ group. ListsInOrder (λ oid. Contains arcs (group.0, oid)) group.1) groups
-  pub some : All (λ group. group.1 ≢ []) groups
-  pub many : AreTooMany limit sets (map (λ group. group.1) groups)
-
 -- the node at a place was given its edges: the steps of its set were entered
 pub record IsExpanded (edges : List Edge) (old : List GuideNode) (place : ℕ) (new : List GuideNode) : Type 0 where
   pub set : List Oid
@@ -96,12 +81,3 @@ pub record IsExpanded (edges : List Edge) (old : List GuideNode) (place : ℕ) (
   pub sets : sets_of new ≡ sets_of between
   pub put : (node : GuideNode) → slice_get new place ≡ Some node → node.edges ≡ row
   pub others : (other : ℕ) → (other ≡ place → ⊥) → slice_get new other ≡ slice_get between other
-
--- some steps of the set at a place are too many
-pub record IsOverfull (limit : ℕ) (edges : List Edge) (sets : List (List Oid)) (place : ℕ) : Type 0 where
-  pub set : List Oid
-  pub at : slice_get sets place ≡ Some set
-  pub steps : List (Label × List Oid)
-  pub sound : All (λ step. IsStep edges set step.0 step.1) steps
-  pub some : All (λ step. step.1 ≢ []) steps
-  pub many : AreTooMany limit sets (map (λ step. step.1) steps)

@@ -3,17 +3,18 @@ use Rattle.std.specs.Prelude.{◌≡◌, ◌≢◌, ℕ, pos, ◌≤◌, List, [
 use Rattle.dump_text.specs.Types.{Edge, Changes, NODES, NEXT_NUMBER, DumpTree}
 use Rattle.lore_base.specs.Names.{IsNameTable}
 use Rattle.lore_base.specs.Databases.{AreAscendingEdges, IsLive, IsLinked, IsReached}
+use Rattle.dump_text.specs.Dumps.{IsVersion}
 use Rattle.dump_text.specs.Rules.{IsUpTo, AreNumbered, AreFew, AreFormed, numbered_edges}
 
--- the version is 1, and the numbers are in their ranges
+-- the version is read, and the numbers are in their ranges
 pub record KeepsHead (tree : DumpTree) : Type 0 where
-  pub version : tree.version ≡ pos 1
+  pub version : IsVersion tree
   pub next : IsUpTo NEXT_NUMBER tree.next
   pub nodes : IsUpTo NODES tree.nodes
 
 -- and these are the numbers
 pub record IsHead (tree : DumpTree) (next nodes : ℕ) : Type 0 where
-  pub version : tree.version ≡ pos 1
+  pub version : IsVersion tree
   pub next_is : tree.next ≡ pos next
   pub next_ranged : (1 ≤ next) × (next ≤ NEXT_NUMBER)
   pub nodes_is : tree.nodes ≡ pos nodes

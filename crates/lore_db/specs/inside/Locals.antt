@@ -5,8 +5,8 @@ use Rattle.lore_db.specs.Types.refusals
 use Rattle.lore_base.specs.Databases.{Database}
 use Rattle.lore_base.specs.Verdicts.{IsClear, IsToldBy}
 use Rattle.lorel_trees.specs.Trees.{StatementTree}
-use Rattle.lorel_bind.specs.Bound.{BoundTree}
-use Rattle.lorel_bind.specs.SlotRows.{IsSlotRow}
+use Rattle.lorel_bound.specs.Bound.{BoundTree}
+use Rattle.lorel_bound.specs.SlotRows.{IsSlotRow}
 use Rattle.answers.specs.Asked.{AreTooMany}
 use Rattle.oem_text.specs.Parts.{LocalCause, local_order}
 use Rattle.lore_db.specs.Forms.{makes}

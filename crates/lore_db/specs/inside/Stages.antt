@@ -1,5 +1,5 @@
 -- The order of refusals in stages: those of what a statement reads, of its rows, and of its changes.
-use Rattle.std.specs.Prelude.{◌≡◌, ◌≢◌, ℕ, List, [], ◌∷◌, ◌++◌, length, Some}
+use Rattle.std.specs.Prelude.{◌≡◌, ◌≢◌, ℕ, List, [], ◌∷◌, ◌++◌, length, Option, Some}
 use Rattle.lore_db.specs.Types.{Oid, Cell, Changes, Refusal}
 use Rattle.lore_db.specs.Types.cells
 use Rattle.lore_db.specs.Types.refusals
@@ -23,9 +23,13 @@ bind_order = binding.order
 abbrev pub read_order : List Refusal
 read_order = bind_order ++ refusals.TooManyRows ∷ []
 
+-- what a statement is refused for before its rows are found: its form isn't built, or its select isn't bound
+abbrev pub bound_order : List Refusal
+bound_order = refusals.Syntax ∷ bind_order
+
 -- what a statement is refused for before its changes are made
 abbrev pub found_order : List Refusal
-found_order = bind_order ++ refusals.DuplicateLocal ∷ refusals.UndefinedLocal ∷ refusals.TooManyRows ∷ []
+found_order = bound_order ++ refusals.DuplicateLocal ∷ refusals.UndefinedLocal ∷ refusals.TooManyRows ∷ []
 
 -- what is refused before the changes are known to fit the database
 abbrev pub fit_order : List Refusal
@@ -38,7 +42,7 @@ abbrev pub change_order : List Refusal
 change_order =
     refusals.NotOne ∷ refusals.AtomicParent ∷ refusals.HasChildren ∷ refusals.OidsSpent ∷ refusals.TooManyLabels
     ∷ refusals.TooManyNames ∷ refusals.TooManyObjects ∷ refusals.TooManyEdges ∷ refusals.GuideNodes
-    ∷ refusals.LimitRange ∷ refusals.NotFresh ∷ refusals.BadRestore ∷ []
+    ∷ refusals.GuideCells ∷ refusals.LimitRange ∷ refusals.NotFresh ∷ refusals.BadRestore ∷ []
 
 -- the changes that make the part and bind the name to its first object
 abbrev pub loading_part : List ℕ → Part → Changes
@@ -55,6 +59,11 @@ loading_part name part = record {
 -- the row shows one object
 abbrev pub IsOneObject : List Cell → Type 0
 IsOneObject row = (oid : Oid) × (row ≡ cells.Object oid ∷ [])
+
+-- what too many rows of a path to name are answered with: they are not one
+abbrev pub not_one : Option Refusal → Option Refusal
+not_one (Some refusals.TooManyRows) = Some refusals.NotOne
+not_one told = told
 
 -- there is one row, and it shows this object
 abbrev pub IsOnly : List (List Cell) → Oid → Type 0

@@ -2,7 +2,7 @@
 use Rattle.std.specs.Prelude.{ℕ, List, All, Contains}
 use Rattle.lore_db.specs.Types.{Oid, Start}
 use Rattle.lore_db.specs.Types.starts
-use Rattle.lorel_bind.specs.Bound.{BoundTree}
+use Rattle.lorel_bound.specs.Bound.{BoundTree}
 
 -- a start is a slot, or an object that has a name
 abbrev pub IsNamedStart : List (List ℕ × Oid) → Start → Type 0

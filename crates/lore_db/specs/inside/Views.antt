@@ -3,9 +3,9 @@ use Rattle.std.specs.Prelude.{ℕ, ◌⊎◌, List}
 use Rattle.std.specs.List.{AllZip}
 use Rattle.lore_db.specs.Types.{Oid, Edge, Value, ValueEntry, Cell}
 use Rattle.lore_base.specs.Paths.{PathTree}
-use Rattle.lorel_bind.specs.Bound.{BoundTree}
-use Rattle.lorel_bind.specs.Plans.{StepTree}
-use Rattle.lorel_bind.specs.SlotRows.{HoldsOver, AreFilled, ShowsSlot, ShowsObjects}
+use Rattle.lorel_bound.specs.Bound.{BoundTree}
+use Rattle.lorel_bound.specs.Plans.{StepTree}
+use Rattle.lorel_bound.specs.SlotRows.{HoldsOver, AreFilled, ShowsSlot, ShowsObjects}
 use Rattle.plan_ops.specs.Steps.{StepsOver, steps_over, IsSought}
 use Rattle.plan_ops.specs.Rows.{AreQuiet}
 

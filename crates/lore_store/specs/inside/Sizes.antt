@@ -1,8 +1,8 @@
 -- Why a graph is too large for a database.
-use Rattle.std.specs.Prelude.{ℕ, ◌<◌, length}
+use Rattle.std.specs.Prelude.{ℕ, ◌<◌, List, [], ◌∷◌, length}
 use Rattle.lore_store.specs.Types.{Refusal, NAMES, OBJECTS, EDGES}
 use Rattle.lore_store.specs.Types.refusals
-use Rattle.lore_base.specs.TargetSets.{AreMoreThan}
+use Rattle.lore_base.specs.GuideLimits.{PassesNodes, PassesCells}
 use Rattle.lore_base.specs.Databases.{OemGraph}
 
 -- the graph has more names, objects or edges than a database holds
@@ -12,7 +12,12 @@ SizeCause graph refusals.TooManyObjects = OBJECTS < length graph.objects
 SizeCause graph refusals.TooManyEdges = EDGES < length graph.edges
 SizeCause graph _ = ⊥
 
--- label paths lead to more sets in the graph than the limit, which is the database's and not the graph's
-abbrev pub NodesCause : ℕ → OemGraph → Refusal → Type 0
-NodesCause limit graph refusals.GuideNodes = AreMoreThan limit graph.names graph.edges
-NodesCause limit graph _ = ⊥
+-- the guide of the graph passes a limit, of which the one on nodes is the database's and not the graph's
+abbrev pub SetsCause : ℕ → OemGraph → Refusal → Type 0
+SetsCause limit graph refusals.GuideNodes = PassesNodes limit graph.names graph.edges
+SetsCause limit graph refusals.GuideCells = PassesCells limit graph.names graph.edges
+SetsCause limit graph _ = ⊥
+
+-- the order in which these causes are tried
+abbrev pub sets_order : List Refusal
+sets_order = refusals.GuideNodes ∷ refusals.GuideCells ∷ []

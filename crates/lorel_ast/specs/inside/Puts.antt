@@ -1,8 +1,8 @@
 -- What a function that writes tokens promises.
 use Rattle.std.specs.Prelude.{◌≡◌, ℕ, List, ◌∷◌, ◌++◌, codes}
 use Rattle.lorel_trees.specs.Types.{Kind, Sign}
-use Rattle.lorel_lex.specs.declared.token_types.Kind.TheVariants as k
-use Rattle.lorel_lex.specs.declared.token_types.Sign.TheVariants as s
+use Rattle.lorel_tokens.specs.declared.token_types.Kind.TheVariants as k
+use Rattle.lorel_tokens.specs.declared.token_types.Sign.TheVariants as s
 use Rattle.lorel_lex.specs.Writing.{spaced}
 use Rattle.lorel_trees.specs.Trees.{RootedTree}
 use Rattle.lorel_trees.specs.declared.dump_trees.DumpTree.{DumpTree}

@@ -3,9 +3,10 @@ use Rattle.std.specs.Prelude.{◌≡◌, ℕ, List, length}
 use denote.Ref.{Bor}
 use Rattle.lorel_trees.specs.Trees.{RootedTree, OperandTree, CondTree, CondTrees}
 use Rattle.lorel_ranges.specs.Places.{Place, Scope, place_of}
-use Rattle.lorel_ranges.specs.Conditions.{OperandOf, CondOf, CondsOf, operand_in, cond_in, conds_in}
+use Rattle.lorel_bound.specs.Conditions.{OperandOf, CondOf, CondsOf}
+use Rattle.lorel_ranges.specs.Conditions.{operand_in, cond_in, conds_in}
 use Rattle.lorel_ranges.specs.Ranges.{Range, places}
-use Rattle.lorel_bind.specs.Bound.{BoundPathTree}
+use Rattle.lorel_bound.specs.Bound.{BoundPathTree}
 use Rattle.lorel_bind.specs.Bindings.{CorrespondOperands, Correspond, CorrespondEach}
 use Rattle.lorel_ranges.specs.Scopes.{enclosed, IsScope, names_of}
 use Rattle.lorel_ranges.specs.Views.{place_trees, ranges_of, texts}

@@ -4,7 +4,7 @@ use Rattle.lore_base.specs.Paths.{PathTree}
 use Rattle.lorel_bind.specs.Types.{Oid, Start, BoundStart, CellOf}
 use Rattle.lorel_ranges.specs.Places.{Place, CellPlace, object, word}
 use Rattle.lorel_ranges.specs.Ranges.{Range, IsFixed, places}
-use Rattle.lorel_bind.specs.Bound.{RangeTree, BoundPathTree}
+use Rattle.lorel_bound.specs.Bound.{RangeTree, BoundPathTree}
 use Rattle.lorel_bind.specs.Bindings.{StandsFor, StandsForAny, IsBoundRange, IsBoundCell, IsBoundPath}
 
 -- over these names and fused ranges

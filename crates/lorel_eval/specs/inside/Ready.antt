@@ -1,8 +1,8 @@
 -- Conditions whose paths are made ready, as the plain data of the conditions that they were made of.
 use Rattle.std.specs.Prelude.{List}
 use Rattle.lore_base.specs.Paths.{path_tree}
-use Rattle.lorel_bind.specs.Bound.{BoundPathTree, conds_from}
-use Rattle.lorel_ranges.specs.Conditions.{OperandOf, constant, at, CondOf, or, and, not, exists, for_all, compare, same}
+use Rattle.lorel_bound.specs.Bound.{BoundPathTree, conds_from}
+use Rattle.lorel_bound.specs.Conditions.{OperandOf, constant, at, CondOf, or, and, not, exists, for_all, compare, same}
 use Rattle.lorel_eval.specs.declared.ready_conds.ReadyPath.{ReadyPath}
 use Rattle.lorel_eval.specs.declared.ready_conds.ReadyOperand.{ReadyOperand}
 use Rattle.lorel_eval.specs.declared.ready_conds.ReadyOperand.TheVariants as o

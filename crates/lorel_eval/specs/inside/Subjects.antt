@@ -1,10 +1,10 @@
 -- What a condition is tested on: the objects of a row's slots, over a database.
 use Rattle.std.specs.Prelude.{ℕ, List, Option, Some, slice_get, Contains}
 use Rattle.lore_base.specs.Comparisons.{Compares}
-use Rattle.lorel_bind.specs.Bound.{BoundPathTree}
-use Rattle.lorel_ranges.specs.Conditions.{OperandOf, CondOf, CondsOf}
-use Rattle.lorel_bind.specs.Holding.{Gives, Holds, SomeHolds, AllHold}
-use Rattle.lorel_bind.specs.SlotRows.{MeetsBy}
+use Rattle.lorel_bound.specs.Bound.{BoundPathTree}
+use Rattle.lorel_bound.specs.Conditions.{OperandOf, CondOf, CondsOf}
+use Rattle.lorel_bound.specs.Holding.{Gives, Holds, SomeHolds, AllHold}
+use Rattle.lorel_bound.specs.SlotRows.{MeetsBy}
 use Rattle.lorel_eval.specs.Types.{Oid, Edge, Value, BoundStart}
 use Rattle.lorel_eval.specs.Types.bound_starts
 

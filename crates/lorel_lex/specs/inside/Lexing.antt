@@ -12,7 +12,7 @@ use Rattle.lorel_lex.specs.Types.{Digit, Minus, Ampersand, DoubleQuote, SingleQu
 use Rattle.lorel_lex.specs.declared.words.Letters.{Letters}
 use Rattle.lorel_lex.specs.declared.words.Letters.TheVariants.{Identifier, Pattern, PathWord}
 use Rattle.lore_base.specs.Quotes.{IsContents, IsQuoted}
-use Rattle.lorel_lex.specs.Shapes.{is_pattern_start, is_pattern_byte, begins, IsToken}
+use Rattle.lorel_tokens.specs.Shapes.{is_pattern_start, is_pattern_byte, begins, IsToken}
 use Rattle.lorel_lex.specs.Tokens.{IsFirst, Keeps, IsFaultAt}
 
 -- which tokens a byte may begin

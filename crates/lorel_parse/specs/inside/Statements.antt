@@ -1,25 +1,26 @@
 -- Dump texts and statements as they are read.
-use Rattle.std.specs.Prelude.{ℕ, ℤ, if◌then◌else◌, List, [], ◌∷◌, codes, Option, Some, None}
+use Rattle.std.specs.Prelude.{ℕ, ℤ, Bool, true, false, if◌then◌else◌, List, [], codes, Option, Some, None}
+use Rattle.std.specs.List.{list_all}
 use Rattle.std.specs.Str.{bytes_eq}
 use Rattle.lore_base.specs.declared.limits.TheConstants.{NESTING}
 use Rattle.lore_base.specs.declared.edges.Oid.{Oid}
 use Rattle.lore_base.specs.declared.values.Value.{Value}
 use Rattle.lore_base.specs.declared.modes.Mode.{Mode}
 use Rattle.lore_base.specs.declared.modes.Mode.TheVariants.{Auto, Top, Bottom, Guided}
-use Rattle.lorel_lex.specs.declared.token_types.Kind.{Kind}
-use Rattle.lorel_lex.specs.declared.token_types.Kind.TheVariants as k
-use Rattle.lorel_lex.specs.declared.token_types.Sign.TheVariants as s
+use Rattle.lorel_tokens.specs.declared.token_types.Kind.{Kind}
+use Rattle.lorel_tokens.specs.declared.token_types.Kind.TheVariants as k
+use Rattle.lorel_tokens.specs.declared.token_types.Sign.TheVariants as s
 use Rattle.lorel_trees.specs.declared.dump_trees.DumpTree.{DumpTree}
 use Rattle.lorel_trees.specs.Trees as t
 use Rattle.lorel_trees.specs.Trees.{RootedTree, StatementTree}
-use Rattle.lorel_parse.specs.inside.Outcomes.{Parse, and_then, next, sees, sees_word, expect, found, token}
-use Rattle.lorel_parse.specs.inside.Repetitions.{mapped, both, behind_sign, behind_word, closed_word, each}
-use Rattle.lorel_parse.specs.inside.Names.{name, label}
-use Rattle.lorel_parse.specs.inside.Literals.{local, new_value, literal, inside}
-use Rattle.lorel_parse.specs.inside.Paths.{rooted}
+use Rattle.lorel_terms.specs.Outcomes.{Parse, and_then, next, sees, sees_word, expect, found, token}
+use Rattle.lorel_terms.specs.Repetitions.{mapped, both, behind_sign, behind_word, closed_word, each}
+use Rattle.lorel_terms.specs.Names.{name, label, sees_name}
+use Rattle.lorel_terms.specs.Literals.{local, new_value, literal, inside}
+use Rattle.lorel_terms.specs.Paths.{rooted}
 use Rattle.lorel_parse.specs.inside.Targets.{aimed}
-use Rattle.lorel_parse.specs.inside.Selects as q
-use Rattle.lorel_parse.specs.inside.Selects.{tail, sees_name}
+use Rattle.lorel_terms.specs.Selects as q
+use Rattle.lorel_terms.specs.Selects.{tail}
 
 abbrev pub number_of : Kind → Option ℤ
 number_of (k.Number value) = Some value
@@ -175,14 +176,63 @@ restore = mapped t.restore dump_text
 unfoldable pub generate : Parse StatementTree
 generate = mapped (λ parts. t.generate parts.0 parts.1) (both number number)
 
+unfoldable pub switch : Parse Bool
+switch kinds =
+    if sees_word (codes "on") kinds then Some (true, next kinds)
+    else (if sees_word (codes "off") kinds then Some (false, next kinds) else None)
+
+unfoldable pub history : Parse StatementTree
+history = mapped t.history switch
+
+unfoldable pub select_at : Parse StatementTree
+select_at =
+    mapped (λ parts. t.select_at parts.0 parts.1) (both number (behind_word (codes "select") q.select))
+
+unfoldable pub changes : Parse StatementTree
+changes = mapped (λ parts. t.changes parts.0 parts.1) (both number number)
+
+unfoldable pub blocks : Parse StatementTree
+blocks kinds =
+    if sees_word (codes "select") kinds then mapped t.blocks_of q.select (next kinds)
+    else Some (t.blocks, kinds)
+
+abbrev pub is_object : t.ItemTree → Bool
+is_object (t.object path) = true
+is_object (t.path_of variable) = false
+
+-- a name and a select whose items are paths alone
+abbrev pub watching : List ℕ × t.SelectTree → Option StatementTree
+watching parts = if list_all is_object parts.1.items then Some (t.watch parts.0 parts.1) else None
+
+unfoldable pub watch : Parse StatementTree
+watch kinds =
+    and_then (both name (behind_sign s.Assign (behind_word (codes "select") q.select)) kinds)
+    (λ parts. found (watching parts))
+
+unfoldable pub unwatch : Parse StatementTree
+unwatch = mapped t.unwatch name
+
+unfoldable pub show : Parse StatementTree
+show = mapped t.show name
+
 -- the form that this word begins, by what the form does
+
+unfoldable pub keeping : List ℕ → Parse StatementTree
+keeping first kinds =
+    if bytes_eq first (codes "history") then history kinds
+    else (if bytes_eq first (codes "at") then select_at kinds
+    else (if bytes_eq first (codes "changes") then changes kinds
+    else (if bytes_eq first (codes "blocks") then blocks kinds
+    else (if bytes_eq first (codes "watch") then watch kinds
+    else (if bytes_eq first (codes "unwatch") then unwatch kinds
+    else (if bytes_eq first (codes "show") then show kinds else None))))))
 
 unfoldable pub administering : List ℕ → Parse StatementTree
 administering first kinds =
     if bytes_eq first (codes "set") then set kinds
     else (if bytes_eq first (codes "dump") then Some (t.dump, kinds)
     else (if bytes_eq first (codes "restore") then restore kinds
-    else (if bytes_eq first (codes "generate") then generate kinds else None)))
+    else (if bytes_eq first (codes "generate") then generate kinds else keeping first kinds)))
 
 unfoldable pub asking : List ℕ → Parse StatementTree
 asking first kinds =

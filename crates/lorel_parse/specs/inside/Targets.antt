@@ -1,10 +1,10 @@
 -- The target of `+=` and `-=` as it is read: the longest path that stands there without its last plain label.
 use Rattle.std.specs.Prelude.{ℕ, List, [], ◌∷◌, Option, Some, None, option_map}
-use Rattle.lorel_parse.specs.Types.{Pattern, Plain, Wild}
+use Rattle.lorel_terms.specs.Types.{Pattern, Plain, Wild}
 use Rattle.lore_base.specs.Paths.{PathTree, step}
 use Rattle.lorel_trees.specs.Trees.{RootedTree}
-use Rattle.lorel_parse.specs.inside.Outcomes.{Parse, and_then, found}
-use Rattle.lorel_parse.specs.inside.Paths.{rooted}
+use Rattle.lorel_terms.specs.Outcomes.{Parse, and_then, found}
+use Rattle.lorel_terms.specs.Paths.{rooted}
 
 -- the text of a plain label
 abbrev pub plain_text : Pattern → Option (List ℕ)

@@ -1,6 +1,6 @@
 -- What holds of the machine of partial rows between two answers.
 use Rattle.std.specs.Prelude.{◌≡◌, List, [], ◌∷◌, ◌++◌, length, map, All}
-use Rattle.lorel_bind.specs.Plans.{StepTree}
+use Rattle.lorel_bound.specs.Plans.{StepTree}
 use Rattle.plan_ops.specs.Types.{Oid, PartialRow, RANGES}
 use Rattle.plan_ops.specs.Steps.{StepsOver}
 use Rattle.plan_ops.specs.Rows.{AreApart}

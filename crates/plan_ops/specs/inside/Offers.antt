@@ -1,6 +1,6 @@
 -- What one step makes of a row.
 use Rattle.std.specs.Prelude.{◌≡◌, ◌≢◌, ◌↔◌, ℕ, ◌<◌, ◌^◌, Bool, true, false, List, [], ◌∷◌, ◌++◌, length, map, reverse, Some, AllPairs, Contains, slice_get, slice_set}
-use Rattle.lorel_bind.specs.Plans.{StepTree}
+use Rattle.lorel_bound.specs.Plans.{StepTree}
 use Rattle.plan_ops.specs.Types.{Oid, RANGES, PartialRow}
 use Rattle.plan_ops.specs.Steps.{StepsOver, Meets, slot_of}
 use Rattle.plan_ops.specs.declared.offers.Offer.{Offer}

@@ -1,6 +1,6 @@
 -- The order of steps in which each finds what it reads.
 use Rattle.std.specs.Prelude.{◌≡◌, ◌≢◌, ℕ, ◌<◌, List, [], ◌∷◌, length}
-use Rattle.lorel_bind.specs.Plans.{StepTree, forward, from_guide, from_value, backward, check, filter}
+use Rattle.lorel_bound.specs.Plans.{StepTree, forward, from_guide, from_value, backward, check, filter}
 use Rattle.plan_ops.specs.Types.{Start, RANGES}
 use Rattle.plan_ops.specs.Types.starts
 use Rattle.plan_ops.specs.Steps.{IsLeft}

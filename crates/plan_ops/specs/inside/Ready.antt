@@ -3,7 +3,7 @@ use Rattle.std.specs.Prelude.{◌≢◌, ◌≤◌}
 use Rattle.lore_base.specs.Paths.{PathTree, path_tree, leaves}
 use Rattle.lore_base.specs.TargetSets.{ListsInOrder}
 use Rattle.index_traits.specs.Entries.{IsProbed}
-use Rattle.lorel_bind.specs.Plans.{StepTree, forward, from_guide, from_value, backward, check, filter}
+use Rattle.lorel_bound.specs.Plans.{StepTree, forward, from_guide, from_value, backward, check, filter}
 use Rattle.plan_ops.specs.Types.{Oid, Complex, LEAVES}
 pub use Rattle.plan_ops.specs.declared.ready_steps.ReadyStep.{ReadyStep}
 use Rattle.plan_ops.specs.declared.ready_steps.ReadyStep.TheVariants as ready

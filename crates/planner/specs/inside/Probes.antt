@@ -1,7 +1,7 @@
 -- The probes of the program as plain data, and which paths end in a plain label.
 use Rattle.std.specs.Prelude.{◌≡◌, ℕ, List, [], ◌∷◌, ◌++◌}
 use Rattle.lore_base.specs.Paths.{PathTree, path_tree, step, seq, trees_of}
-use Rattle.lorel_bind.specs.Plans as plans
+use Rattle.lorel_bound.specs.Plans as plans
 use Rattle.planner.specs.Types.{Plain}
 use Rattle.planner.specs.declared.probes.Probe.{Probe}
 

@@ -2,7 +2,8 @@
 use Rattle.std.specs.Prelude.{List, Option, Some, None, Bool, true, false, ◌==◌, if◌then◌else◌}
 use Rattle.std.specs.List.{list_any}
 use Rattle.updates.specs.Types.{Oid, Edge, Value}
-use Rattle.updates.specs.Effects.{Pair, is_complex, is_atomic}
+use Rattle.lore_base.specs.Databases.{is_complex}
+use Rattle.updates.specs.Effects.{Pair, is_atomic}
 
 -- whether an edge leaves the object
 abbrev pub has_child : List Edge → Oid → Bool

@@ -1,87 +1,68 @@
--- The three orders of value entries, and the one list of entries that they stand for.
-use Rattle.std.specs.Prelude.{◌≡◌, ℕ, ℤ, ◌<◌, ◌^◌, ◌↔◌, List, [], ◌∷◌, map, length, Contains}
+-- The five orders of value entries, and the one list of entries that they stand for.
+use Rattle.std.specs.Prelude.{ℕ, ℤ, ◌<◌, ◌^◌, Bool, List, [], ◌∷◌, ◌++◌, map, length, Contains}
 use Rattle.std.specs.BTreeSet.{insert_key}
-use Rattle.std.specs.Ordering.{int_cmp}
+use Rattle.std.specs.Ordering.{int_cmp, bool_cmp}
 use Rattle.lore_base.specs.Bytes.{bytes_cmp}
-use Rattle.lore_base.specs.Comparisons.{ReadsAs}
 use Rattle.index_traits.specs.Entries.{entry_of, entry_cmp}
-use Rattle.value_index.specs.Types.{Oid, Label, Value, Whole, Chars, Complex, ValueEntry, Entry}
+use Rattle.value_index.specs.Types.{Value, Whole, Chars, Flag, ValueEntry, Entry}
+use Rattle.value_index.specs.inside.Keys.{IsWhole, IsText, IsFlag, IsReading, IsFlagReading, ListsKeys}
 use Rattle.value_index.specs.inside.Runs.{AscendByKey}
 
--- The orders.
+-- objects by whole numbers, by texts and by flags, and by the whole numbers and the flags that texts read as
+pub record Orders : Type 0 where
+  pub wholes : List (Entry ℤ)
+  pub chars : List (Entry (List ℕ))
+  pub flags : List (Entry Bool)
+  pub readings : List (Entry ℤ)
+  pub flag_readings : List (Entry Bool)
 
--- the object under a label and a key
-abbrev pub keyed : {K : Type 0} → Label → K → Oid → Entry K
-keyed label key object = record { label = label; key = key; object = object }
+abbrev pub orders_of : List (Entry ℤ) → List (Entry (List ℕ)) → List (Entry Bool) → List (Entry ℤ) → List (Entry Bool)
+    → Orders
+orders_of wholes chars flags readings flag_readings = record {
+  wholes = wholes;
+  chars = chars;
+  flags = flags;
+  readings = readings;
+  flag_readings = flag_readings;
+}
 
--- the object with this value stands under the label: among the whole numbers or among the texts
-abbrev pub Stands : List (Entry ℤ) → List (Entry (List ℕ)) → Label → Value → Oid → Type 0
-Stands wholes chars label (Whole number) object = Contains wholes (keyed label number object)
-Stands wholes chars label (Chars text) object = Contains chars (keyed label text object)
-Stands wholes chars label Complex object = ⊥
-
--- each object has one value under a label
-abbrev pub HasOnce : List (Entry ℤ) → List (Entry (List ℕ)) → Type 0
-HasOnce wholes chars = (label : Label) (object : Oid) (a b : Value)
-    → Stands wholes chars label a object → Stands wholes chars label b object → a ≡ b
-
--- the readings are the texts that read as whole numbers, under these
-abbrev pub AreReadings : List (Entry (List ℕ)) → List (Entry ℤ) → Type 0
-AreReadings chars readings = (label : Label) (number : ℤ) (object : Oid) → Contains readings (keyed label number object)
-    ↔ ((text : List ℕ) × Contains chars (keyed label text object) × ReadsAs text number)
-
--- three orders of one set of entries
-pub record AreOrders (wholes : List (Entry ℤ)) (chars : List (Entry (List ℕ))) (readings : List (Entry ℤ))
-    : Type 0 where
-  pub once : HasOnce wholes chars
-  pub read : AreReadings chars readings
-
--- and each of them ascends
-pub record AreSortedOrders (wholes : List (Entry ℤ)) (chars : List (Entry (List ℕ))) (readings : List (Entry ℤ))
-    : Type 0 where
-  pub wholes_ascend : AscendByKey int_cmp wholes
-  pub chars_ascend : AscendByKey bytes_cmp chars
-  pub readings_ascend : AscendByKey int_cmp readings
-  pub orders : AreOrders wholes chars readings
-
--- The list of entries.
-
--- the entry of a whole number, and the one of a text
-abbrev pub whole_entry : Entry ℤ → ValueEntry
-whole_entry entry = entry_of entry.label (Whole entry.key) entry.object
-
-abbrev pub chars_entry : Entry (List ℕ) → ValueEntry
-chars_entry entry = entry_of entry.label (Chars entry.key) entry.object
+-- each order lists the keys of its kind, all of the same entries
+pub record AreOrders (IsEntry : ValueEntry → Type 0) (orders : Orders) : Type 0 where
+  pub wholes : ListsKeys IsWhole IsEntry orders.wholes
+  pub chars : ListsKeys IsText IsEntry orders.chars
+  pub flags : ListsKeys IsFlag IsEntry orders.flags
+  pub readings : ListsKeys IsReading IsEntry orders.readings
+  pub flag_readings : ListsKeys IsFlagReading IsEntry orders.flag_readings
 
 -- entries put at their places among others
 abbrev pub with_entries : List ValueEntry → List ValueEntry → List ValueEntry
 with_entries entries [] = entries
 with_entries entries (entry ∷ others) = with_entries (insert_key entry_cmp entries entry) others
 
--- the entries of whole numbers and those of texts in the order of label and object
-abbrev pub in_order : List (Entry ℤ) → List (Entry (List ℕ)) → List ValueEntry
-in_order wholes chars = with_entries (with_entries [] (map whole_entry wholes)) (map chars_entry chars)
+-- the entry of a key that is a value
+abbrev pub value_entry : {K : Type 0} → (K → Value) → Entry K → ValueEntry
+value_entry make entry = entry_of entry.label (make entry.key) entry.object
 
--- the orders of fewer than 4,294,967,296 entries
-pub record AreCountedOrders (wholes : List (Entry ℤ)) (chars : List (Entry (List ℕ))) (readings : List (Entry ℤ))
-    : Type 0 where
-  pub orders : AreOrders wholes chars readings
-  pub few : length (in_order wholes chars) < 2 ^ 32
+-- the entries of whole numbers, texts and flags
+abbrev pub value_entries : Orders → List ValueEntry
+value_entries orders =
+    map (value_entry Whole) orders.wholes
+    ++ (map (value_entry Chars) orders.chars ++ map (value_entry Flag) orders.flags)
 
--- Entries that are split into the orders.
+-- the same in the order of label and object
+abbrev pub in_order : Orders → List ValueEntry
+in_order orders = with_entries [] (value_entries orders)
 
--- a value is a whole number, is a text, or is a text that reads as a whole number
-abbrev pub IsWhole : Value → ℤ → Type 0
-IsWhole value number = value ≡ Whole number
+-- orders of the entries that they stand for, each of which ascends
+pub record AreSortedOrders (orders : Orders) : Type 0 where
+  pub wholes_ascend : AscendByKey int_cmp orders.wholes
+  pub chars_ascend : AscendByKey bytes_cmp orders.chars
+  pub flags_ascend : AscendByKey bool_cmp orders.flags
+  pub readings_ascend : AscendByKey int_cmp orders.readings
+  pub flag_readings_ascend : AscendByKey bool_cmp orders.flag_readings
+  pub are : AreOrders (Contains (in_order orders)) orders
 
-abbrev pub IsText : Value → List ℕ → Type 0
-IsText value text = value ≡ Chars text
-
-abbrev pub IsReading : Value → ℤ → Type 0
-IsReading value number = (text : List ℕ) × (value ≡ Chars text) × ReadsAs text number
-
--- the list holds the entries whose value has a key of this kind, under it
-abbrev pub ListsKeys : {K : Type 0} → (Value → K → Type 0) → List ValueEntry → List (Entry K) → Type 0
-ListsKeys {K} HasKey entries list = (label : Label) (key : K) (object : Oid)
-    → Contains list (keyed label key object)
-    ↔ ((value : Value) × Contains entries (entry_of label value object) × HasKey value key)
+-- orders of fewer than 4,294,967,296 entries
+pub record AreCountedOrders (orders : Orders) : Type 0 where
+  pub are : AreOrders (Contains (in_order orders)) orders
+  pub few : length (in_order orders) < 2 ^ 32

@@ -1,10 +1,9 @@
 -- Runs of entries: those of a label whose key stands so to a given one.
-use Rattle.std.specs.Prelude.{◌≡◌, ◌≢◌, ◌↔◌, List, AllPairs, Contains, filter, map}
+use Rattle.std.specs.Prelude.{◌≡◌, ◌≢◌, ◌↔◌, List, [], Option, None, Some, AllPairs, Contains, filter, map}
 use Rattle.std.specs.Ordering.{nat_cmp, ordering_then, is_eq}
 use Rattle.std.specs.declared.cmp.Ordering.{Ordering}
 use Rattle.std.specs.declared.cmp.Ordering.TheVariants.{Less, Equal, Greater}
-use Rattle.lore_base.specs.Comparisons.{Compares}
-use Rattle.value_index.specs.Types.{Oid, Label, Value, Op, Lt, Le, Gt, Ge, Entry}
+use Rattle.value_index.specs.Types.{Oid, Label, Op, Lt, Le, Gt, Ge, Entry}
 
 -- entries in the order of label, key and object
 abbrev pub key_cmp : {K : Type 0} → (K → K → Ordering) → Entry K → Entry K → Ordering
@@ -37,12 +36,10 @@ side_in cmp label op key entry =
 abbrev pub run_in : {K : Type 0} → (K → K → Ordering) → Label → Op → K → List (Entry K) → List (Entry K)
 run_in cmp label op key entries = filter (λ entry. is_eq (side_in cmp label op key entry)) entries
 
--- the run holds the entries of the label whose key, as a value, compares so, and ascends
-pub record IsRun {K : Type 0} (cmp : K → K → Ordering) (value_of : K → Value) (label : Label) (op : Op) (value : Value)
-    (entries run : List (Entry K)) : Type 0 where
-  pub ascend : AscendByKey cmp run
-  pub members : (entry : Entry K)
-      → Contains run entry ↔ (Contains entries entry × (entry.label ≡ label) × Compares (value_of entry.key) op value)
+-- the same where a key is sought, and else nothing
+abbrev pub run_at : {K : Type 0} → (K → K → Ordering) → Label → Op → Option K → List (Entry K) → List (Entry K)
+run_at cmp label op None entries = []
+run_at cmp label op (Some key) entries = run_in cmp label op key entries
 
 -- the list holds each object once that passes
 pub record ListsOnce (P : Oid → Type 0) (oids : List Oid) : Type 0 where

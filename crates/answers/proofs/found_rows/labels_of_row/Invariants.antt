@@ -1,5 +1,5 @@
 use Rattle.std.proofs.Common.{◌≡◌, ◌+◌, ◌-◌, ◌^◌, ◌<◌, min, drop}
-use Rattle.answers.specs.Answers.{row_labels}
+use Rattle.lorel_bound.specs.Answers.{row_labels}
 use Rattle.answers.proofs.found_rows.labels_of_row.Given as goal
 
 abbrev pub invariant-cells : goal.invariant-cells

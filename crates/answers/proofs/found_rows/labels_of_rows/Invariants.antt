@@ -1,6 +1,6 @@
 use Rattle.std.proofs.Common.{◌≡◌, ◌+◌, ◌-◌, ◌^◌, ◌<◌, min, drop}
 use Rattle.std.specs.List.{sum_by}
-use Rattle.answers.specs.Answers.{row_labels}
+use Rattle.lorel_bound.specs.Answers.{row_labels}
 use Rattle.answers.proofs.found_rows.labels_of_rows.Given as goal
 
 abbrev pub invariant-rows : goal.invariant-rows

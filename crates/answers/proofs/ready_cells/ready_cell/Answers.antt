@@ -1,8 +1,8 @@
 use Rattle.std.proofs.Common.{◌≡◌, ◌<◌, List, length, get_or, Some, subst, sym, refl, ◌∙◌, arith}
 use Rattle.std.specs.List.{slice_get}
 use Rattle.std.proofs.lemmas.Option.{slice_get_read}
-use Rattle.lorel_bind.specs.declared.bound.Range.{Range}
-use Rattle.lorel_bind.specs.Bindings.{IsWithin, IsCellWithin}
+use Rattle.lorel_bound.specs.declared.bound.Range.{Range}
+use Rattle.lorel_bound.specs.Runnable.{IsWithin, IsCellWithin}
 use Rattle.answers.specs.Types.{CellOf, RANGES}
 use Rattle.answers.specs.inside.Showing.{IsMadeReady, IsReadyWithin}
 use Rattle.answers.specs.declared.ready_cells.ReadyCell.TheVariants as ready

@@ -1,7 +1,7 @@
 use Rattle.std.proofs.Common.{◌≡◌, ◌↔◌, inl, inr, [], List, Option, Bool, subst, sym, refl, ap, ◌∙◌}
 use Rattle.std.specs.Prelude.{◌⊎◌, MatchOption}
 use Rattle.std.proofs.lemmas.Result.{IfOk-weaker, on_ok_weaker}
-use Rattle.lorel_bind.specs.Bound.{bound_tree}
+use Rattle.lorel_bound.specs.Bound.{bound_tree}
 use Rattle.answers.specs.Types.{Oid, Cell}
 use Rattle.answers.specs.Asked.{ShowsRow, ShowsAsked, AreRows, AreTooMany}
 use Rattle.answers.specs.inside.Showing.{RowsShown, IsNoted}

@@ -1,8 +1,8 @@
 use Rattle.std.proofs.Common.{◌≡◌, List, [], length}
 use Rattle.std.specs.Prelude.{◌⊎◌, ◌↔◌}
-use Rattle.lorel_bind.specs.Bound.{bound_tree}
-use Rattle.lorel_bind.specs.Plans.{steps_of}
-use Rattle.lorel_bind.specs.SlotRows.{ShowsObjects}
+use Rattle.lorel_bound.specs.Bound.{bound_tree}
+use Rattle.lorel_bound.specs.Plans.{steps_of}
+use Rattle.lorel_bound.specs.SlotRows.{ShowsObjects}
 use Rattle.plan_ops.specs.Rows.{work_left}
 use Rattle.answers.specs.Types.{Oid, Cell}
 use Rattle.answers.specs.Asked.{ShowsAsked}

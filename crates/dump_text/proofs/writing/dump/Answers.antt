@@ -11,13 +11,13 @@ returns c =
     let labels = c.args.labels.now in
     let graph = c.args.graph.now.graph in
     let all = c.put.new.self in
-    let first = head_lines (pos 1) (pos graph.next) (pos c.args.nodes) c.args.mode in
+    let first = head_lines (pos 2) (pos graph.next) (pos c.args.nodes) c.args.mode in
     let line : Edge → List ℕ = λ (edge : Edge). edge_line (spelled_edge labels edge) in
     let spelled : map line c.as_slice.result.now ≡ map edge_line (map (spelled_edge labels) graph.edges) =
     ap (λ (l : List Edge). map line l) (c.as_slice.ensures ∙ c.requires.edges) ∙ sym (map-map edge_line (spelled_edge labels) graph.edges) in
     let head : c.put_head.new.dump ≡ lines_text first =
     c.in_ok-put_head.ensures
-    ∙ (λ i. c.new-dump.ensures i ++ lines_text (head_lines (pos 1) (pos (c.next.ensures.number i)) (pos c.args.nodes) c.args.mode)) in
+    ∙ (λ i. c.new-dump.ensures i ++ lines_text (head_lines (pos 2) (pos (c.next.ensures.number i)) (pos c.args.nodes) c.args.mode)) in
     let names = c.in_ok-put_names.ensures ∙ ap (λ (l : List (List ℕ × Oid)). c.put_labels.new.dump ++ lines_text (map name_line l)) c.names.ensures in
     let edges = c.in_ok-put_edges.ensures ∙ ap (λ (l : List (List ℕ)). c.put_objects.new.dump ++ lines_text l) spelled in
     goes_on [] c.put_head.new.dump all first _ head

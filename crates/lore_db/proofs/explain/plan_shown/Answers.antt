@@ -1,5 +1,5 @@
 use Rattle.lorel_trees.specs.Trees.{select_tree}
-use Rattle.lorel_bind.specs.Bound.{bound_tree}
+use Rattle.lorel_bound.specs.Bound.{bound_tree}
 use Rattle.std.proofs.Common.{refl}
 use Rattle.lore_db.specs.Types.{PlanShown}
 use Rattle.lore_db.proofs.ExplainLaws.{explained}

@@ -10,7 +10,7 @@ returns-then-is_none-clause-refused c =
     let name = c.args.name.now in
     let is = c.name.ensures ∙ ap (λ (g : OemGraph). object_of g.names name) c.graph.ensures.graph in
     unbound_stop db c.graph.ensures.valid name
-    (unbound_by db.graph.names name c.name.result c.is_none.result c.graph.ensures.valid.well_formed.ordered.names_ascend is c.is_none.ensures
+    (unbound_by db.graph.names name c.name.result c.is_none.result c.graph.ensures.valid.restorable.rooted.well_formed.ordered.names_ascend is c.is_none.ensures
     c.if-is_none.true)
 
 pub returns-clause-lists : goal.returns-clause-lists

@@ -1,5 +1,5 @@
 use Rattle.std.proofs.Common.{refl, subst, ◌∙◌}
-use Rattle.lorel_bind.specs.Bound.{bound_tree}
+use Rattle.lorel_bound.specs.Bound.{bound_tree}
 use Rattle.lore_db.specs.inside.Views.{IsRowOf}
 use Rattle.lore_db.proofs.StageLaws.{Answered, passes_of, passes_alike, planned_rows, quiet_left}
 use Rattle.lore_db.proofs.rows.rows_over.Goals as goal

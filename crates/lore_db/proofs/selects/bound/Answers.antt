@@ -1,7 +1,7 @@
 use Rattle.std.proofs.Common.{ℕ, List, ap, subst, ◌∙◌}
 use Rattle.lore_base.specs.Databases.{OemGraph}
 use Rattle.lorel_trees.specs.Trees.{select_tree}
-use Rattle.lorel_bind.specs.Bound.{bound_tree}
+use Rattle.lorel_bound.specs.Bound.{bound_tree}
 use Rattle.lorel_bind.specs.Bindings.{IsBinding}
 use Rattle.lorel_bind.specs.Faults.{refusal_of}
 use Rattle.lorel_bind.specs.Refusals.{IsRefusedBy}

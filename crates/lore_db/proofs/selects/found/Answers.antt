@@ -3,9 +3,9 @@ use Rattle.std.specs.Prelude.{IfSome}
 use Rattle.std.proofs.lemmas.Result.{IfOk-weaker, IfErr-weaker}
 use Rattle.lore_base.specs.Databases.{OemGraph}
 use Rattle.guide_query.specs.GuideReaches.{TellsReached}
-use Rattle.lorel_bind.specs.Bound.{bound_tree}
-use Rattle.lorel_bind.specs.Plans.{steps_of}
-use Rattle.lorel_bind.specs.SlotRows.{IsSlotRow}
+use Rattle.lorel_bound.specs.Bound.{bound_tree}
+use Rattle.lorel_bound.specs.Plans.{steps_of}
+use Rattle.lorel_bound.specs.SlotRows.{IsSlotRow}
 use Rattle.answers.specs.Asked.{AreRows, AreTooMany}
 use Rattle.lore_db.specs.Types.refusals
 use Rattle.lore_db.specs.Uncounted.{IsQuietBound}

@@ -4,8 +4,8 @@ use Rattle.lore_base.specs.Databases.{OemGraph}
 use Rattle.dataguide.specs.Guides.{GuideGraph, StandsFor}
 use Rattle.guide_query.specs.GuideReaches.{TellsReached}
 use Rattle.lore_store.specs.Stores.{IsGuided}
-use Rattle.lorel_bind.specs.Bound.{bound_tree}
-use Rattle.lorel_bind.specs.Plans.{path_to}
+use Rattle.lorel_bound.specs.Bound.{bound_tree}
+use Rattle.lorel_bound.specs.Plans.{path_to}
 use Rattle.planner.specs.Choices.{AreCounts}
 use Rattle.lore_db.specs.Plans.{AreCountsOver}
 use Rattle.lore_db.proofs.PlanLaws.{guide_tells, few_told, counts_over}

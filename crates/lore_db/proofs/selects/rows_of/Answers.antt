@@ -4,8 +4,8 @@ use Rattle.std.proofs.lemmas.Result.{IfOk-weaker, IfErr-weaker}
 use Rattle.lore_base.specs.Verdicts.{IsClear, IsToldBy}
 use Rattle.lorel_trees.specs.Trees.{select_tree}
 use Rattle.lorel_bind.specs.Answers.{IsAnswer}
-use Rattle.lorel_bind.specs.Bound.{bound_tree}
-use Rattle.lorel_bind.specs.SlotRows.{IsSlotRow}
+use Rattle.lorel_bound.specs.Bound.{bound_tree}
+use Rattle.lorel_bound.specs.SlotRows.{IsSlotRow}
 use Rattle.answers.specs.Asked.{AreRows, AreTooMany}
 use Rattle.lore_db.specs.Types.refusals
 use Rattle.lore_db.specs.Uncounted.{IsQuietBound, IsQuietSelect}

@@ -1,7 +1,7 @@
 use Rattle.std.proofs.Common.{Option, option_map, sym, ap, ◌∙◌}
 use Rattle.lorel_trees.specs.declared.selects.Select.{Select}
 use Rattle.lorel_trees.specs.Trees.{select_tree, statement_tree}
-use Rattle.lorel_bind.specs.Bound.{bound_tree}
+use Rattle.lorel_bound.specs.Bound.{bound_tree}
 use Rattle.lore_db.specs.Statements.{Cause}
 use Rattle.lore_db.specs.inside.Stops.{told}
 use Rattle.lore_db.specs.inside.Stages.{found_order}

@@ -1,12 +1,12 @@
 use Rattle.std.proofs.Common.{inl, inr, refl, ap, ◌∙◌}
 use Rattle.std.proofs.lemmas.Result.{IfOk-weaker}
-use Rattle.lorel_parse.specs.Faults.{refusal_of}
+use Rattle.lorel_terms.specs.Faults.{refusal_of}
 use Rattle.lorel_trees.specs.Trees.{statement_tree}
 use Rattle.lore_run.specs.Types.{Refused}
 use Rattle.lore_run.specs.Runs.{chunk, Yields}
 use Rattle.lore_db.specs.Statements.{Executes}
 use Rattle.lore_run.specs.inside.Turns.{IsRefusalOf}
-use Rattle.lore_run.proofs.ParsedLaws.{parse_refusal}
+use Rattle.lore_run.proofs.RespondLaws.{parse_refusal}
 use Rattle.lore_run.proofs.parts.answer.Goals as goal
 
 pub returns-in-Ok-parsed-clause-ok : goal.returns-in-Ok-parsed-clause-ok

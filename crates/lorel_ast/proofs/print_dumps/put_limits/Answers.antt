@@ -2,7 +2,7 @@ use Rattle.std.proofs.Common.{◌≡◌, ◌∷◌, ◌∙◌, to_z, of_z, rules
 use Rattle.std.specs.Prelude.{codes}
 use Rattle.std.specs.Int.{w64}
 use Rattle.std.proofs.lemmas.Int.{to_z-of_z}
-use Rattle.lorel_lex.specs.declared.token_types.Kind.TheVariants as k
+use Rattle.lorel_tokens.specs.declared.token_types.Kind.TheVariants as k
 use Rattle.lorel_ast.proofs.print_dumps.put_limits.Goals as goal
 
 pub returns : goal.returns

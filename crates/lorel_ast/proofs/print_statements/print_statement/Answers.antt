@@ -1,6 +1,6 @@
-use Rattle.std.proofs.Common.{◌≡◌, [], ◌++◌, sym, ◌∙◌, ap, subst, take, length, ◌-◌, List, ℕ}
+use Rattle.std.proofs.Common.{◌≡◌, [], ◌++◌, sym, ◌∙◌, ap, subst, List, ℕ}
 use Rattle.std.specs.Prelude.{IfOk}
-use Rattle.lorel_lex.specs.Writing.{spaced, line_text}
+use Rattle.lorel_lex.specs.Writing.{spaced}
 use Rattle.lorel_lex.proofs.ReadBackLaws.{line_of_spaced}
 use Rattle.lorel_ast.specs.Printing as canon
 use Rattle.lorel_trees.specs.Trees.{statement_tree}

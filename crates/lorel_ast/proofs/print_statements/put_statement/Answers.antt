@@ -1,23 +1,9 @@
-use Rattle.std.proofs.Common.{◌≡◌, ◌∷◌, ◌++◌, ◌∙◌, ap, sym, to_z, of_z, rules, List, ℕ}
+use Rattle.std.proofs.Common.{◌≡◌, ◌∙◌, ap, to_z, of_z, rules}
 use Rattle.std.specs.Int.{w64}
 use Rattle.std.proofs.lemmas.Int.{to_z-of_z}
-use Rattle.lorel_lex.specs.Writing.{spaced}
-use Rattle.lorel_lex.specs.declared.token_types.Kind.TheVariants as k
-use Rattle.lorel_trees.specs.Trees.{StatementTree, statement_tree}
+use Rattle.lorel_trees.specs.Trees.{statement_tree}
 use Rattle.lorel_ast.specs.Printing as canon
 use Rattle.lorel_ast.proofs.print_statements.put_statement.Goals as goal
-
-pub returns-in_ok-number-in-Generate-2 : goal.returns-in_ok-number-in-Generate-2
-returns-in_ok-number-in-Generate-2 c = λ rest.
-    let seed = c.in-Generate.seed in
-    let count = c.in-Generate.count in
-    let seed_is : to_z w64 (of_z w64 seed) ≡ seed = to_z-of_z w64 seed (search rules) in
-    let count_is : to_z w64 (of_z w64 count) ≡ count = to_z-of_z w64 count (search rules) in
-    let first = c.in_ok-word-in-Generate.ensures (k.Number seed ∷ k.Number count ∷ rest) in
-    let second = rw (seed_is) at (c.in_ok-number-in-Generate.ensures (k.Number count ∷ rest)) in
-    let third = rw (count_is) at (c.in_ok-number-in-Generate-2.ensures rest) in
-    let tree = ap statement_tree c.in-Generate.is in
-    rw (tree) (first ∙ second ∙ third)
 
 pub returns-in_ok-put_dump-in-Restore : goal.returns-in_ok-put_dump-in-Restore
 returns-in_ok-put_dump-in-Restore c = λ rest.
@@ -25,3 +11,25 @@ returns-in_ok-put_dump-in-Restore c = λ rest.
     let second = c.in_ok-put_dump-in-Restore.ensures rest in
     let tree = ap statement_tree c.in-Restore.is in
     rw (tree) (first ∙ second)
+
+pub returns-in-Generate : goal.returns-in-Generate
+returns-in-Generate c =
+    let seed_is : to_z w64 (of_z w64 c.in-Generate.seed) ≡ c.in-Generate.seed = to_z-of_z w64 c.in-Generate.seed (search rules) in
+    let count_is : to_z w64 (of_z w64 c.in-Generate.count) ≡ c.in-Generate.count = to_z-of_z w64 c.in-Generate.count (search rules) in
+    let tree = ap statement_tree c.in-Generate.is in
+    let put = rw (seed_is) at c.put_pair.ensures in
+    rw (tree) (rw (count_is) at put)
+
+pub returns-in-ChangesList : goal.returns-in-ChangesList
+returns-in-ChangesList c =
+    let first_is : to_z w64 (of_z w64 c.in-ChangesList.first) ≡ c.in-ChangesList.first = to_z-of_z w64 c.in-ChangesList.first (search rules) in
+    let last_is : to_z w64 (of_z w64 c.in-ChangesList.last) ≡ c.in-ChangesList.last = to_z-of_z w64 c.in-ChangesList.last (search rules) in
+    let tree = ap statement_tree c.in-ChangesList.is in
+    let put = rw (first_is) at c.put_pair-in-ChangesList.ensures in
+    rw (tree) (rw (last_is) at put)
+
+pub returns-in-At : goal.returns-in-At
+returns-in-At c =
+    let moment_is : to_z w64 (of_z w64 c.in-At.moment) ≡ c.in-At.moment = to_z-of_z w64 c.in-At.moment (search rules) in
+    let tree = ap statement_tree c.in-At.is in
+    rw (tree) (rw (moment_is) at c.put_at.ensures)

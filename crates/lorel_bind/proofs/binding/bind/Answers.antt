@@ -2,7 +2,7 @@ use Rattle.std.proofs.Common.{◌<◌, ◌≤◌, length, arith}
 use Rattle.std.proofs.lemmas.List.{length-map}
 use Rattle.lorel_trees.specs.Trees.{select_tree}
 use Rattle.lorel_bind.specs.Types.{RANGES}
-use Rattle.lorel_bind.specs.Bound.{bound_tree}
+use Rattle.lorel_bound.specs.Bound.{bound_tree}
 use Rattle.lorel_bind.specs.Refusals.{IsRefusedBy}
 use Rattle.lorel_ranges.specs.Views.{range_of, ranges_of}
 use Rattle.lorel_bind.proofs.RunLaws.{runs}

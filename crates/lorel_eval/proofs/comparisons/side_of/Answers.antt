@@ -1,6 +1,6 @@
 use Rattle.std.proofs.Common.{◌↔◌, sym, ap, subst}
-use Rattle.lorel_bind.specs.Bound.{BoundPathTree}
-use Rattle.lorel_ranges.specs.Conditions.{OperandOf}
+use Rattle.lorel_bound.specs.Bound.{BoundPathTree}
+use Rattle.lorel_bound.specs.Conditions.{OperandOf}
 use Rattle.lorel_eval.specs.inside.Ready.{ready_path, ready_operand}
 use Rattle.lorel_eval.specs.inside.Subjects.{GivesIn}
 use Rattle.lorel_eval.specs.inside.Sides.{SideGives}

@@ -1,8 +1,8 @@
 use Rattle.std.proofs.Common.{◌↔◌, [], ◌∷◌, ◌++◌, IsTrue, IfOk, get_or, refl, sym, subst}
 use Rattle.std.proofs.lemmas.List.Elements.{All-more}
 use Rattle.lore_base.specs.Walks.{oid_of}
-use Rattle.lorel_bind.specs.Bound.{BoundPathTree}
-use Rattle.lorel_ranges.specs.Conditions.{CondOf}
+use Rattle.lorel_bound.specs.Bound.{BoundPathTree}
+use Rattle.lorel_bound.specs.Conditions.{CondOf}
 use Rattle.lorel_eval.specs.inside.Ready.{ready_path, ready_tree}
 use Rattle.lorel_eval.specs.inside.Subjects.{ReachedIn, HoldsIn}
 use Rattle.lorel_eval.proofs.ReadyLaws.{exists_ready, for_all_ready, compare_ready, same_ready}

@@ -1,5 +1,5 @@
 use Rattle.std.proofs.Common.{◌↔◌, [], ◌∷◌, ◌++◌, map, take, drop, All}
-use Rattle.lorel_bind.specs.Bound.{conds_from}
+use Rattle.lorel_bound.specs.Bound.{conds_from}
 use Rattle.lorel_eval.specs.inside.Ready.{ready_tree, ready_trees}
 use Rattle.lorel_eval.specs.inside.Subjects.{HoldsIn, SomeHoldsIn, AllHoldIn}
 use Rattle.lorel_eval.proofs.conditions.+cond.Given as goal

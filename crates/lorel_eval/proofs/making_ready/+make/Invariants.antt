@@ -1,6 +1,6 @@
 use Rattle.std.proofs.Common.{◌≡◌, ◌≤◌, ◌++◌, map, drop}
-use Rattle.lorel_bind.specs.Bound.{bound_cond, bound_conds, conds_from}
-use Rattle.lorel_ranges.specs.Conditions.{paths_of_all}
+use Rattle.lorel_bound.specs.Bound.{bound_cond, bound_conds, conds_from}
+use Rattle.lorel_bound.specs.Conditions.{paths_of_all}
 use Rattle.lorel_eval.specs.Types.{LEAVES}
 use Rattle.lorel_eval.specs.Tests.{rest_leaves}
 use Rattle.lorel_eval.specs.inside.Ready.{ready_trees}

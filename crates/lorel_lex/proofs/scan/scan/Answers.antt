@@ -1,6 +1,5 @@
-use Rattle.std.proofs.Common.{◌+◌, ◌≤◌, length, drop, sym, ◌∙◌, subst, arith}
-use Rattle.std.proofs.lemmas.List.{length-drop, take_rest}
-use Rattle.lorel_lex.proofs.ScanLaws.{ScansTo, ScansTo-still, ScansTo-byte, scan_ends, scan_open, still_behind}
+use Rattle.std.proofs.Common.{◌+◌, sym, ◌∙◌, arith}
+use Rattle.lorel_lex.proofs.ScanLaws.{ScansTo-still, ScansTo-byte, scan_ends, scan_open, still_behind}
 use Rattle.lorel_lex.proofs.scan.scan.Goals as goal
 
 pub returns-then-at-bytes : goal.returns-then-at-bytes

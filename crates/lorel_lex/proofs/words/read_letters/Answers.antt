@@ -1,6 +1,6 @@
-use Rattle.std.proofs.Common.{◌≡◌, ℕ, eqb, ◌-◌, ◌⊎◌, true, false, length, take, drop, sym, ◌∙◌, ap}
+use Rattle.std.proofs.Common.{◌≡◌, ℕ, eqb, true, false, drop, sym, ◌∙◌, ap}
 use Rattle.std.proofs.lemmas.List.{take_rest}
-use Rattle.lorel_lex.specs.Shapes.{begins, is_pattern_byte}
+use Rattle.lorel_tokens.specs.Shapes.{begins, is_pattern_byte}
 use Rattle.lorel_lex.specs.inside.Lexing.{begins_path_of}
 use Rattle.lorel_lex.proofs.WordLaws.{identifier_letters, pattern_letters, run_goes_on, no_path}
 use Rattle.lorel_lex.proofs.words.read_letters.Goals as goal

@@ -1,10 +1,9 @@
 use Rattle.std.proofs.Common.{codes, rules, arith}
 use Rattle.std.proofs.lemmas.Grind.{common_steps}
-use Rattle.lorel_parse.specs.inside.Outcomes.{sees_word}
-use Rattle.lorel_parse.specs.inside.Names.{label}
-use Rattle.lorel_parse.specs.inside.Repetitions.{each_in}
-use Rattle.lorel_parse.specs.inside.Statements as spec
-use Rattle.lorel_parse.proofs.TurnLaws.{one_more}
+use Rattle.lorel_terms.specs.Outcomes.{sees_word}
+use Rattle.lorel_terms.specs.Names.{label}
+use Rattle.lorel_terms.specs.Repetitions.{each_in}
+use Rattle.lorel_terms.proofs.TurnLaws.{one_more}
 use Rattle.lorel_parse.proofs.dump_texts.dump_labels.Goals as goal
 
 pub returns-then-not-eat_word : goal.returns-then-not-eat_word

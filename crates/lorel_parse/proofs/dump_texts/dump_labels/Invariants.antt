@@ -1,7 +1,7 @@
 use Rattle.std.proofs.Common.{◌≡◌, ◌-◌, [], codes}
-use Rattle.lorel_parse.specs.inside.Outcomes.{sees_word}
-use Rattle.lorel_parse.specs.inside.Names.{label}
-use Rattle.lorel_parse.specs.inside.Repetitions.{each_in}
+use Rattle.lorel_terms.specs.Outcomes.{sees_word}
+use Rattle.lorel_terms.specs.Names.{label}
+use Rattle.lorel_terms.specs.Repetitions.{each_in}
 use Rattle.lorel_parse.specs.inside.Statements as spec
 use Rattle.lorel_parse.proofs.dump_texts.dump_labels.Given as goal
 

@@ -1,6 +1,6 @@
 use Rattle.std.proofs.Common.{◌≡◌, ◌-◌, [], codes}
-use Rattle.lorel_parse.specs.inside.Outcomes.{sees_word}
-use Rattle.lorel_parse.specs.inside.Repetitions.{each_in}
+use Rattle.lorel_terms.specs.Outcomes.{sees_word}
+use Rattle.lorel_terms.specs.Repetitions.{each_in}
 use Rattle.lorel_parse.specs.inside.Statements as spec
 use Rattle.lorel_parse.proofs.dump_texts.dump_names.Given as goal
 

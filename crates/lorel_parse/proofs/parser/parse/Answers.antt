@@ -1,8 +1,8 @@
 use Rattle.std.proofs.Common.{◌<◌, length, map, sym, ap, ◌∙◌, arith}
 use Rattle.std.proofs.lemmas.Result.{err_from_is_err_and}
 use Rattle.std.proofs.lemmas.List.Elements.{All-map}
-use Rattle.lorel_lex.specs.Tokens.{HasForm}
-use Rattle.lorel_lex.specs.declared.token_types.Token.{Token}
+use Rattle.lorel_tokens.specs.Forms.{HasForm}
+use Rattle.lorel_tokens.specs.declared.token_types.Token.{Token}
 use Rattle.lorel_trees.specs.Trees.{statement_tree}
 use Rattle.lorel_parse.specs.inside.Statements.{statement}
 use Rattle.lorel_parse.proofs.StatementLaws.{read_has, none_has, left_has, refused_at}

@@ -1,11 +1,10 @@
-use Rattle.std.proofs.Common.{codes, rules, arith}
+use Rattle.std.proofs.Common.{rules, arith}
 use Rattle.std.proofs.lemmas.Grind.{common_steps}
-use Rattle.lorel_lex.specs.declared.token_types.Sign.TheVariants as s
-use Rattle.lorel_parse.specs.inside.Outcomes.{sees}
-use Rattle.lorel_parse.specs.inside.Names.{label}
-use Rattle.lorel_parse.specs.inside.Repetitions.{each_in}
-use Rattle.lorel_parse.specs.inside.Statements as spec
-use Rattle.lorel_parse.proofs.TurnLaws.{one_more}
+use Rattle.lorel_tokens.specs.declared.token_types.Sign.TheVariants as s
+use Rattle.lorel_terms.specs.Outcomes.{sees}
+use Rattle.lorel_terms.specs.Names.{label}
+use Rattle.lorel_terms.specs.Repetitions.{each_in}
+use Rattle.lorel_terms.proofs.TurnLaws.{one_more}
 use Rattle.lorel_parse.proofs.statements.labels.Goals as goal
 
 pub returns-then-not-eat : goal.returns-then-not-eat

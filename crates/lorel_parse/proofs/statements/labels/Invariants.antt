@@ -1,8 +1,8 @@
-use Rattle.std.proofs.Common.{◌≡◌, ◌-◌, [], codes}
-use Rattle.lorel_lex.specs.declared.token_types.Sign.TheVariants as s
-use Rattle.lorel_parse.specs.inside.Outcomes.{sees}
-use Rattle.lorel_parse.specs.inside.Names.{label}
-use Rattle.lorel_parse.specs.inside.Repetitions.{each_in}
+use Rattle.std.proofs.Common.{◌≡◌, ◌-◌, []}
+use Rattle.lorel_tokens.specs.declared.token_types.Sign.TheVariants as s
+use Rattle.lorel_terms.specs.Outcomes.{sees}
+use Rattle.lorel_terms.specs.Names.{label}
+use Rattle.lorel_terms.specs.Repetitions.{each_in}
 use Rattle.lorel_parse.specs.inside.Statements as spec
 use Rattle.lorel_parse.proofs.statements.labels.Given as goal
 

@@ -1,5 +1,5 @@
 use Rattle.std.proofs.Common.{◌≡◌, map, take, All}
-use Rattle.lorel_bind.specs.Plans.{step_tree}
+use Rattle.lorel_bound.specs.Plans.{step_tree}
 use Rattle.plan_ops.specs.inside.Ready.{ready_tree, HasFound}
 use Rattle.plan_ops.proofs.ready_steps.ready_steps.Given as goal
 

@@ -1,8 +1,8 @@
 use Rattle.std.proofs.Common.{List, map, sym, subst}
 use Rattle.std.specs.Prelude.{Option, IfNone}
-use Rattle.lorel_bind.specs.declared.bound.Range.{Range}
-use Rattle.lorel_bind.specs.Bound.{range_tree, bound_tree}
-use Rattle.lorel_bind.specs.Plans.{IsChain, CannotBeBottom}
+use Rattle.lorel_bound.specs.declared.bound.Range.{Range}
+use Rattle.lorel_bound.specs.Bound.{range_tree, bound_tree}
+use Rattle.lorel_bound.specs.Plans.{IsChain, CannotBeBottom}
 use Rattle.planner.specs.declared.beginnings.Beginning.{Beginning}
 use Rattle.planner.proofs.beginnings.beginning_of.Goals as goal
 

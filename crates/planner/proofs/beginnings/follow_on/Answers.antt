@@ -1,8 +1,8 @@
 use Rattle.std.proofs.Common.{◌∙◌, List, map, refl, sym, subst, true≢false}
 use Rattle.std.proofs.lemmas.List.{drop_all}
-use Rattle.lorel_bind.specs.declared.bound.Range.{Range}
-use Rattle.lorel_bind.specs.Bound.{range_tree}
-use Rattle.lorel_bind.specs.Plans.{FollowOn}
+use Rattle.lorel_bound.specs.declared.bound.Range.{Range}
+use Rattle.lorel_bound.specs.Bound.{range_tree}
+use Rattle.lorel_bound.specs.Plans.{FollowOn}
 use Rattle.planner.proofs.ProbeLaws.{follow_more}
 use Rattle.planner.proofs.beginnings.follow_on.Goals as goal
 

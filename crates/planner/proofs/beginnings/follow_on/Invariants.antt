@@ -1,6 +1,6 @@
 use Rattle.std.proofs.Common.{◌↔◌, map, drop}
-use Rattle.lorel_bind.specs.Bound.{range_tree}
-use Rattle.lorel_bind.specs.Plans.{FollowOn}
+use Rattle.lorel_bound.specs.Bound.{range_tree}
+use Rattle.lorel_bound.specs.Plans.{FollowOn}
 use Rattle.planner.proofs.beginnings.follow_on.Given as goal
 
 abbrev pub invariant-ranges-2 : goal.invariant-ranges-2

@@ -1,5 +1,5 @@
 use Rattle.std.proofs.Common.{arith}
-use Rattle.lorel_bind.specs.Bound.{bound_tree}
+use Rattle.lorel_bound.specs.Bound.{bound_tree}
 use Rattle.planner.specs.inside.Probes.{probe_tree}
 use Rattle.planner.proofs.TakenLaws.{begins_asked, slot_within}
 use Rattle.planner.proofs.choosing.choose.Goals as goal

@@ -1,4 +1,4 @@
-use Rattle.lorel_bind.specs.Bound.{bound_tree}
+use Rattle.lorel_bound.specs.Bound.{bound_tree}
 use Rattle.planner.specs.inside.Probes.{probe_tree}
 use Rattle.planner.proofs.TakenLaws.{slot_within}
 use Rattle.planner.proofs.choosing.steps_of_kind.Goals as goal

@@ -1,5 +1,5 @@
 use Rattle.std.proofs.Common.{Option, sym, subst}
-use Rattle.lorel_bind.specs.Plans.{IsCandidate}
+use Rattle.lorel_bound.specs.Plans.{IsCandidate}
 use Rattle.planner.specs.Types.{Label}
 use Rattle.planner.specs.Choices.{IsCount}
 use Rattle.planner.proofs.CountLaws.{found_counted}

@@ -1,6 +1,6 @@
 use Rattle.std.proofs.Common.{◌≡◌, ◌++◌, map, drop}
 use Rattle.lore_base.specs.Paths.{path_trees}
-use Rattle.lorel_bind.specs.Bound.{range_tree}
+use Rattle.lorel_bound.specs.Bound.{range_tree}
 use Rattle.planner.proofs.counting.joined_path.Given as goal
 
 abbrev pub invariant-ranges-2 : goal.invariant-ranges-2

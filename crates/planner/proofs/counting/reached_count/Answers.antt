@@ -2,7 +2,7 @@ use Rattle.std.proofs.Common.{◌≤◌, arith, sym, subst}
 use Rattle.lore_base.specs.declared.limits.TheConstants.{LEAVES}
 use Rattle.lore_base.specs.Paths.{PathTree, path_tree, leaves}
 use Rattle.lore_base.specs.TargetSets.{ListsInOrder}
-use Rattle.lorel_bind.specs.Bound.{bound_tree}
+use Rattle.lorel_bound.specs.Bound.{bound_tree}
 use Rattle.planner.specs.inside.Probes.{probe_tree}
 use Rattle.planner.proofs.CountLaws.{few_joined_leaves, joined_to, listed_alone}
 use Rattle.planner.proofs.counting.reached_count.Goals as goal

@@ -1,8 +1,8 @@
 use Rattle.std.proofs.Common.{◌≡◌, ◌∙◌, IfNone, sym, ap, subst}
-use Rattle.lorel_bind.specs.declared.bound.BoundOperand.{BoundOperand}
-use Rattle.lorel_bind.specs.Bound.{BoundPathTree, bound_path, bound_operand}
-use Rattle.lorel_ranges.specs.Conditions.{CondOf, compare, at, constant}
-use Rattle.lorel_bind.specs.Plans.{DoesNotFit}
+use Rattle.lorel_bound.specs.declared.conditions.BoundOperand.{BoundOperand}
+use Rattle.lorel_bound.specs.Bound.{BoundPathTree, bound_path, bound_operand}
+use Rattle.lorel_bound.specs.Conditions.{CondOf, compare, at, constant}
+use Rattle.lorel_bound.specs.Plans.{DoesNotFit}
 use Rattle.planner.proofs.probes.comparison.Goals as goal
 
 pub returns-in-At-Atom-clause-none : goal.returns-in-At-Atom-clause-none

@@ -1,9 +1,9 @@
 use Rattle.std.proofs.Common.{◌↔◌, List, map, subst}
 use Rattle.std.proofs.lemmas.List.{drop_all}
-use Rattle.lorel_bind.specs.declared.bound.BoundCond.{BoundCond}
-use Rattle.lorel_bind.specs.Bound.{BoundPathTree, bound_cond, conds_from}
-use Rattle.lorel_ranges.specs.Conditions.{CondOf}
-use Rattle.lorel_bind.specs.Plans.{IsFirstFitting}
+use Rattle.lorel_bound.specs.declared.conditions.BoundCond.{BoundCond}
+use Rattle.lorel_bound.specs.Bound.{BoundPathTree, bound_cond, conds_from}
+use Rattle.lorel_bound.specs.Conditions.{CondOf}
+use Rattle.lorel_bound.specs.Plans.{IsFirstFitting}
 use Rattle.planner.specs.inside.Probes.{probe_tree}
 use Rattle.planner.proofs.ProbeLaws.{first_fits, first_is_later}
 use Rattle.planner.proofs.probes.first_fitting.Goals as goal

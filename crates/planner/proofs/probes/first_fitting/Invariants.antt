@@ -1,6 +1,6 @@
 use Rattle.std.proofs.Common.{◌↔◌, map, drop}
-use Rattle.lorel_bind.specs.Bound.{bound_cond, bound_conds, conds_from}
-use Rattle.lorel_bind.specs.Plans.{Probe, IsFirstFitting}
+use Rattle.lorel_bound.specs.Bound.{bound_cond, bound_conds, conds_from}
+use Rattle.lorel_bound.specs.Plans.{Probe, IsFirstFitting}
 use Rattle.planner.proofs.probes.first_fitting.Given as goal
 
 abbrev pub invariant-members : goal.invariant-members

@@ -1,8 +1,8 @@
 use Rattle.std.proofs.Common.{IfNone, sym, subst}
-use Rattle.lorel_bind.specs.Bound.{BoundPathTree}
-use Rattle.lorel_ranges.specs.Conditions.{CondOf}
-use Rattle.lorel_bind.specs.Plans.{DoesNotFit}
-use Rattle.lorel_bind.proofs.BoundLaws.{compare_cond}
+use Rattle.lorel_bound.specs.Bound.{BoundPathTree}
+use Rattle.lorel_bound.specs.Conditions.{CondOf}
+use Rattle.lorel_bound.specs.Plans.{DoesNotFit}
+use Rattle.lorel_bound.proofs.BoundLaws.{compare_cond}
 use Rattle.planner.proofs.probes.fitting.Goals as goal
 
 pub returns-in-Compare-clause-none : goal.returns-in-Compare-clause-none

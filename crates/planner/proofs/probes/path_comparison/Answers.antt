@@ -1,8 +1,8 @@
 use Rattle.std.proofs.Common.{sym, subst}
 use Rattle.std.specs.Prelude.{Option, IfNone}
-use Rattle.lorel_bind.specs.Bound.{bound_path}
-use Rattle.lorel_ranges.specs.Conditions.{compare, at, constant}
-use Rattle.lorel_bind.specs.Plans.{DoesNotFit}
+use Rattle.lorel_bound.specs.Bound.{bound_path}
+use Rattle.lorel_bound.specs.Conditions.{compare, at, constant}
+use Rattle.lorel_bound.specs.Plans.{DoesNotFit}
 use Rattle.planner.specs.declared.probes.Probe.{Probe}
 use Rattle.planner.proofs.ProbeLaws.{unended}
 use Rattle.planner.proofs.probes.path_comparison.Goals as goal

@@ -1,6 +1,6 @@
 use Rattle.std.proofs.Common.{◌≡◌, ◌+◌, List, ◌++◌, map, drop}
-use Rattle.lorel_bind.specs.Bound.{range_tree}
-use Rattle.lorel_bind.specs.Plans.{StepTree, step_tree, along}
+use Rattle.lorel_bound.specs.Bound.{range_tree}
+use Rattle.lorel_bound.specs.Plans.{StepTree, step_tree, along}
 use Rattle.planner.specs.inside.Stepping.{step_by}
 use Rattle.planner.proofs.stepping.push_along.Given as goal
 

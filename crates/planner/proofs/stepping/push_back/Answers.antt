@@ -1,7 +1,7 @@
 use Rattle.std.proofs.Common.{◌≡◌, ◌+◌, ◌-◌, ◌<◌, List, ◌++◌, length, map, take, arith, ap, ◌∙◌}
-use Rattle.lorel_bind.specs.declared.plans.PlanStep.{PlanStep}
-use Rattle.lorel_bind.specs.Bound.{range_tree}
-use Rattle.lorel_bind.specs.Plans.{step_tree, back_steps}
+use Rattle.lorel_bound.specs.declared.plans.PlanStep.{PlanStep}
+use Rattle.lorel_bound.specs.Bound.{range_tree}
+use Rattle.lorel_bound.specs.Plans.{step_tree, back_steps}
 use Rattle.planner.proofs.StepLaws.{back_more}
 use Rattle.planner.proofs.stepping.push_back.Goals as goal
 

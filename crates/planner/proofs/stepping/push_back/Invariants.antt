@@ -1,6 +1,6 @@
 use Rattle.std.proofs.Common.{◌≡◌, ◌≤◌, List, ◌++◌, length, map, take}
-use Rattle.lorel_bind.specs.Bound.{range_tree}
-use Rattle.lorel_bind.specs.Plans.{StepTree, step_tree, back_steps}
+use Rattle.lorel_bound.specs.Bound.{range_tree}
+use Rattle.lorel_bound.specs.Plans.{StepTree, step_tree, back_steps}
 use Rattle.planner.proofs.stepping.push_back.Given as goal
 
 abbrev pub invariant-ranges-2 : goal.invariant-ranges-2

@@ -1,8 +1,8 @@
 use Rattle.std.proofs.Common.{◌-◌, ◌^◌, ◌∙◌, ap, min}
 use Rattle.std.specs.List.{sum_by}
 use Rattle.lore_base.proofs.SetLaws.{ascend-dedup, members-dedup}
-use Rattle.answers.specs.Answers.{row_labels}
-use Rattle.answers.specs.inside.RowOrder.{rows_total, rows_ties}
+use Rattle.lorel_bound.specs.Answers.{row_labels}
+use Rattle.lorel_bound.specs.CellOrder.{rows_total, rows_ties}
 use Rattle.answers.proofs.FoundLaws.{equal_rows}
 use Rattle.answers.proofs.found_rows.FoundRows.sort.Goals as goal
 

@@ -2,7 +2,7 @@ use Rattle.std.proofs.Common.{◌≡◌, ◌↔◌, [], ◌∷◌, ◌++◌, Lis
 use Rattle.std.specs.Prelude.{◌⊎◌}
 use Rattle.std.specs.List.{AllZip}
 use Rattle.std.proofs.lemmas.Result.{IfOk-weaker, on_ok_weaker}
-use Rattle.lorel_bind.specs.SlotRows.{IsObjectCell}
+use Rattle.lorel_bound.specs.SlotRows.{IsObjectCell}
 use Rattle.answers.specs.Types.{Oid, Cell}
 use Rattle.answers.specs.inside.Finding.{Finds}
 use Rattle.answers.specs.inside.Showing.{RowsShown, IsMadeReady, IsReadyObject, IsReadyWithin, ReadsRow, ShowsNext, IsNoted, AreNow}

@@ -1,5 +1,5 @@
 use Rattle.std.proofs.Common.{All, subst, sym}
-use Rattle.lorel_bind.specs.SlotRows.{IsObjectCell}
+use Rattle.lorel_bound.specs.SlotRows.{IsObjectCell}
 use Rattle.answers.proofs.shown_rows.ShownRows.new.Goals as goal
 
 pub invariant_of-result : goal.invariant_of-result

@@ -2,7 +2,7 @@ use Rattle.std.proofs.Common.{◌≡◌, List, Option, Some, IfOk, subst, sym}
 use Rattle.std.specs.List.{slice_get}
 use Rattle.std.proofs.lemmas.Result.{IfOk-weaker}
 use Rattle.lore_base.specs.Paths.{path_tree}
-use Rattle.lorel_bind.specs.SlotRows.{StartsAt}
+use Rattle.lorel_bound.specs.SlotRows.{StartsAt}
 use Rattle.least_words.specs.MachineWords.{word_to}
 use Rattle.answers.specs.Types.{Label}
 use Rattle.answers.specs.inside.Words.{WordsOver, HasWord}

@@ -1,6 +1,6 @@
-use Rattle.std.proofs.Common.{◌≡◌, List, IfSome, ap, ◌∙◌, subst}
+use Rattle.std.proofs.Common.{◌≡◌, List, IfSome, IfNone, Contains, ap, ◌∙◌, subst}
 use Rattle.dataguide.specs.Types.{Node, GuideNode}
-use Rattle.dataguide.specs.Guides.{GuideGraph, HasSet}
+use Rattle.dataguide.specs.Guides.{GuideGraph, HasSet, sets_of}
 use Rattle.dataguide.proofs.TableLaws.{one-node}
 use Rattle.dataguide.proofs.data_guide.Guide.find_set.Goals as goal
 
@@ -17,4 +17,9 @@ returns-clause-only c =
     c.find_node.ensures.found in
     subst (λ (g : GuideGraph). IfSome c.find_node.result (λ node. (other : Node)
     → HasSet g.nodes other set → other ≡ node)) c.self.view_is
-    (one-node c.self.inside.by_hash c.self.inside.nodes.items set c.find_node.result c.self.invariant has)
+    (one-node c.self.inside.by_hash.items c.self.inside.nodes.items set c.find_node.result c.self.invariant has)
+
+pub returns-clause-none : goal.returns-clause-none
+returns-clause-none c =
+    subst (λ (l : List GuideNode). IfNone c.find_node.result (¬ Contains (sets_of l) c.args.set.now))
+    (c.as_slice.ensures.value ∙ ap (λ (g : GuideGraph). g.nodes) c.self.view_is) c.find_node.ensures.none

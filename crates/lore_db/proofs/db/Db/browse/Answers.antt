@@ -15,7 +15,7 @@ returns-then-is_none-clause-refused c =
     let is = c.name.ensures ∙ ap (λ (g : OemGraph). object_of g.names path.start) c.graph.ensures.graph
     ∙ ap (λ (d : Database). object_of d.graph.names path.start) c.self.view_is in
     browse_told db path.start path.labels
-    (unbound_by db.graph.names path.start c.name.result c.is_none.result valid.well_formed.ordered.names_ascend is c.is_none.ensures c.if-is_none.true)
+    (unbound_by db.graph.names path.start c.name.result c.is_none.result valid.restorable.rooted.well_formed.ordered.names_ascend is c.is_none.ensures c.if-is_none.true)
 
 pub returns-clause-ok : goal.returns-clause-ok
 returns-clause-ok c =

@@ -12,7 +12,7 @@ returns-in_err-restore-clause-refused g c =
     let fault = c.in_err-restore.field-0.0 in
     let new = c.is_new.ensures.0 c.if-not-is_new.false in
     told_on (Cause db (restore text)) cause_order c.from_residual-in_err-restore.result (restore_refusal fault) c.from_residual-in_err-restore.ensures.1
-    (restore_told db text new c.in_ok-restored.restored c.in_ok-restored.ensures.restored fault c.in_err-restore.ensures.nodes)
+    (restore_told db text new c.in_ok-restored.restored c.in_ok-restored.ensures.restored fault c.in_err-restore.ensures.cause)
 
 pub returns-clause-ok : goal.returns-clause-ok
 returns-clause-ok g c =
@@ -20,4 +20,4 @@ returns-clause-ok g c =
     let text = c.args.text.now in
     let new = c.is_new.ensures.0 c.if-not-is_new.false in
     restored_executes db text new c.in_ok-restored.restored c.in_ok-restored.ensures.restored c.restore.new.self.db c.counts.result
-    c.in_ok-restore.ensures.ok c.in_ok-restore.ensures.few c.counts.ensures
+    c.in_ok-restore.ensures.ok c.in_ok-restore.ensures.valid c.counts.ensures

@@ -6,6 +6,7 @@ use Rattle.lore_base.specs.Names.{object_of}
 use Rattle.lore_base.specs.Databases.{OemGraph, Database, IsValid}
 use Rattle.guide_query.specs.PathLines.{AreSampleLines}
 use Rattle.lore_store.specs.Stores.{IsGuided}
+use Rattle.lore_db.specs.Types.{SAMPLE}
 use Rattle.lore_db.specs.Forms.{IsBetween}
 use Rattle.lore_db.proofs.NamingLaws.{unbound_by, bound_by}
 use Rattle.lore_db.proofs.PathStatementLaws.{sample_unbound, sample_outside, sample_clear, sampled}
@@ -19,7 +20,7 @@ returns-then-is_none-clause-refused c =
     let is = c.name.ensures ∙ ap (λ (g : OemGraph). object_of g.names path.start) c.graph-graph.ensures.graph
     ∙ ap (λ (d : Database). object_of d.graph.names path.start) c.self.view_is in
     sample_unbound db path.start path.labels c.args.count
-    (unbound_by db.graph.names path.start c.name.result c.is_none.result valid.well_formed.ordered.names_ascend is c.is_none.ensures c.if-is_none.true)
+    (unbound_by db.graph.names path.start c.name.result c.is_none.result valid.restorable.rooted.well_formed.ordered.names_ascend is c.is_none.ensures c.if-is_none.true)
 
 pub returns-in_default-clause-refused : goal.returns-in_default-clause-refused
 returns-in_default-clause-refused c =
@@ -29,7 +30,7 @@ returns-in_default-clause-refused c =
     ∙ ap (λ (d : Database). object_of d.graph.names path.start) c.self.view_is in
     let bound = bound_by db.graph.names path.start c.name.result c.is_none.result is c.is_none.ensures c.if-is_none.false in
     let same = to_z-of_z w64 c.args.count c.ranges.count in
-    let outside = subst (λ (n : ℤ). IsBetween 1 100000 n → ⊥) same c.in_default.ensures.none in
+    let outside = subst (λ (n : ℤ). IsBetween 1 SAMPLE n → ⊥) same c.in_default.ensures.none in
     sample_outside db path.start path.labels c.args.count bound outside
 
 pub returns-clause-ok : goal.returns-clause-ok

@@ -14,15 +14,15 @@ commit-requires-clause-leads c =
     let same = first ∙ second in
     let edges = ap (λ (g : OemGraph). length g.edges) same in
     record {
-      ordered = subst (λ (g : OemGraph). IsOrdered g) (sym same) c.requires.leads.valid.well_formed.ordered;
-      few_edges = omega (arith, edges, c.requires.leads.valid.few_edges);
+      ordered = subst (λ (g : OemGraph). IsOrdered g) (sym same) c.requires.leads.valid.restorable.rooted.well_formed.ordered;
+      few_edges = omega (arith, edges, c.requires.leads.valid.restorable.few_edges);
     }
 
 pub commit-requires-2-clause-fits : goal.commit-requires-2-clause-fits
 commit-requires-2-clause-fits c =
     let leads = leads_inside _ _ _ _ c.self.view_is c.prepared.view_is c.requires.leads in
     fits_indexes c.self.inside.graph.graph (graph_then c.self.inside.graph.graph c.prepared.inside.graph) c.self.inside.indexes c.prepared.inside.indexes
-    c.self.invariant.indexes leads.indexes (rooted_graph _ leads.valid) leads.valid.few_edges
+    c.self.invariant.indexes leads.indexes (rooted_graph _ leads.valid) leads.valid.restorable.few_edges
 
 pub invariant_of-self : goal.invariant_of-self
 invariant_of-self c =

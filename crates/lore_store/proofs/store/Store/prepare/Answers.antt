@@ -60,7 +60,7 @@ returns-clause-leads g c =
     let after = subst (λ (store : RoomyDatabase). IsGraphAfter store.db.graph changes (graph_then store.db.graph plan.graph)) c.self.view_is c.in_ok-graph.ensures.after in
     let labels = c.in_ok-labels.ensures.come ∙ ap (λ (store : RoomyDatabase). first_uses store.db.labels changes.labels) c.self.view_is in
     record {
-      valid = leads_valid c.args.self.now.db changes valid c.requires.fits plan labels after c.in_ok-check_sizes.ensures.ok c.in_ok-guide.ensures.few;
+      valid = leads_valid c.args.self.now.db changes valid c.requires.fits plan labels after c.in_ok-check_sizes.ensures.ok c.in_ok-guide.ensures.fits;
       labels = subst (λ (store : RoomyDatabase). LeadsFrom store.db.labels plan.labels) c.self.view_is c.in_ok-labels.ensures.leads;
       indexes = subst (λ (store : RoomyDatabase). AreIndexed store.db.graph (graph_then store.db.graph plan.graph) plan.indexes) c.self.view_is c.in_ok-indexes.ensures;
       guided = c.in_ok-guide.ensures.guided;
@@ -72,7 +72,7 @@ returns-clause-ok g c =
     let changes = c.args.changes.now in
     let plan = c.in_ok-graph.graph in
     let after = subst (λ (store : RoomyDatabase). IsGraphAfter store.db.graph changes (graph_then store.db.graph plan)) c.self.view_is c.in_ok-graph.ensures.after in
-    sized_clear db changes (graph_then db.graph plan) after c.in_ok-check_sizes.ensures.ok c.in_ok-guide.ensures.few
+    sized_clear db changes (graph_then db.graph plan) after c.in_ok-check_sizes.ensures.ok c.in_ok-guide.ensures.fits
 
 pub returns-in_err-guide-clause-err : goal.returns-in_err-guide-clause-err
 returns-in_err-guide-clause-err g c =

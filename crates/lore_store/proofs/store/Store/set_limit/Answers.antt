@@ -21,7 +21,7 @@ returns-then-limit-lt1-clause-told c = (
 pub invariant_of-self : goal.invariant_of-self
 invariant_of-self c =
     let db = database_of c.self.inside.labels c.self.inside.graph.graph c.self.inside.limit c.self.inside.mode in
-    let is = is_limit db c.self.inside.guide c.self.invariant.guided c.args.limit (omega (arith, c.if-limit-lt1.false))
+    let is = is_limit db c.self.inside.guide c.self.invariant.guided c.args.limit c.self.invariant.valid (omega (arith, c.if-limit-lt1.false))
     (omega (arith, c.if-limit-gt-NODES.false)) (λ above. omega (arith, above, c.len.ensures, c.if-limit-len.false)) in
     record {
       valid = valid_limited db c.self.invariant.valid c.args.limit is;
@@ -32,6 +32,6 @@ invariant_of-self c =
 pub returns-clause-told : goal.returns-clause-told
 returns-clause-told c =
     let db = database_of c.self.inside.labels c.self.inside.graph.graph c.self.inside.limit c.self.inside.mode in
-    let is = is_limit db c.self.inside.guide c.self.invariant.guided c.args.limit (omega (arith, c.if-limit-lt1.false))
+    let is = is_limit db c.self.inside.guide c.self.invariant.guided c.args.limit c.self.invariant.valid (omega (arith, c.if-limit-lt1.false))
     (omega (arith, c.if-limit-gt-NODES.false)) (λ above. omega (arith, above, c.len.ensures, c.if-limit-len.false)) in
     (λ told. subst (λ (s : RoomyDatabase). IsLimit s.db c.args.limit) c.self.view_is is, λ limit. refl)

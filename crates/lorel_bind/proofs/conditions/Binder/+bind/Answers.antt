@@ -1,6 +1,6 @@
 use Rattle.std.proofs.Common.{◌∙◌, length, map, sym, ap, subst, IfOk, refl}
 use Rattle.lorel_trees.specs.Trees.{cond_tree}
-use Rattle.lorel_bind.specs.Bound.{bound_cond, bound_conds}
+use Rattle.lorel_bound.specs.Bound.{bound_cond, bound_conds}
 use Rattle.lorel_ranges.specs.Views.{texts}
 use Rattle.lorel_bind.specs.inside.Binders.{BindsCond}
 use Rattle.lorel_bind.proofs.SlotLaws.{pairs_read, pairs_of_first, all_pairs_read}

@@ -2,7 +2,7 @@ use Rattle.std.proofs.Common.{◌+◌, ◌≤◌, length, map, take, drop}
 use Rattle.std.specs.List.{AllZip}
 use Rattle.lorel_trees.specs.Trees.{cond_tree, conds_from}
 use Rattle.lorel_bind.specs.Types.{NESTING}
-use Rattle.lorel_bind.specs.Bound.{bound_conds}
+use Rattle.lorel_bound.specs.Bound.{bound_conds}
 use Rattle.lorel_ranges.specs.Texts.{depth_of_all}
 use Rattle.lorel_bind.specs.inside.Binders.{BindsCond}
 use Rattle.lorel_bind.proofs.conditions.Binder.+bind.Given as goal

@@ -1,4 +1,4 @@
-use Rattle.lorel_bind.specs.Bound.{range_tree}
+use Rattle.lorel_bound.specs.Bound.{range_tree}
 use Rattle.lorel_ranges.specs.Views.{range_of, ranges_of}
 use Rattle.lorel_bind.specs.inside.Slots.{BindsRange}
 use Rattle.lorel_bind.proofs.SlotLaws.{pairs_read, all_pairs_read, pairs_made}

@@ -1,6 +1,6 @@
 use Rattle.std.proofs.Common.{take}
 use Rattle.std.specs.List.{AllZip}
-use Rattle.lorel_bind.specs.Bound.{range_tree}
+use Rattle.lorel_bound.specs.Bound.{range_tree}
 use Rattle.lorel_ranges.specs.Views.{range_of, ranges_of}
 use Rattle.lorel_bind.specs.inside.Slots.{BindsRange}
 use Rattle.lorel_bind.proofs.slots.Slots.ranges.Given as goal

@@ -1,7 +1,7 @@
 use Rattle.std.proofs.Common.{◌↔◌, IsTrue, IfOk, ap, subst, option_map}
 use Rattle.std.specs.Option.{option_copied}
-use Rattle.lorel_bind.specs.Bound.{bound_cond}
-use Rattle.lorel_bind.specs.SlotRows.{HoldsOver}
+use Rattle.lorel_bound.specs.Bound.{bound_cond}
+use Rattle.lorel_bound.specs.SlotRows.{HoldsOver}
 use Rattle.lorel_eval.specs.Tests.{CondOver}
 use Rattle.lorel_eval.specs.inside.Ready.{ready_tree}
 use Rattle.lorel_eval.proofs.TestLaws.{stands_for, tells_by}

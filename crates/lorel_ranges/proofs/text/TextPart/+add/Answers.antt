@@ -3,7 +3,8 @@ use Rattle.std.proofs.lemmas.Result.{on_ok_weaker}
 use Rattle.lorel_trees.specs.declared.conditions.Cond.{Cond}
 use Rattle.lorel_trees.specs.Trees.{rooted_tree, cond_tree}
 use Rattle.lorel_ranges.specs.Places.{quantified, place_of}
-use Rattle.lorel_ranges.specs.Conditions.{cond_in, paths_of}
+use Rattle.lorel_ranges.specs.Conditions.{cond_in}
+use Rattle.lorel_bound.specs.Conditions.{paths_of}
 use Rattle.lorel_ranges.specs.Texts.{quantifier_variables}
 use Rattle.lorel_ranges.specs.Scopes.{enclosed}
 use Rattle.lorel_ranges.specs.Views.{place_tree, texts}

@@ -3,7 +3,8 @@ use Rattle.lorel_trees.specs.Trees.{cond_tree, conds_from}
 use Rattle.lorel_ranges.specs.Types.{NESTING}
 use Rattle.lorel_ranges.specs.Texts.{depth_of_all, all_quantifier_variables}
 use Rattle.lorel_ranges.specs.Places.{Scope}
-use Rattle.lorel_ranges.specs.Conditions.{conds_in, paths_of_all}
+use Rattle.lorel_ranges.specs.Conditions.{conds_in}
+use Rattle.lorel_bound.specs.Conditions.{paths_of_all}
 use Rattle.lorel_ranges.specs.Scopes.{enclosed, IsScope, names_of}
 use Rattle.lorel_ranges.specs.Views.{place_trees, texts}
 use Rattle.lorel_ranges.proofs.text.TextPart.+add.Given as goal

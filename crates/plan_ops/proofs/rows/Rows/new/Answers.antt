@@ -1,7 +1,7 @@
 use Rattle.std.proofs.Common.{List, map, All, sym, ap, ◌∙◌, subst}
-use Rattle.lorel_bind.specs.Bound.{bound_tree}
-use Rattle.lorel_bind.specs.declared.plans.PlanStep.{PlanStep}
-use Rattle.lorel_bind.specs.Plans.{step_tree, steps_of}
+use Rattle.lorel_bound.specs.Bound.{bound_tree}
+use Rattle.lorel_bound.specs.declared.plans.PlanStep.{PlanStep}
+use Rattle.lorel_bound.specs.Plans.{step_tree, steps_of}
 use Rattle.plan_ops.specs.Steps.{steps_over}
 use Rattle.plan_ops.specs.inside.Ready.{CanBeReady}
 use Rattle.plan_ops.proofs.ReadyLaws.{steps_can, first_of, first_machine}

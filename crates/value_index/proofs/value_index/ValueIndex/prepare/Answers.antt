@@ -1,9 +1,12 @@
 use Rattle.std.proofs.Common.{◌≢◌, All, List, sym, subst, ap}
 use Rattle.value_index.specs.Types.{ValueEntry, Complex}
+use Rattle.value_index.specs.inside.Orders.{orders_of}
 use Rattle.value_index.proofs.ChangeLaws.{atomic_gone}
 use Rattle.value_index.proofs.value_index.ValueIndex.prepare.Goals as goal
 
 pub of-requires-clause-atomic : goal.of-requires-clause-atomic
 of-requires-clause-atomic c =
+    let kept = orders_of c.self.inside.wholes.items c.self.inside.chars.items c.self.inside.flags.items c.self.inside.readings.items
+    c.self.inside.flag_readings.items in
     subst (λ (l : List ValueEntry). All (λ entry. entry.value ≢ Complex) l) (sym c.as_slice.ensures)
-    (atomic_gone c.self.inside.wholes.items c.self.inside.chars.items _ _ (ap (λ v. v.entries) c.self.view_is) c.requires.fits.change.kept_ones)
+    (atomic_gone kept _ _ (ap (λ v. v.entries) c.self.view_is) c.requires.fits.change.kept_ones)

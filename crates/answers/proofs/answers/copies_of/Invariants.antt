@@ -1,5 +1,0 @@
-use Rattle.std.proofs.Common.{◌≡◌, ◌++◌, drop}
-use Rattle.answers.proofs.answers.copies_of.Given as goal
-
-abbrev pub invariant-rows : goal.invariant-rows
-invariant-rows l = l.copies.items ++ drop l.row-index l.rows ≡ l.rows

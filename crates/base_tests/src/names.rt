@@ -1,0 +1,62 @@
+use lore_base::{Delta, Names, NoMemory, OemText, Oid};
+use std::alloc::Global;
+use std::test::Fail;
+
+// Names, put in another order than that of their bytes, and one bound twice.
+const BOUND: [(&str, u32); 5] = [
+    ("Movies", 3),
+    ("Guide", 9),
+    ("Home", 2),
+    ("GUIDE", 4),
+    ("Guide", 1),
+];
+
+fn names(alloc: Global) -> Result<Names, NoMemory> {
+    let mut names = Names::new(alloc);
+    for (name, object) in BOUND {
+        names.put(OemText::from_bytes(alloc, name.as_bytes())?, Oid(object))?;
+    }
+    Ok(names)
+}
+
+// Whether the name with this object stands at the place; none where the name is empty.
+fn is_at(names: &Names, place: usize, name: &str, object: u32) -> bool {
+    match names.get(place) {
+        Some((text, oid)) => text.as_bytes() == name.as_bytes() && oid.0 == object,
+        None => name.is_empty(),
+    }
+}
+
+#[test]
+fn names_are_told_in_the_order_of_their_bytes(rt: HostRuntime) -> Result<(), Fail> {
+    let names = names(rt.alloc())?;
+    for (place, name, object) in [
+        (0, "GUIDE", 4),
+        (1, "Guide", 1),
+        (2, "Home", 2),
+        (3, "Movies", 3),
+        (4, "", 0),
+        (usize::MAX, "", 0),
+    ] {
+        assert!(rt; is_at(&names, place, name, object));
+    }
+    Ok(())
+}
+
+// How many names, objects and edges go, and how many come.
+fn counts(delta: &Delta) -> [usize; 6] {
+    [
+        delta.names_gone.len(),
+        delta.names_come.len(),
+        delta.objects_gone.len(),
+        delta.objects_come.len(),
+        delta.edges_gone.len(),
+        delta.edges_come.len(),
+    ]
+}
+
+#[test]
+fn a_new_delta_has_nothing(rt: HostRuntime) -> Result<(), Fail> {
+    assert_eq!(rt; counts(&Delta::new(rt.alloc())), [0; 6]);
+    Ok(())
+}

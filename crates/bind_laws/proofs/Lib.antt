@@ -1,0 +1,13 @@
+pub mod ReachedLaws
+pub mod LeastWordLaws
+pub mod ConditionLaws
+pub mod LeadLaws
+pub mod ValuationLaws
+pub mod RowLaws
+pub mod AnswerLaws
+pub mod SomeAnswerLaws
+pub mod RefusalLaws
+pub mod FusedRowLaws
+pub mod CellLaws
+pub mod SlotRowLaws
+pub mod BindingLaws

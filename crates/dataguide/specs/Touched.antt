@@ -1,0 +1,49 @@
+-- Which target sets a change touches, and what is read of the graph after it.
+use Rattle.std.specs.Prelude.{◌≡◌, ◌≢◌, ◌↔◌, ◌⊎◌, ℕ, ◌+◌, ◌≤◌, List, length, sum_by, All, AllPairs, Contains}
+use Rattle.lore_base.specs.TargetSets.{IsLedTo}
+use Rattle.dataguide.specs.Types.{Oid, Edge}
+use Rattle.dataguide.specs.ReadCosts.{reads_of}
+
+-- the graphs differ at most in edges that leave these objects
+abbrev pub DifferWithin : List Edge → List Edge → List Oid → Type 0
+DifferWithin before after dirty =
+    (edge : Edge) → (¬ Contains dirty edge.parent) → Contains before edge ↔ Contains after edge
+
+-- some object is in both
+abbrev pub Meet : List Oid → List Oid → Type 0
+Meet set other = (oid : Oid) × Contains set oid × Contains other oid
+
+-- the set has to be read: no node had it, or it has a dirty member
+abbrev pub IsTouched : List (List Oid) → List Oid → List Oid → Type 0
+IsTouched kept dirty set = (¬ Contains kept set) ⊎ Meet set dirty
+
+-- those of the sets that are touched, each once
+pub record AreTouched (kept : List (List Oid)) (dirty : List Oid) (sets touched : List (List Oid))
+    : Type 0 where
+  pub apart : AllPairs (λ a b. a ≢ b) touched
+  pub exact : (set : List Oid) → Contains touched set ↔ (Contains sets set × IsTouched kept dirty set)
+
+-- the steps that were counted are those of reading the touched ones among the sets, each once
+pub record ReadsTouched (kept : List (List Oid)) (dirty : List Oid) (edges : List Edge)
+    (sets : List (List Oid)) (before now : ℕ) : Type 0 where
+  pub touched : List (List Oid)
+  pub are : AreTouched kept dirty sets touched
+  pub counted : now ≡ before + sum_by (reads_of edges) touched
+
+-- the steps that were counted are those of reading some touched sets that label paths lead to, at most as many
+-- as the limit, each once
+pub record ReadsSome (kept : List (List Oid)) (dirty : List Oid) (limit : ℕ) (names : List (List ℕ × Oid))
+    (edges : List Edge) (before now : ℕ) : Type 0 where
+  pub sets : List (List Oid)
+  pub apart : AllPairs (λ a b. a ≢ b) sets
+  pub led : All (IsLedTo names edges) sets
+  pub few : length sets ≤ limit
+  pub touched : All (IsTouched kept dirty) sets
+  pub counted : now ≡ before + sum_by (reads_of edges) sets
+
+-- no more steps than those of reading each touched set that label paths lead to, whatever list has these
+abbrev pub ReadsWithin : List (List Oid) → List Oid → List (List ℕ × Oid) → List Edge → ℕ → ℕ → Type 0
+ReadsWithin kept dirty names edges before now =
+    (all : List (List Oid))
+    → ((set : List Oid) → IsLedTo names edges set → IsTouched kept dirty set → Contains all set)
+    → now ≤ before + sum_by (reads_of edges) all

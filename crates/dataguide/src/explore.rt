@@ -1,0 +1,229 @@
+ghost use Rattle.std.specs.Prelude.{◌≡◌, ◌+◌, ◌<◌, List, [], ◌∷◌, length, map, All};
+ghost use Rattle.std.specs.Prelude.{Some, slice_get, IfOk, IfErr, OnOk};
+ghost use Rattle.lore_base.specs.Names.{IsNameTable};
+ghost use Rattle.lore_base.specs.GuideLimits.{KeepLimits};
+ghost use Rattle.dataguide.specs.Types.{Oid as TheOid, GuideNode as TheGuideNode, Kept, Fresh};
+ghost use Rattle.dataguide.specs.ReadCosts.{reads_of};
+ghost use Rattle.dataguide.specs.Guides.{sets_of};
+ghost use Rattle.dataguide.specs.Deltas.{StoodFor, IsOrigin, origin_set};
+ghost use Rattle.dataguide.specs.inside.Arcs.{AreSteps};
+ghost use Rattle.dataguide.specs.inside.Trails.{IsExpanded};
+ghost use Rattle.dataguide.specs.inside.Founds.{IsFound, found_nodes, found_sets, steps_of};
+ghost use Rattle.dataguide.specs.inside.Founds.{Costs, IsHalted};
+
+use crate::arcs::Reader;
+use crate::data_guide::Guide;
+use crate::faults::GuideFault;
+use crate::found::{Found, enter_all};
+use crate::groups::group_arcs;
+use crate::nodes::{GuideNode, Node};
+use crate::planned_nodes::Origin;
+use index_traits::Adjacent;
+use lore_base::{Label, Names, NoMemory, OemText, Oid, OidBuf, Steps};
+use oem_set::OidSet;
+use std::alloc::Global;
+use std::sync::ledger::Ledger;
+
+// A graph, and the guide that stood before the edges of the dirty objects changed.
+#[derive(Drop)]
+pub(crate) struct Change<'a, A> {
+    pub(crate) guide: &'a Guide,
+    pub(crate) dirty: &'a OidSet,
+    pub(crate) after: &'a A,
+}
+
+// The sets as targets that no node is known to have.
+fn fresh_targets(alloc: Global, row: Vec<(Label, OidSet)>) -> Result<Vec<(Label, Origin)>, NoMemory>
+    ensures { IfOk result
+        (λ targets. targets.items ≡ map (λ step. (step.0, Fresh step.1)) row.items) }
+{
+    let mut targets = Vec::with_capacity(alloc, row.len())?;
+    'row: for (label, set) in row {
+        targets.push((label, Origin::Fresh(set)))?;
+    }
+    Ok(targets)
+}
+
+// The nodes that the edges lead to as targets.
+fn kept_targets(alloc: Global, edges: &[(Label, Node)]) -> Result<Vec<(Label, Origin)>, NoMemory>
+    ensures { IfOk result
+        (λ targets. targets.items ≡ map (λ edge. (edge.0, Kept edge.1)) edges.now) }
+{
+    let mut targets = Vec::with_capacity(alloc, edges.len())?;
+    'edges: for edge in edges {
+        targets.push((edge.0, Origin::Kept(edge.1)))?;
+    }
+    Ok(targets)
+}
+
+// The objects of names, each alone, as targets.
+pub(crate) fn name_targets(alloc: Global, names: &Names) -> Result<Vec<(OemText, Origin)>, NoMemory>
+    ensures targets { IfOk result (λ targets. targets.items
+        ≡ map (λ named. (named.0, Fresh (named.1 ∷ []))) names.now) }
+    ensures table { IsNameTable names.now }
+{
+    let mut targets = Vec::with_capacity(alloc, names.len())?;
+    let objects = names.objects()?;
+    let oids = objects.as_slice();
+    let texts = names.texts()?;
+    'names: for text in texts.into_items() {
+        let oid = oids[targets.len()];
+        let mut alone = OidBuf::with_capacity(alloc, 1)?;
+        alone.push(oid)?;
+        targets.push((text, Origin::Fresh(OidSet::from_ascending(alone))))?;
+    }
+    Ok(targets)
+}
+
+// The steps of a set, read from the graph.
+fn read_steps<A: Adjacent, L: Ledger>(
+    alloc: Global,
+    reader: &mut Reader,
+    graph: &A,
+    set: &OidSet,
+    steps: &mut Steps<L>,
+) -> Result<Vec<(Label, OidSet)>, NoMemory>
+    ensures are { IfOk result (λ row. AreSteps (A.edges graph.now) set.now row.items) }
+    ensures steps { OnOk result (steps.new ≡ steps.old + reads_of (A.edges graph.now) set.now) }
+{
+    reader.read(graph, set, steps)?;
+    let row = group_arcs(alloc, reader.arcs.as_slice())?;
+    Ok(row)
+}
+
+// The targets of a set, read from the graph.
+fn read_targets<A: Adjacent, L: Ledger>(
+    alloc: Global,
+    reader: &mut Reader,
+    graph: &A,
+    set: &OidSet,
+    steps: &mut Steps<L>,
+) -> Result<Vec<(Label, Origin)>, NoMemory>
+    ensures steps { IfOk result (λ targets. (kept : List TheGuideNode)
+        → AreSteps (A.edges graph.now) set.now (steps_of kept targets.items)) }
+    ensures there { IfOk result (λ targets. (kept : List TheGuideNode)
+        → All (λ target. IsOrigin kept target.1) targets.items) }
+    ensures reads { OnOk result (steps.new ≡ steps.old + reads_of (A.edges graph.now) set.now) }
+{
+    let row = read_steps(alloc, reader, graph, set, steps)?;
+    let targets = fresh_targets(alloc, row)?;
+    Ok(targets)
+}
+
+// The node of the guide before.
+fn node_of(guide: &Guide, node: Node) -> &GuideNode
+    requires { node.0 < length guide.now.nodes }
+    ensures { slice_get guide.now.nodes node.0 ≡ Some result.now }
+{
+    &guide.nodes()[node.0 as usize]
+}
+
+// Where the set of the found node at a place is from.
+fn origin_at(found: &Found, place: usize) -> &Origin
+    requires { place < length found.now.nodes.items }
+    ensures { slice_get (map (λ planned. planned.origin) found.now.nodes.items) place
+        ≡ Some result.now }
+{
+    &found.nodes[place].origin
+}
+
+// The targets of a node before: by its edges where its set holds no dirty object, and else read.
+fn kept_or_read<A: Adjacent, L: Ledger>(
+    alloc: Global,
+    reader: &mut Reader,
+    change: &Change<A>,
+    node: Node,
+    steps: &mut Steps<L>,
+) -> Result<Vec<(Label, Origin)>, NoMemory>
+    requires stood { StoodFor change.now.guide.now change.now.dirty.now
+        (A.edges change.now.after.now) }
+    requires there { node.0 < length change.now.guide.now.nodes }
+    ensures steps { IfOk result (λ targets. AreSteps (A.edges change.now.after.now)
+        (origin_set change.now.guide.now.nodes (Kept node))
+        (steps_of change.now.guide.now.nodes targets.items)) }
+    ensures there { IfOk result (λ targets.
+        All (λ target. IsOrigin change.now.guide.now.nodes target.1) targets.items) }
+    ensures reads { OnOk result (Costs (sets_of change.now.guide.now.nodes) change.now.dirty.now
+        (A.edges change.now.after.now) (origin_set change.now.guide.now.nodes (Kept node))
+        steps.old steps.new) }
+{
+    let there = node_of(change.guide, node);
+    if there.set.meets(change.dirty) {
+        let targets = read_targets(alloc, reader, change.after, &there.set, steps)?;
+        return Ok(targets);
+    }
+    let targets = kept_targets(alloc, there.edges.as_slice())?;
+    Ok(targets)
+}
+
+// The targets of the node at a place: those of the guide before where its set was a node's and
+// holds no dirty object, and else read from the graph.
+fn targets_at<A: Adjacent, L: Ledger>(
+    alloc: Global,
+    found: &Found,
+    place: usize,
+    change: &Change<A>,
+    reader: &mut Reader,
+    steps: &mut Steps<L>,
+) -> Result<Vec<(Label, Origin)>, NoMemory>
+    requires stood { StoodFor change.now.guide.now change.now.dirty.now
+        (A.edges change.now.after.now) }
+    requires found { IsFound change.now.guide.now.nodes found.now }
+    requires place { place < length found.now.nodes.items }
+    ensures steps { IfOk result (λ targets. (set : List TheOid)
+        → slice_get (found_sets change.now.guide.now.nodes found.now) place ≡ Some set
+        → AreSteps (A.edges change.now.after.now) set
+        (steps_of change.now.guide.now.nodes targets.items)) }
+    ensures there { IfOk result (λ targets.
+        All (λ target. IsOrigin change.now.guide.now.nodes target.1) targets.items) }
+    ensures reads { OnOk result ((set : List TheOid)
+        → slice_get (found_sets change.now.guide.now.nodes found.now) place ≡ Some set
+        → Costs (sets_of change.now.guide.now.nodes) change.now.dirty.now
+        (A.edges change.now.after.now) set steps.old steps.new) }
+{
+    match origin_at(found, place) {
+        Origin::Fresh(set) => {
+            let targets = read_targets(alloc, reader, change.after, set, steps)?;
+            return Ok(targets);
+        }
+        Origin::Kept(node) => {
+            let targets = kept_or_read(alloc, reader, change, *node, steps)?;
+            return Ok(targets);
+        }
+    }
+}
+
+// Enters the sets that the node at a place leads to, and gives the node its edges.
+pub(crate) fn expand<A: Adjacent, L: Ledger>(
+    alloc: Global,
+    found: &mut Found,
+    place: usize,
+    change: &Change<A>,
+    reader: &mut Reader,
+    limit: u32,
+    steps: &mut Steps<L>,
+) -> Result<(), GuideFault>
+    requires stood { StoodFor change.now.guide.now change.now.dirty.now
+        (A.edges change.now.after.now) }
+    requires found { IsFound change.now.guide.now.nodes found.old }
+    requires fit { KeepLimits limit (found_sets change.now.guide.now.nodes found.old) }
+    requires place { place < length found.old.nodes.items }
+    ensures found { OnOk result (IsFound change.now.guide.now.nodes found.new) }
+    ensures fit { OnOk result
+        (KeepLimits limit (found_sets change.now.guide.now.nodes found.new)) }
+    ensures expanded { OnOk result (IsExpanded (A.edges change.now.after.now)
+        (found_nodes change.now.guide.now.nodes found.old) place
+        (found_nodes change.now.guide.now.nodes found.new)) }
+    ensures reads { OnOk result ((set : List TheOid)
+        → slice_get (found_sets change.now.guide.now.nodes found.old) place ≡ Some set
+        → Costs (sets_of change.now.guide.now.nodes) change.now.dirty.now
+        (A.edges change.now.after.now) set steps.old steps.new) }
+    ensures halted { IfErr result (λ fault. IsHalted fault limit (A.edges change.now.after.now)
+        (sets_of change.now.guide.now.nodes) change.now.dirty.now
+        (found_sets change.now.guide.now.nodes found.old) place steps.old steps.new) }
+{
+    let targets = targets_at(alloc, found, place, change, reader, steps)?;
+    let row = enter_all(alloc, found, change.guide, targets, limit)?;
+    found.put_edges(change.guide, place, row);
+    Ok(())
+}

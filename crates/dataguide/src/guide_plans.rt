@@ -1,0 +1,110 @@
+ghost use Rattle.std.specs.Prelude.{◌≡◌, ◌+◌, sum_by, IfOk, IfErr};
+ghost use Rattle.lore_base.specs.PathOrder.{AreInPathOrder};
+ghost use Rattle.lore_base.specs.GuideLimits.{FitsGuide};
+ghost use Rattle.dataguide.specs.Types.faults;
+ghost use Rattle.dataguide.specs.ReadCosts.{ReadsAtMost, reads_of};
+ghost use Rattle.dataguide.specs.Touched.{ReadsTouched, ReadsSome};
+ghost use Rattle.dataguide.specs.Guides.{StandsFor, sets_of};
+ghost use Rattle.dataguide.specs.Deltas.{guide_then, nodes_then, IsReady, StoodFor};
+ghost use Rattle.dataguide.specs.GuideCauses.{GuideCause};
+
+use crate::arcs::Reader;
+use crate::data_guide::Guide;
+use crate::delta::GuideDelta;
+use crate::entries::Entries;
+use crate::explore::{Change, expand, name_targets};
+use crate::faults::GuideFault;
+use crate::found::{Found, enter_all};
+use index_traits::Adjacent;
+use lore_base::{Names, OidBuf, Steps};
+use oem_set::OidSet;
+use std::alloc::Global;
+use std::sync::ledger::Ledger;
+
+impl Guide {
+    /// The guide of a graph from its names on, found breadth first: sets by their least label
+    /// paths.
+    ///
+    /// `Nodes` and `Cells` exactly where the first set that passes a limit passes this one. The
+    /// edges of a set are read once, also where the answer is a refusal; then at most as many sets
+    /// as the limit were read.
+    pub fn build<A: Adjacent, L: Ledger>(
+        alloc: Global,
+        graph: &A,
+        names: &Names,
+        limit: u32,
+        steps: &mut Steps<L>,
+    ) -> Result<Guide, GuideFault>
+        ensures guide { IfOk result (λ guide. StandsFor guide names.now (A.edges graph.now)) }
+        ensures order { IfOk result
+            (λ guide. AreInPathOrder names.now (A.edges graph.now) (sets_of guide.nodes)) }
+        ensures fits { IfOk result (λ _. FitsGuide limit names.now (A.edges graph.now)) }
+        ensures steps { IfOk result (λ guide. steps.new
+            ≡ steps.old + sum_by (reads_of (A.edges graph.now)) (sets_of guide.nodes)) }
+        ensures cause { IfErr result
+            (λ fault. GuideCause limit names.now (A.edges graph.now) fault) }
+        ensures reads { IfErr result (λ fault. (fault ≡ faults.NoMemory → ⊥)
+            → ReadsAtMost limit names.now (A.edges graph.now) steps.old steps.new) }
+    {
+        let mut guide = Guide::new(alloc);
+        let none = OidSet::from_ascending(OidBuf::new(alloc));
+        let delta = guide.plan(graph, &none, names, limit, steps)?;
+        guide.commit(delta);
+        Ok(guide)
+    }
+
+    /// Plans the guide of the graph after a change, where this one stood before it, and the dirty
+    /// objects have all edges that differ. It is found as `build` finds it, and refused as there. A
+    /// set that was a node's and has no dirty member keeps its edges unread; every other set is
+    /// read once.
+    pub fn plan<A: Adjacent, L: Ledger>(
+        &self,
+        after: &A,
+        dirty: &OidSet,
+        names: &Names,
+        limit: u32,
+        steps: &mut Steps<L>,
+    ) -> Result<GuideDelta, GuideFault>
+        requires stood { StoodFor self.now dirty.now (A.edges after.now) }
+        ensures guide { IfOk result (λ delta.
+            StandsFor (guide_then self.now.nodes delta) names.now (A.edges after.now)) }
+        ensures order { IfOk result (λ delta. AreInPathOrder names.now (A.edges after.now)
+            (sets_of (nodes_then self.now.nodes delta.nodes))) }
+        ensures fits { IfOk result (λ _. FitsGuide limit names.now (A.edges after.now)) }
+        ensures ready { IfOk result (λ delta. IsReady self.now.nodes delta) }
+        ensures steps { IfOk result (λ delta. ReadsTouched (sets_of self.now.nodes) dirty.now
+            (A.edges after.now) (sets_of (nodes_then self.now.nodes delta.nodes))
+            steps.old steps.new) }
+        ensures cause { IfErr result
+            (λ fault. GuideCause limit names.now (A.edges after.now) fault) }
+        ensures reads { IfErr result (λ fault. (fault ≡ faults.NoMemory → ⊥)
+            → ReadsSome (sets_of self.now.nodes) dirty.now limit names.now (A.edges after.now)
+            steps.old steps.new) }
+    {
+        let alloc = self.allocator();
+        let mut found = Found::new(alloc, self)?;
+        let starts = name_targets(alloc, names)?;
+        let row = enter_all(alloc, &mut found, self, starts, limit)?;
+        let entries = row.into_items();
+        let change = Change {
+            guide: self,
+            dirty,
+            after,
+        };
+        let mut reader = Reader::new(alloc);
+        let mut next = 0;
+        'nodes: while next < found.nodes.len() {
+            expand(alloc, &mut found, next, &change, &mut reader, limit, steps)?;
+            next += 1;
+        }
+        let Found { nodes, .. } = found;
+        let room = Vec::with_capacity(alloc, nodes.len())?;
+        let by_hash = Vec::with_capacity(alloc, nodes.len())?;
+        Ok(GuideDelta {
+            nodes,
+            entries: Entries::of(entries),
+            room,
+            by_hash,
+        })
+    }
+}

@@ -1,5 +1,0 @@
-use Rattle.std.proofs.Common.{◌≡◌, ◌++◌, map, take}
-use Rattle.dump_text.proofs.reach.push_ends.Given as goal
-
-abbrev pub invariant-edges : goal.invariant-edges
-invariant-edges l = l.out.items ≡ l.fn.out.items ++ map (λ edge. (edge.child, l.met)) (take l.edge-index l.fn.edges)

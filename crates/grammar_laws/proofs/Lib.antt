@@ -1,0 +1,13 @@
+pub mod Derivations
+pub mod LongestLaws
+pub mod ReservedLaws
+pub mod PartLaws
+pub mod ChoiceLaws
+pub mod CanonPathLaws
+pub mod CanonCondLaws
+pub mod CanonStatementLaws
+pub mod NestingLaws
+pub mod PrintFormLaws
+pub mod UniquePathLaws
+pub mod UniqueCondLaws
+pub mod UniqueStatementLaws

@@ -1,0 +1,12 @@
+pub mod PrintingLaws
+pub mod PrintedText
+pub mod Laws
+pub mod Worked
+pub mod WorkedLoads
+pub mod WorkedUpdates
+pub mod WorkedPaths
+pub mod WorkedConditions
+pub mod WorkedSettings
+pub mod WorkedFlags
+pub mod WorkedHistory
+pub mod Nesting

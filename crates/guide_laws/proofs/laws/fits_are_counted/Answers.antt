@@ -1,0 +1,5 @@
+use Rattle.guide_laws.proofs.FitLaws.{fits_are_counted}
+use Rattle.guide_laws.proofs.laws.fits_are_counted.Goals as goal
+
+pub returns : goal.returns
+returns c = fits_are_counted

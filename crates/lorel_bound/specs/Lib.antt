@@ -1,0 +1,9 @@
+pub mod Types
+pub mod Conditions
+pub mod Holding
+pub mod Bound
+pub mod Runnable
+pub mod SlotRows
+pub mod Plans
+pub mod CellOrder
+pub mod Answers

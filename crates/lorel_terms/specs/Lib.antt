@@ -1,0 +1,9 @@
+pub mod Types
+pub mod Faults
+pub mod Outcomes
+pub mod Repetitions
+pub mod Names
+pub mod Literals
+pub mod Paths
+pub mod Conditions
+pub mod Selects

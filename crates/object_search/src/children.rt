@@ -1,0 +1,63 @@
+ghost use Rattle.std.specs.Prelude.{◌≡◌, ◌+◌, List, ◌++◌, map, OnOk};
+ghost use Rattle.graph_search.specs.Closures.{LeadsOn, Lists};
+ghost use Rattle.object_search.specs.Types.{Edge as TheEdge};
+ghost use Rattle.object_search.specs.inside.Searches.{HasMark, HasChild, same_oid};
+
+use crate::met::Met;
+use crate::out_arcs::OutArcs;
+use graph_search::{Counter, Space};
+use lore_base::{Edge, EdgeBuf, NoMemory, Oid};
+use std::alloc::Global;
+
+// Edges as a space to search: an object leads to its children.
+#[derive(Drop)]
+pub(crate) struct Children<'a, A> {
+    pub(crate) arcs: &'a A,
+    pub(crate) edges: EdgeBuf,
+}
+
+// Appends the children of the edges, under the mark.
+fn push_ends(edges: &[Edge], met: Met, out: &mut Vec<(Oid, Met)>) -> Result<(), NoMemory>
+    ensures { OnOk result
+        (out.new.items ≡ out.old.items ++ map (λ edge. (edge.child, met)) edges.now) }
+{
+    out.reserve(edges.len())?;
+    'edges: for edge in edges {
+        out.push((edge.child, met))?;
+    }
+    Ok(())
+}
+
+impl<'a, A: OutArcs<C>, C: Counter> Space<C> for Children<'a, A> {
+    type Node = Oid;
+
+    type Marks = Met;
+
+    ghost Seen = { List TheEdge };
+
+    ghost seen = { λ children. A.edges children.arcs.now };
+
+    ghost leads = { HasChild };
+
+    ghost cost = { λ edges place. A.cost edges place.0 };
+
+    fn push_next(
+        &mut self,
+        _alloc: Global,
+        place: (Oid, Met),
+        out: &mut Vec<(Oid, Met)>,
+        steps: &mut C,
+    ) -> Result<(), NoMemory>
+        ensures next { OnOk result (Lists HasMark (LeadsOn HasMark
+            (HasChild (A.edges self.old.arcs.now)) place) out.old.items out.new.items) }
+        ensures steps { OnOk result (C.count steps.new
+            ≡ C.count steps.old + A.cost (A.edges self.old.arcs.now) place.0) }
+        ensures same { A.edges self.new.arcs.now ≡ A.edges self.old.arcs.now }
+    {
+        self.edges.cut(0);
+        self.arcs.push_out(place.0, &mut self.edges, steps)?;
+        push_ends(self.edges.as_slice(), place.1, out)
+    }
+
+    ghost exact = { same_oid };
+}

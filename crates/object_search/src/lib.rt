@@ -1,0 +1,13 @@
+//! Which objects walks reach from others: one search, over a graph whose reads are counted, or over
+//! any edges that can be listed by the object that they leave.
+#![tactic(auto)]
+
+pub use graph_arcs::GraphArcs;
+pub use out_arcs::OutArcs;
+pub use reached::reached_from;
+
+mod children;
+mod graph_arcs;
+mod met;
+mod out_arcs;
+mod reached;

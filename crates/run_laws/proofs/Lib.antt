@@ -1,0 +1,4 @@
+pub mod MeaningLaws
+pub mod ReadingLaws
+pub mod SomeRunLaws
+pub mod ParsedLaws

@@ -1,4 +1,0 @@
-//! Laws of updates of an OEM database.
-#![tactic(auto)]
-
-pub mod laws;
