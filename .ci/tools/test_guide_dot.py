@@ -12,6 +12,7 @@ TOP = os.path.join(os.path.dirname(os.path.abspath(__file__)), "..", "..")
 TOOL = os.path.join(TOP, "bin", "guide-dot")
 OK = b"ok objects 2 edges 1 nodes 2\n"
 GUIDE = b"X 1\nX.a 1\nnodes 2\n"
+LONG = b"".join([b"X 1\n", *(b"X.a%d 1\n" % i for i in range(4_000)), b"nodes 4001\n"])  # a picture that fills a pipe
 DUMP = b"oem 2\nnext 3\nnodes %d\nplan auto\nlabel a\nname X &1\nobject &1 {}\nobject &2 1\nedge &1 a &2\nend\n"
 BOX = b'0 [shape = box, label = "X"];'
 
@@ -76,18 +77,18 @@ class Ends(unittest.TestCase):
         self.assertEqual((done.returncode, done.stderr), (1, b"guide-dot: memory was refused\n"))
 
     def test_the_program_dot(self):
-        """A stand-in for dot draws, fails, or isn't there."""
+        """A stand-in for dot draws, fails before it has read all, or isn't there."""
         with tempfile.TemporaryDirectory() as folder:
             environment = {**os.environ, "PATH": folder}
             done = drawn(GUIDE, "-T", "svg", env=environment)
             self.assertEqual((done.returncode, done.stdout, b"graphviz" in done.stderr), (3, b"", True))
-            for script, status, picture in (("/bin/echo $*; exec /bin/cat", 0, b"-Tsvg\n" + drawn(GUIDE).stdout),
+            for script, status, picture in (("/bin/echo $*; exec /bin/cat", 0, b"-Tsvg\n" + drawn(LONG).stdout),
                                             ("/bin/echo half; exit 1", 4, b"")):
                 place = os.path.join(folder, "dot")
                 with open(place, "w") as opened:
                     opened.write(f"#!/bin/sh\n{script}\n")
                 os.chmod(place, stat.S_IRWXU)
-                done = drawn(GUIDE, "-T", "svg", env=environment)
+                done = drawn(LONG, "-T", "svg", env=environment)
                 self.assertEqual((done.returncode, done.stdout), (status, picture))
 
 

@@ -1,38 +1,101 @@
--- A guide before a change: dirty objects of changes, the guide without nodes, and that all is read from there.
-use Rattle.std.proofs.Common.{◌≡◌, ◌⊎◌, ◌↔◌, ℕ, ◌+◌, inl, inr, List, [], AllPairs, Contains, arith}
+-- A guide before a change: the guide without nodes, what a change makes dirty, and that all is read from there.
+use Rattle.std.proofs.Common.{◌≡◌, ◌↔◌, ℕ, ◌+◌, inl, inr, List, [], AllPairs, Contains, arith}
 use Rattle.std.specs.List.{sum_by}
+use Rattle.std.proofs.lemmas.List.Elements.{All-weaker}
+use Rattle.lore_base.specs.Databases.{AreAscendingEdges}
+use Rattle.lore_base.specs.Deltas.{IsOnlyIn}
+use Rattle.lore_base.specs.TargetSets.{ListsInOrder}
 use Rattle.lore_base.proofs.MemberLaws.{Contains-none}
+use Rattle.lore_base.proofs.ToldLaws.{told_member, told_edge}
 use Rattle.dataguide.specs.Types.{Oid, Edge}
 use Rattle.dataguide.specs.ReadCosts.{ReadsAtMost, reads_of}
 use Rattle.dataguide.specs.Guides.{GuideGraph}
-use Rattle.dataguide.specs.Touched.{DifferWithin, ReadsTouched, ReadsSome}
+use Rattle.dataguide.specs.Touched.{IsTouched, ReadsTouched, ReadsSome, parents_of}
 use Rattle.dataguide.specs.Deltas.{StoodFor}
+use Rattle.dataguide.specs.inside.Founds.{Costs}
+use Rattle.dataguide.specs.inside.Gains.{IsChange}
+use Rattle.dataguide.proofs.PlaceLaws.{mapped}
 use Rattle.dataguide.proofs.StopLaws.{All-by}
 use Rattle.dataguide.proofs.DoneLaws.{nothing-stands}
 use Rattle.dataguide.proofs.SumLaws.{sum_by-within}
 
--- the edges once changes are made differ from the kept ones in edges of the parents of listed edges alone
-pub differ-then : (kept between added removed : List Edge) (dirty : List Oid)
-    → ((edge : Edge) → Contains between edge ↔ (Contains added edge ⊎ (Contains kept edge × (¬ Contains removed edge))))
-    → ((edge : Edge) → Contains added edge ⊎ Contains removed edge → Contains dirty edge.parent)
-    → DifferWithin kept between dirty
-differ-then kept between added removed dirty then holds edge clean = (
-  λ there. (then edge).1 (inr (there, λ gone. clean (holds edge (inr gone)))),
-  λ there. (elim ((then edge).0 there) [
-    | inl come ↦ absurd (clean (holds edge (inl come)))
-    | inr stays ↦ stays.0
-  ]),
-)
-
 -- the guide without nodes stood for every graph before
 pub stood-new : (guide : GuideGraph) (edges : List Edge) → guide.nodes ≡ [] → guide.entries ≡ []
-    → StoodFor guide [] edges
+    → StoodFor guide [] [] edges
 stood-new guide edges nodes entries = record {
   names = [];
   before = edges;
   stands = nothing-stands guide.nodes guide.entries edges nodes entries;
-  differ = λ edge clean. (λ there. there, λ there. there);
+  differ = record { lost_are = none-only; fresh_are = none-only };
 }
+  where
+    none-only : (edge : Edge) → Contains [] edge ↔ IsOnlyIn edges edges edge
+    none-only edge = (λ there. absurd (Contains-none edge there), λ only. absurd (only.1 only.0))
+
+-- a change, told by the lost and the fresh edges, with the objects that they leave
+pub stood-change : (guide : GuideGraph) (lost fresh after : List Edge) (dirty grown : List Oid)
+    → StoodFor guide lost fresh after → AreAscendingEdges fresh → ListsInOrder (Contains (parents_of lost)) dirty
+    → ListsInOrder (Contains (parents_of fresh)) grown → IsChange guide dirty grown fresh after
+stood-change guide lost fresh after dirty grown stood ascend dirty_are grown_are = record {
+  names = stood.names;
+  before = stood.before;
+  stands = stood.stands;
+  stay = λ edge was clean. (elim (told_member told_edge after edge) [
+    | inl there ↦ there
+    | inr gone ↦ absurd (clean ((dirty_are.exact edge.parent).1
+        (mapped (λ (e : Edge). e.parent) lost edge ((stood.differ.lost_are edge).1 (was, gone)))))
+  ]);
+  come = stood.differ.fresh_are;
+  ascend = ascend;
+  grown_are = grown_are.exact;
+}
+
+-- lists with the same objects touch the same sets
+module _ (kept : List (List Oid)) (dirty other : List Oid) (same : (oid : Oid) → Contains dirty oid ↔ Contains other oid) where
+  touched-same : (set : List Oid) → IsTouched kept dirty set ↔ IsTouched kept other set
+  touched-same set = (
+    λ touched. elim touched [
+      | inl new ↦ inl new
+      | inr meets ↦ inr (meets.0, meets.1, (same meets.0).0 meets.2)
+    ],
+    λ touched. elim touched [
+      | inl new ↦ inl new
+      | inr meets ↦ inr (meets.0, meets.1, (same meets.0).1 meets.2)
+    ],
+  )
+
+  pub reads-same : (edges : List Edge) (sets : List (List Oid)) (before now : ℕ)
+      → ReadsTouched kept dirty edges sets before now → ReadsTouched kept other edges sets before now
+  reads-same edges sets before now reads = record {
+    touched = reads.touched;
+    are = record {
+      apart = reads.are.apart;
+      exact = λ set. (
+        λ there. (let both = (reads.are.exact set).0 there in (both.0, (touched-same set).0 both.1)),
+        λ both. (reads.are.exact set).1 (both.0, (touched-same set).1 both.1),
+      );
+    };
+    counted = reads.counted;
+  }
+
+  pub some-same : (limit : ℕ) (names : List (List ℕ × Oid)) (edges : List Edge) (before now : ℕ)
+      → ReadsSome kept dirty limit names edges before now → ReadsSome kept other limit names edges before now
+  some-same limit names edges before now reads = record {
+    sets = reads.sets;
+    apart = reads.apart;
+    led = reads.led;
+    few = reads.few;
+    touched = All-weaker (IsTouched kept dirty) (IsTouched kept other) (λ set touched. (touched-same set).0 touched)
+        reads.sets reads.touched;
+    counted = reads.counted;
+  }
+
+  pub costs-same : (edges : List Edge) (set : List Oid) (before now : ℕ) → Costs kept dirty edges set before now
+      → Costs kept other edges set before now
+  costs-same edges set before now costs = elim costs [
+    | inl read ↦ inl ((touched-same set).0 read.0, read.1)
+    | inr left ↦ inr (λ touched. left.0 ((touched-same set).1 touched), left.1)
+  ]
 
 -- from there every set is read
 pub reads-all : (edges : List Edge) (sets : List (List Oid)) (before now : ℕ) → AllPairs (λ a b. (a ≡ b) → ⊥) sets

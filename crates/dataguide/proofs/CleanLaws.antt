@@ -1,50 +1,22 @@
--- A set without dirty members has the same steps before and after a change, and a node's edges tell them.
+-- A node's edges tell the steps of its set.
 use Rattle.std.proofs.Common.{◌≡◌, ◌↔◌, ℕ, ◌<◌, List, [], length, map, All, Contains, Some, sym, ◌∙◌, subst, arith}
 use Rattle.std.specs.List.{slice_get}
 use Rattle.std.proofs.lemmas.List.{length-map}
 use Rattle.std.proofs.lemmas.List.Elements.{All-contains, All-map}
 use Rattle.std.proofs.lemmas.Option.{slice_get_within}
-use Rattle.lore_base.specs.Walks.{edge_of}
 use Rattle.dataguide.specs.Types.{Oid, Label, Edge, Node, GuideNode, Origin, Kept}
-use Rattle.dataguide.specs.Touched.{Meet}
 use Rattle.lore_base.specs.TargetSets.{IsStep, LeavesTo, IsLedTo}
-use Rattle.dataguide.specs.Guides.{GuideGraph, StandsFor, HasItsSteps, HasSet, sets_of, node_number}
-use Rattle.dataguide.specs.Touched.{DifferWithin}
+use Rattle.dataguide.specs.Guides.{GuideGraph, StandsFor, HasItsSteps, HasSet, AscendByLabel, sets_of, node_number}
 use Rattle.dataguide.specs.Deltas.{origin_set, IsOrigin}
 use Rattle.dataguide.specs.inside.Arcs.{AreSteps}
 use Rattle.dataguide.specs.inside.Trails.{longer}
 use Rattle.dataguide.specs.inside.Founds.{steps_of}
-use Rattle.lore_base.proofs.TargetLaws.{ListsInOrder-same}
+use Rattle.dataguide.specs.inside.Gains.{IsThere}
 use Rattle.dataguide.proofs.PlaceLaws.{Contains-at, at-Contains, at-map, mapped, map-map}
 use Rattle.lore_base.proofs.MemberLaws.{Contains-none}
 use Rattle.dataguide.proofs.StopLaws.{All-by, AllPairs-map, leads-step}
 use Rattle.dataguide.proofs.StepLaws.{step_of, step_is}
 use Rattle.dataguide.proofs.FoundLaws.{kept-set}
-
--- what leaves a set without dirty members leaves it in both graphs
-pub clean-leaves : (before after : List Edge) (dirty set : List Oid) (label : Label) (oid : Oid)
-    → DifferWithin before after dirty
-    → (¬ Meet set dirty) → LeavesTo before set label oid ↔ LeavesTo after set label oid
-clean-leaves before after dirty set label oid differ clean = (
-  λ leaves. record {
-    from = leaves.from;
-    member = leaves.member;
-    edge = (differ (edge_of leaves.from label oid) (λ there. clean (leaves.from, leaves.member, there))).0 leaves.edge;
-  },
-  λ leaves. record {
-    from = leaves.from;
-    member = leaves.member;
-    edge = (differ (edge_of leaves.from label oid) (λ there. clean (leaves.from, leaves.member, there))).1 leaves.edge;
-  },
-)
-
--- a set without dirty members has the same step by each label
-pub clean-step : (before after : List Edge) (dirty set : List Oid) (label : Label) (next : List Oid)
-    → DifferWithin before after dirty
-    → (¬ Meet set dirty) → IsStep before set label next → IsStep after set label next
-clean-step before after dirty set label next differ clean step =
-    ListsInOrder-same (LeavesTo before set label) (LeavesTo after set label) next
-    (λ oid. clean-leaves before after dirty set label oid differ clean) step
 
 module _ (guide : GuideGraph) (names : List (List ℕ × Oid)) (before : List Edge) (stands : StandsFor guide names before)
     (place : Node) (node : GuideNode) (at : slice_get guide.nodes place.0 ≡ Some node) where
@@ -82,9 +54,11 @@ module _ (guide : GuideGraph) (names : List (List ℕ × Oid)) (before : List Ed
   abbrev as_target : Label × Node → Label × Origin
   as_target edge = (edge.0, Kept edge.1)
 
+  kept-within : All (λ edge. edge.1.0 < length kept) node.edges
+  kept-within = All-by (λ (e : Label × Node). e.1.0 < length kept) node.edges (λ e there. next-within e.0 e.1 there)
+
   pub kept-origins : All (λ target. IsOrigin kept target.1) (map as_target node.edges)
-  kept-origins = All-map (λ (t : Label × Origin). IsOrigin kept t.1) as_target node.edges
-      (All-by (λ (e : Label × Node). e.1.0 < length kept) node.edges (λ e there. next-within e.0 e.1 there))
+  kept-origins = All-map (λ (t : Label × Origin). IsOrigin kept t.1) as_target node.edges kept-within
 
   -- whatever leaves the set has an edge
   edge-all : (label : Label) (oid : Oid) → LeavesTo before node.set label oid → (next : Node) × Contains node.edges
@@ -106,26 +80,31 @@ module _ (guide : GuideGraph) (names : List (List ℕ × Oid)) (before : List Ed
       nothing : {x : Oid} → Contains [] x → ⊥
       nothing {x} none = Contains-none x none
 
-  -- a node without dirty members has its edges' nodes as steps after the change
-  pub kept-steps : (after : List Edge) (dirty : List Oid) → DifferWithin before after dirty → (¬ Meet node.set dirty)
-      → AreSteps after node.set (steps_of kept (map as_target node.edges))
-  kept-steps after dirty differ clean =
-      subst (λ (l : List (Label × List Oid)). AreSteps after node.set l)
-      (sym (map-map as_target (λ (t : Label × Origin). (t.0, origin_set kept t.1)) node.edges))
-      (record {
-        ascend = AllPairs-map as_step (λ (a b : Label × Node). a.0.0 < b.0.0)
-            (λ (a b : Label × List Oid). a.0.0 < b.0.0)
-            (λ a b less. less) node.edges its-steps.ascending;
-        sets = All-map (λ (s : Label × List Oid). IsStep after node.set s.0 s.1) as_step node.edges
-            (All-by (λ (e : Label × Node). IsStep after node.set e.0 (origin_set kept (Kept e.1))) node.edges
-            (λ e there. clean-step before after dirty node.set e.0 (origin_set kept (Kept e.1)) differ clean
-            (edge-set e.0 e.1 there)));
-        some = All-map (λ (s : Label × List Oid). (s.1 ≡ []) → ⊥) as_step node.edges
-            (All-by (λ (e : Label × Node). (origin_set kept (Kept e.1) ≡ []) → ⊥) node.edges
-            (λ e there. (led (origin_set kept (Kept e.1)) (Contains-at (sets_of kept) e.1.0 (origin_set kept (Kept e.1))
-            (kept-set kept e.1 (next-within e.0 e.1 there)))).1.some));
-        all = λ label oid leaves. (
-            let edge = edge-all label oid ((clean-leaves before after dirty node.set label oid differ clean).1 leaves)
-            in
-            (origin_set kept (Kept edge.0), mapped as_step node.edges (label, edge.0) edge.1));
-      })
+  pub kept-ascend : AscendByLabel node.edges
+  kept-ascend = its-steps.ascending
+
+  pub kept-there : All (IsThere kept) node.edges
+  kept-there = All-by (IsThere kept) node.edges (λ e there. (next-within e.0 e.1 there, (edge-set e.0 e.1 there).ascending))
+
+  -- the steps of the node's set
+  pub kept-row : AreSteps before node.set (map as_step node.edges)
+  kept-row = record {
+    ascend = AllPairs-map as_step (λ (a b : Label × Node). a.0.0 < b.0.0) (λ (a b : Label × List Oid). a.0.0 < b.0.0)
+        (λ a b less. less) node.edges its-steps.ascending;
+    sets = All-map (λ (s : Label × List Oid). IsStep before node.set s.0 s.1) as_step node.edges
+        (All-by (λ (e : Label × Node). IsStep before node.set e.0 (origin_set kept (Kept e.1))) node.edges
+        (λ e there. edge-set e.0 e.1 there));
+    some = All-map (λ (s : Label × List Oid). (s.1 ≡ []) → ⊥) as_step node.edges
+        (All-by (λ (e : Label × Node). (origin_set kept (Kept e.1) ≡ []) → ⊥) node.edges
+        (λ e there. (led (origin_set kept (Kept e.1)) (Contains-at (sets_of kept) e.1.0 (origin_set kept (Kept e.1))
+        (kept-set kept e.1 (next-within e.0 e.1 there)))).1.some));
+    all = λ label oid leaves. (
+        let edge = edge-all label oid leaves in
+        (origin_set kept (Kept edge.0), mapped as_step node.edges (label, edge.0) edge.1));
+  }
+
+  -- as those of its edges' nodes
+  pub kept-steps : AreSteps before node.set (steps_of kept (map as_target node.edges))
+  kept-steps =
+      subst (λ (l : List (Label × List Oid)). AreSteps before node.set l)
+      (sym (map-map as_target (λ (t : Label × Origin). (t.0, origin_set kept t.1)) node.edges)) kept-row

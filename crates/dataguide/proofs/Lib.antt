@@ -8,6 +8,7 @@ pub mod SearchedLaws
 pub mod DoneLaws
 pub mod OneGuide
 pub mod SumLaws
+pub mod RunLaws
 pub mod ArcLaws
 pub mod GroupLaws
 pub mod StepLaws
@@ -17,6 +18,7 @@ pub mod FoundLaws
 pub mod FoundSteps
 pub mod EdgeLaws
 pub mod CleanLaws
+pub mod GainLaws
 pub mod ReadLaws
 pub mod ExpandLaws
 pub mod FirstLaws

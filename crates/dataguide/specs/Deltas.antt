@@ -3,7 +3,7 @@ use Rattle.std.specs.Prelude.{◌≡◌, ◌≢◌, ℕ, ◌<◌, List, [], ◌�
 use Rattle.std.specs.Prelude.{slice_get, slice_index_or}
 use Rattle.dataguide.specs.Types.{Oid, Label, Edge, Node, GuideNode, Origin, Kept, Fresh, DeltaNode}
 use Rattle.dataguide.specs.Guides.{GuideGraph, StandsFor, sets_of, node_number}
-use Rattle.dataguide.specs.Touched.{DifferWithin}
+use Rattle.dataguide.specs.Touched.{DifferBy}
 
 -- a planned guide: its nodes in the order of their numbers, and the nodes of the names
 pub record PlannedGuide : Type 0 where
@@ -42,12 +42,12 @@ pub record IsReady (kept : List GuideNode) (plan : PlannedGuide) : Type 0 where
   pub keeps : KeepsOnce kept plan.nodes
   pub apart : AllPairs (λ a b. a ≢ b) (sets_of (nodes_then kept plan.nodes))
 
--- the guide stands for a database whose edges differ from these at most in those that leave dirty objects
-pub record StoodFor (guide : GuideGraph) (dirty : List Oid) (after : List Edge) : Type 0 where
+-- the guide stands for a database that had the lost edges and lacked the fresh ones
+pub record StoodFor (guide : GuideGraph) (lost fresh after : List Edge) : Type 0 where
   pub names : List (List ℕ × Oid)
   pub before : List Edge
   pub stands : StandsFor guide names before
-  pub differ : DifferWithin before after dirty
+  pub differ : DifferBy before after lost fresh
 
 -- How a plan is put together.
 

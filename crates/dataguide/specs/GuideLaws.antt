@@ -79,17 +79,18 @@ VanishedEdgesLeadNowhere =
     (before : OemGraph) (changes : Changes) (after : OemGraph) (is : IsGraphAfter before changes after)
     → HaveSameTargets after.names is.between after.edges
 
--- what is read for a guide is within the reads of the touched sets
+-- what is read for a guide is within the reads of the touched sets, also of those that more objects touch
 abbrev pub ReadsAreWithin : Type 0
 ReadsAreWithin =
-    (kept : List (List Oid)) (dirty : List Oid) (names : List (List ℕ × Oid)) (edges : List Edge)
+    (kept : List (List Oid)) (dirty more : List Oid) (names : List (List ℕ × Oid)) (edges : List Edge)
     (sets : List (List Oid)) (before now : ℕ)
     → AreTargetSets names edges sets → ReadsTouched kept dirty edges sets before now
-    → ReadsWithin kept dirty names edges before now
+    → ((oid : Oid) → Contains dirty oid → Contains more oid) → ReadsWithin kept more names edges before now
 
 -- and so is what is read where the guide is refused
 abbrev pub SomeReadsAreWithin : Type 0
 SomeReadsAreWithin =
-    (kept : List (List Oid)) (dirty : List Oid) (limit : ℕ) (names : List (List ℕ × Oid)) (edges : List Edge)
+    (kept : List (List Oid)) (dirty more : List Oid) (limit : ℕ) (names : List (List ℕ × Oid)) (edges : List Edge)
     (before now : ℕ)
-    → ReadsSome kept dirty limit names edges before now → ReadsWithin kept dirty names edges before now
+    → ReadsSome kept dirty limit names edges before now
+    → ((oid : Oid) → Contains dirty oid → Contains more oid) → ReadsWithin kept more names edges before now

@@ -1,19 +1,25 @@
 -- Which target sets a change touches, and what is read of the graph after it.
-use Rattle.std.specs.Prelude.{◌≡◌, ◌≢◌, ◌↔◌, ◌⊎◌, ℕ, ◌+◌, ◌≤◌, List, length, sum_by, All, AllPairs, Contains}
+use Rattle.std.specs.Prelude.{◌≡◌, ◌≢◌, ◌↔◌, ◌⊎◌, ℕ, ◌+◌, ◌≤◌, List, length, map, sum_by, All, AllPairs}
+use Rattle.std.specs.Prelude.{Contains}
+use Rattle.lore_base.specs.Deltas.{ListsOnlyIn}
 use Rattle.lore_base.specs.TargetSets.{IsLedTo}
 use Rattle.dataguide.specs.Types.{Oid, Edge}
 use Rattle.dataguide.specs.ReadCosts.{reads_of}
 
--- the graphs differ at most in edges that leave these objects
-abbrev pub DifferWithin : List Edge → List Edge → List Oid → Type 0
-DifferWithin before after dirty =
-    (edge : Edge) → (¬ Contains dirty edge.parent) → Contains before edge ↔ Contains after edge
+-- the edges of the one graph that the other lacks, and those of the other that the one lacks
+pub record DifferBy (before after lost fresh : List Edge) : Type 0 where
+  pub lost_are : ListsOnlyIn lost before after
+  pub fresh_are : ListsOnlyIn fresh after before
+
+-- the objects that edges leave
+abbrev pub parents_of : List Edge → List Oid
+parents_of edges = map (λ edge. edge.parent) edges
 
 -- some object is in both
 abbrev pub Meet : List Oid → List Oid → Type 0
 Meet set other = (oid : Oid) × Contains set oid × Contains other oid
 
--- the set has to be read: no node had it, or it has a dirty member
+-- the set has to be read: no node had it, or it has a dirty member, one that edges left which are no more
 abbrev pub IsTouched : List (List Oid) → List Oid → List Oid → Type 0
 IsTouched kept dirty set = (¬ Contains kept set) ⊎ Meet set dirty
 

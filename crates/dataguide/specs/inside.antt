@@ -5,3 +5,4 @@ pub mod NodeTables
 pub mod Trails
 pub mod Fills
 pub mod Founds
+pub mod Gains

@@ -2,10 +2,12 @@ ghost use Rattle.std.specs.Prelude.{◌≡◌, ◌+◌, ◌↔◌, ◌++◌, ◌
 ghost use Rattle.std.specs.Prelude.{IfOk, OnOk};
 ghost use Rattle.std.specs.declared.cmp.Ordering.TheVariants.{Less};
 ghost use Rattle.std.specs.Bool.{OnTrue};
+ghost use Rattle.lore_base.specs.Databases.{AreAscendingEdges};
 ghost use Rattle.dataguide.specs.Types.{Label as TheLabel, Oid as TheOid};
 ghost use Rattle.dataguide.specs.ReadCosts.{reads_of};
 ghost use Rattle.dataguide.specs.inside.Arcs.{AreArcs, AscendAsArcs, arc_cmp, leaving, arcs_of};
 
+use crate::edge_runs::run_of;
 use index_traits::Adjacent;
 use key_sort::{Key, set_by_keys};
 use lore_base::{Edge, EdgeBuf, Label, Listing, NoMemory, Oid, Steps};
@@ -62,6 +64,19 @@ fn read_edges<A: Adjacent, L: Ledger>(
     Ok(())
 }
 
+// Puts those of the edges that leave the members of the set into the buffer, in place of what was
+// there.
+fn list_edges(listed: &[Edge], set: &OidSet, edges: &mut EdgeBuf) -> Result<(), NoMemory>
+    requires { AreAscendingEdges listed.now }
+    ensures { OnOk result (edges.new ≡ leaving listed.now set.now) }
+{
+    edges.cut(0);
+    'oids: for oid in set.as_slice() {
+        edges.append(run_of(listed, *oid))?;
+    }
+    Ok(())
+}
+
 // Puts the labels and children of the edges into the buffer, in place of what was there.
 fn list_arcs(edges: &[Edge], arcs: &mut ArcBuf) -> Result<(), NoMemory>
     ensures { OnOk result (arcs.new ≡ arcs_of edges.now) }
@@ -113,6 +128,17 @@ impl Reader {
             (steps.new ≡ steps.old + reads_of (A.edges graph.now) set.now) }
     {
         read_edges(graph, set, &mut self.edges, steps)?;
+        list_arcs(self.edges.as_slice(), &mut self.arcs)?;
+        put_in_order(&mut self.arcs)?;
+        Ok(())
+    }
+
+    // Takes the arcs of the set from listed edges, in place of those that were read before.
+    pub(crate) fn take(&mut self, listed: &[Edge], set: &OidSet) -> Result<(), NoMemory>
+        requires { AreAscendingEdges listed.now }
+        ensures { OnOk result (AreArcs listed.now set.now self.new.arcs) }
+    {
+        list_edges(listed, set, &mut self.edges)?;
         list_arcs(self.edges.as_slice(), &mut self.arcs)?;
         put_in_order(&mut self.arcs)?;
         Ok(())

@@ -1,8 +1,8 @@
-ghost use Rattle.std.specs.Prelude.{◌≡◌, ◌↔◌, List, [], length, Some, slice_get};
+ghost use Rattle.std.specs.Prelude.{◌≡◌, ◌↔◌, ◌<◌, List, [], length, Some, slice_get};
 ghost use Rattle.std.specs.Prelude.{IsTrue, IfSome, IfNone, IsOk, All, Contains};
 ghost use Rattle.std.specs.Option.{option_copied};
 ghost use Rattle.dataguide.specs.Types.{Edge as TheEdge, Node as TheNode};
-ghost use Rattle.dataguide.specs.Guides.{StandsFor, sets_of, node_of, edge_at, HasSet, HasEdge};
+ghost use Rattle.dataguide.specs.Guides.{StandsFor, sets_of, node_of as the_node_of, edge_at, HasSet, HasEdge};
 ghost use Rattle.dataguide.specs.Guides.{AscendByLabel};
 ghost use Rattle.dataguide.specs.Deltas.{guide_then, IsReady};
 ghost use Rattle.dataguide.specs.inside.NodeTables.{IsHashed};
@@ -69,6 +69,14 @@ fn find_node(nodes: &[GuideNode], by_hash: &[(u64, Node)], set: &OidSet) -> Opti
     None
 }
 
+// The node of the guide with the number.
+pub(crate) fn node_of(guide: &Guide, node: Node) -> &GuideNode
+    requires { node.0 < length guide.now.nodes }
+    ensures { slice_get guide.now.nodes node.0 ≡ Some result.now }
+{
+    &guide.nodes()[node.0 as usize]
+}
+
 impl Guide {
     /// The guide of a database without names: no node and no entry. Takes no memory.
     pub fn new(alloc: Global) -> Guide
@@ -85,7 +93,7 @@ impl Guide {
 
     /// The node of the name; None exactly where the name isn't bound. Takes no memory.
     pub fn entry(&self, name: &OemText) -> Option<Node>
-        ensures { result ≡ node_of self.now.entries name.now }
+        ensures { result ≡ the_node_of self.now.entries name.now }
     {
         self.entries.find(name)
     }

@@ -1,34 +1,40 @@
-ghost use Rattle.std.specs.Prelude.{◌≡◌, ◌+◌, ◌<◌, List, [], ◌∷◌, length, map, All};
+ghost use Rattle.std.specs.Prelude.{◌≡◌, ◌+◌, ◌<◌, List, [], ◌∷◌, length, map, All, Contains};
 ghost use Rattle.std.specs.Prelude.{Some, slice_get, IfOk, IfErr, OnOk};
 ghost use Rattle.lore_base.specs.Names.{IsNameTable};
 ghost use Rattle.lore_base.specs.GuideLimits.{KeepLimits};
 ghost use Rattle.dataguide.specs.Types.{Oid as TheOid, GuideNode as TheGuideNode, Kept, Fresh};
 ghost use Rattle.dataguide.specs.ReadCosts.{reads_of};
 ghost use Rattle.dataguide.specs.Guides.{sets_of};
-ghost use Rattle.dataguide.specs.Deltas.{StoodFor, IsOrigin, origin_set};
+ghost use Rattle.dataguide.specs.Touched.{Meet};
+ghost use Rattle.dataguide.specs.Deltas.{IsOrigin, origin_set};
 ghost use Rattle.dataguide.specs.inside.Arcs.{AreSteps};
 ghost use Rattle.dataguide.specs.inside.Trails.{IsExpanded};
 ghost use Rattle.dataguide.specs.inside.Founds.{IsFound, found_nodes, found_sets, steps_of};
 ghost use Rattle.dataguide.specs.inside.Founds.{Costs, IsHalted};
+ghost use Rattle.dataguide.specs.inside.Gains.{IsChange};
 
 use crate::arcs::Reader;
-use crate::data_guide::Guide;
+use crate::data_guide::{Guide, node_of};
 use crate::faults::GuideFault;
 use crate::found::{Found, enter_all};
+use crate::gains::{in_both, united_targets};
 use crate::groups::group_arcs;
 use crate::nodes::{GuideNode, Node};
 use crate::planned_nodes::Origin;
 use index_traits::Adjacent;
-use lore_base::{Label, Names, NoMemory, OemText, Oid, OidBuf, Steps};
+use lore_base::{Edge, Label, Names, NoMemory, OemText, Oid, OidBuf, Steps};
 use oem_set::OidSet;
 use std::alloc::Global;
 use std::sync::ledger::Ledger;
 
-// A graph, and the guide that stood before the edges of the dirty objects changed.
+// A graph, and the guide that stood before it changed: edges that leave dirty objects were lost, and
+// the fresh ones, in ascending order, came and leave the grown objects.
 #[derive(Drop)]
 pub(crate) struct Change<'a, A> {
     pub(crate) guide: &'a Guide,
     pub(crate) dirty: &'a OidSet,
+    pub(crate) grown: &'a OidSet,
+    pub(crate) fresh: &'a [Edge],
     pub(crate) after: &'a A,
 }
 
@@ -110,14 +116,6 @@ fn read_targets<A: Adjacent, L: Ledger>(
     Ok(targets)
 }
 
-// The node of the guide before.
-fn node_of(guide: &Guide, node: Node) -> &GuideNode
-    requires { node.0 < length guide.now.nodes }
-    ensures { slice_get guide.now.nodes node.0 ≡ Some result.now }
-{
-    &guide.nodes()[node.0 as usize]
-}
-
 // Where the set of the found node at a place is from.
 fn origin_at(found: &Found, place: usize) -> &Origin
     requires { place < length found.now.nodes.items }
@@ -127,7 +125,35 @@ fn origin_at(found: &Found, place: usize) -> &Origin
     &found.nodes[place].origin
 }
 
-// The targets of a node before: by its edges where its set holds no dirty object, and else read.
+// The targets of a node before that lost no edge: by its edges, and by the fresh edges that leave its
+// set.
+fn kept_or_grown<A: Adjacent>(
+    alloc: Global,
+    reader: &mut Reader,
+    change: &Change<A>,
+    there: &GuideNode,
+) -> Result<Vec<(Label, Origin)>, NoMemory>
+    requires stood { IsChange change.now.guide.now change.now.dirty.now change.now.grown.now
+        change.now.fresh.now (A.edges change.now.after.now) }
+    requires there { Contains change.now.guide.now.nodes there.now }
+    requires clean { ¬ Meet there.now.set change.now.dirty.now }
+    ensures steps { IfOk result (λ targets. AreSteps (A.edges change.now.after.now) there.now.set
+        (steps_of change.now.guide.now.nodes targets.items)) }
+    ensures there { IfOk result (λ targets.
+        All (λ target. IsOrigin change.now.guide.now.nodes target.1) targets.items) }
+{
+    let gained = in_both(alloc, &there.set, change.grown)?;
+    if gained.len() == 0 {
+        let targets = kept_targets(alloc, there.edges.as_slice())?;
+        return Ok(targets);
+    }
+    reader.take(change.fresh, &gained)?;
+    let row = group_arcs(alloc, reader.arcs.as_slice())?;
+    let targets = united_targets(alloc, change.guide, there.edges.as_slice(), row.as_slice())?;
+    Ok(targets)
+}
+
+// The targets of a node before: read where its set has a dirty member.
 fn kept_or_read<A: Adjacent, L: Ledger>(
     alloc: Global,
     reader: &mut Reader,
@@ -135,8 +161,8 @@ fn kept_or_read<A: Adjacent, L: Ledger>(
     node: Node,
     steps: &mut Steps<L>,
 ) -> Result<Vec<(Label, Origin)>, NoMemory>
-    requires stood { StoodFor change.now.guide.now change.now.dirty.now
-        (A.edges change.now.after.now) }
+    requires stood { IsChange change.now.guide.now change.now.dirty.now change.now.grown.now
+        change.now.fresh.now (A.edges change.now.after.now) }
     requires there { node.0 < length change.now.guide.now.nodes }
     ensures steps { IfOk result (λ targets. AreSteps (A.edges change.now.after.now)
         (origin_set change.now.guide.now.nodes (Kept node))
@@ -152,12 +178,12 @@ fn kept_or_read<A: Adjacent, L: Ledger>(
         let targets = read_targets(alloc, reader, change.after, &there.set, steps)?;
         return Ok(targets);
     }
-    let targets = kept_targets(alloc, there.edges.as_slice())?;
+    let targets = kept_or_grown(alloc, reader, change, there)?;
     Ok(targets)
 }
 
 // The targets of the node at a place: those of the guide before where its set was a node's and
-// holds no dirty object, and else read from the graph.
+// has no dirty member, and else read from the graph.
 fn targets_at<A: Adjacent, L: Ledger>(
     alloc: Global,
     found: &Found,
@@ -166,8 +192,8 @@ fn targets_at<A: Adjacent, L: Ledger>(
     reader: &mut Reader,
     steps: &mut Steps<L>,
 ) -> Result<Vec<(Label, Origin)>, NoMemory>
-    requires stood { StoodFor change.now.guide.now change.now.dirty.now
-        (A.edges change.now.after.now) }
+    requires stood { IsChange change.now.guide.now change.now.dirty.now change.now.grown.now
+        change.now.fresh.now (A.edges change.now.after.now) }
     requires found { IsFound change.now.guide.now.nodes found.now }
     requires place { place < length found.now.nodes.items }
     ensures steps { IfOk result (λ targets. (set : List TheOid)
@@ -203,8 +229,8 @@ pub(crate) fn expand<A: Adjacent, L: Ledger>(
     limit: u32,
     steps: &mut Steps<L>,
 ) -> Result<(), GuideFault>
-    requires stood { StoodFor change.now.guide.now change.now.dirty.now
-        (A.edges change.now.after.now) }
+    requires stood { IsChange change.now.guide.now change.now.dirty.now change.now.grown.now
+        change.now.fresh.now (A.edges change.now.after.now) }
     requires found { IsFound change.now.guide.now.nodes found.old }
     requires fit { KeepLimits limit (found_sets change.now.guide.now.nodes found.old) }
     requires place { place < length found.old.nodes.items }

@@ -1,5 +1,8 @@
-ghost use Rattle.std.specs.Prelude.{◌≡◌, ◌≤◌, ◌<◌, ◌≢◌, length, map, AllPairs, IfOk};
+ghost use Rattle.std.specs.Prelude.{◌≡◌, ◌≤◌, ◌<◌, ◌≢◌, List, length, map, AllPairs, Contains};
+ghost use Rattle.std.specs.Prelude.{IfOk, IfSome, IfNone, slice_get};
+ghost use Rattle.std.specs.Option.{option_copied};
 ghost use Rattle.std.specs.List.{AllWithin, HoldsAt};
+ghost use Rattle.dataguide.specs.Types.{Oid as TheOid};
 ghost use Rattle.dataguide.specs.inside.Arcs.{AscendAsArcs, AreGroups};
 
 use lore_base::{Label, NoMemory, Oid, OidBuf};
@@ -50,4 +53,29 @@ pub(crate) fn group_arcs(
         rest = others;
     }
     Ok(groups)
+}
+
+// The step at a place.
+fn step_at(row: &[(Label, OidSet)], place: usize) -> Option<&(Label, OidSet)>
+    ensures { option_copied result ≡ slice_get row.now place }
+{
+    row.get(place)
+}
+
+// The set of the step with the label, found by binary search.
+pub(crate) fn step_by(row: &[(Label, OidSet)], label: Label) -> Option<&OidSet>
+    requires { AllPairs (λ a b. a.0.0 < b.0.0) row.now }
+    ensures found { IfSome result (λ set. Contains row.now (label, set.now)) }
+    ensures none { IfNone result ((set : List TheOid) → ¬ Contains row.now (label, set)) }
+{
+    let place = row.partition_point(|step| step.0.0 < label.0);
+    match step_at(row, place) {
+        Some(step) => {
+            if step.0.0 == label.0 {
+                return Some(&step.1);
+            }
+            return None;
+        }
+        None => return None,
+    }
 }

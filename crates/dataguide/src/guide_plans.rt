@@ -1,9 +1,10 @@
 ghost use Rattle.std.specs.Prelude.{◌≡◌, ◌+◌, sum_by, IfOk, IfErr};
+ghost use Rattle.lore_base.specs.Databases.{AreAscendingEdges};
 ghost use Rattle.lore_base.specs.PathOrder.{AreInPathOrder};
 ghost use Rattle.lore_base.specs.GuideLimits.{FitsGuide};
 ghost use Rattle.dataguide.specs.Types.faults;
 ghost use Rattle.dataguide.specs.ReadCosts.{ReadsAtMost, reads_of};
-ghost use Rattle.dataguide.specs.Touched.{ReadsTouched, ReadsSome};
+ghost use Rattle.dataguide.specs.Touched.{ReadsTouched, ReadsSome, parents_of};
 ghost use Rattle.dataguide.specs.Guides.{StandsFor, sets_of};
 ghost use Rattle.dataguide.specs.Deltas.{guide_then, nodes_then, IsReady, StoodFor};
 ghost use Rattle.dataguide.specs.GuideCauses.{GuideCause};
@@ -15,9 +16,9 @@ use crate::entries::Entries;
 use crate::explore::{Change, expand, name_targets};
 use crate::faults::GuideFault;
 use crate::found::{Found, enter_all};
+use crate::gains;
 use index_traits::Adjacent;
-use lore_base::{Names, OidBuf, Steps};
-use oem_set::OidSet;
+use lore_base::{Edge, Names, Steps};
 use std::alloc::Global;
 use std::sync::ledger::Ledger;
 
@@ -47,48 +48,53 @@ impl Guide {
             → ReadsAtMost limit names.now (A.edges graph.now) steps.old steps.new) }
     {
         let mut guide = Guide::new(alloc);
-        let none = OidSet::from_ascending(OidBuf::new(alloc));
-        let delta = guide.plan(graph, &none, names, limit, steps)?;
+        let delta = guide.plan(graph, &[], &[], names, limit, steps)?;
         guide.commit(delta);
         Ok(guide)
     }
 
-    /// Plans the guide of the graph after a change, where this one stood before it, and the dirty
-    /// objects have all edges that differ. It is found as `build` finds it, and refused as there. A
-    /// set that was a node's and has no dirty member keeps its edges unread; every other set is
-    /// read once.
+    /// Plans the guide of the graph after a change, where this one stood before it, and these edges,
+    /// each list in ascending order, were lost and are fresh. It is found as `build` finds it, and
+    /// refused as there. A set is read once, where it is no node's or a lost edge leaves a member;
+    /// another one has the steps of its node, and what the fresh edges add to them.
     pub fn plan<A: Adjacent, L: Ledger>(
         &self,
         after: &A,
-        dirty: &OidSet,
+        lost: &[Edge],
+        fresh: &[Edge],
         names: &Names,
         limit: u32,
         steps: &mut Steps<L>,
     ) -> Result<GuideDelta, GuideFault>
-        requires stood { StoodFor self.now dirty.now (A.edges after.now) }
+        requires stood { StoodFor self.now lost.now fresh.now (A.edges after.now) }
+        requires ascend { AreAscendingEdges fresh.now }
         ensures guide { IfOk result (λ delta.
             StandsFor (guide_then self.now.nodes delta) names.now (A.edges after.now)) }
         ensures order { IfOk result (λ delta. AreInPathOrder names.now (A.edges after.now)
             (sets_of (nodes_then self.now.nodes delta.nodes))) }
         ensures fits { IfOk result (λ _. FitsGuide limit names.now (A.edges after.now)) }
         ensures ready { IfOk result (λ delta. IsReady self.now.nodes delta) }
-        ensures steps { IfOk result (λ delta. ReadsTouched (sets_of self.now.nodes) dirty.now
-            (A.edges after.now) (sets_of (nodes_then self.now.nodes delta.nodes))
-            steps.old steps.new) }
+        ensures steps { IfOk result (λ delta. ReadsTouched (sets_of self.now.nodes)
+            (parents_of lost.now) (A.edges after.now)
+            (sets_of (nodes_then self.now.nodes delta.nodes)) steps.old steps.new) }
         ensures cause { IfErr result
             (λ fault. GuideCause limit names.now (A.edges after.now) fault) }
         ensures reads { IfErr result (λ fault. (fault ≡ faults.NoMemory → ⊥)
-            → ReadsSome (sets_of self.now.nodes) dirty.now limit names.now (A.edges after.now)
-            steps.old steps.new) }
+            → ReadsSome (sets_of self.now.nodes) (parents_of lost.now) limit names.now
+            (A.edges after.now) steps.old steps.new) }
     {
         let alloc = self.allocator();
         let mut found = Found::new(alloc, self)?;
         let starts = name_targets(alloc, names)?;
         let row = enter_all(alloc, &mut found, self, starts, limit)?;
         let entries = row.into_items();
+        let dirty = gains::parents_of(alloc, lost)?;
+        let grown = gains::parents_of(alloc, fresh)?;
         let change = Change {
             guide: self,
-            dirty,
+            dirty: &dirty,
+            grown: &grown,
+            fresh,
             after,
         };
         let mut reader = Reader::new(alloc);

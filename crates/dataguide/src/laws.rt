@@ -37,7 +37,8 @@ pub fn vanished_edges_lead_nowhere()
     ensures { VanishedEdgesLeadNowhere }
 {}
 
-/// What is read for a guide is within the reads of the touched sets.
+/// What is read for a guide is within the reads of the touched sets: of those with members that lost
+/// edges leave, and so of those with members that any edges leave that came or went.
 pub fn reads_are_within()
     ensures { ReadsAreWithin }
 {}

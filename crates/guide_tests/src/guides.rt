@@ -1,5 +1,6 @@
 ghost use Rattle.std.specs.Prelude.{◌≡◌, ◌<◌, IfOk};
 ghost use Rattle.lore_base.specs.Databases.{AreAscendingEdges};
+ghost use Rattle.dataguide.specs.Guides.{StandsFor};
 
 use crate::sets::set_of;
 use dataguide::{Guide, GuideFault, Node};
@@ -67,6 +68,19 @@ pub(crate) fn edges_of(alloc: Global, words: &str) -> Result<EdgeBuf, NoMemory>
     Ok(edges)
 }
 
+// The guide of a graph with at most so many nodes.
+pub(crate) fn guide_of<L: Ledger>(
+    alloc: Global,
+    graph: &NaiveEdges,
+    names: &Names,
+    limit: u32,
+    steps: &mut Steps<L>,
+) -> Result<Guide, GuideFault>
+    ensures { IfOk result (λ guide. StandsFor guide names.now graph.now) }
+{
+    Guide::build(alloc, graph, names, limit, steps)
+}
+
 fn built<L: Ledger>(
     alloc: Global,
     shape: Shape,
@@ -79,7 +93,7 @@ fn built<L: Ledger>(
 {
     let graph = NaiveEdges::new(edges_of(alloc, shape.1)?);
     let names = names_of(alloc, shape.0)?;
-    Guide::build(alloc, &graph, &names, limit, &mut Steps::<L>::new(blank))
+    guide_of(alloc, &graph, &names, limit, &mut Steps::<L>::new(blank))
 }
 
 // The guide of the shape, with at most so many nodes.

@@ -4,6 +4,7 @@ use Rattle.lore_base.specs.Databases.{OemGraph}
 use Rattle.lore_store.specs.Types.{Mode}
 use Rattle.oem_graph.specs.Plans.{graph_then}
 use Rattle.dataguide.specs.Guides.{GuideGraph}
+use Rattle.dataguide.specs.Deltas.{PlannedGuide}
 use Rattle.lore_store.specs.declared.indexes.Indexes.{Indexes}
 use Rattle.lore_store.specs.Indexes.{AreIndexes}
 use Rattle.lore_store.specs.Stores.{RoomyDatabase, PlannedDatabase, LeadsOn, IsStored, database_of, guide_then}
@@ -16,7 +17,7 @@ leads_inside inside seen plan given same is leads =
     (subst (λ (p : PlannedDatabase). LeadsOn seen.db seen.guide p) (sym is) leads)
 
 -- where no other guide is planned, the kept one stays
-pub kept_guide : (kept : GuideGraph) (planned : Option GuideGraph) → ((other : GuideGraph) → planned ≡ Some other → ⊥) → guide_then kept planned ≡ kept
+pub kept_guide : (kept : GuideGraph) (planned : Option PlannedGuide) → ((other : PlannedGuide) → planned ≡ Some other → ⊥) → guide_then kept planned ≡ kept
 kept_guide kept None none = refl
 kept_guide kept (Some other) none = absurd (none other refl)
 

@@ -17,7 +17,11 @@ use Rattle.oem_labels.proofs.TextSetLaws.{first_uses-apart}
 use Rattle.oem_changes.proofs.ValidLaws.{valid_after, rooted_graph}
 use Rattle.oem_changes.proofs.DeterminedLaws.{one_between, one_after}
 use Rattle.dataguide.specs.declared.faults.GuideFault.{GuideFault}
-use Rattle.dataguide.specs.Guides.{GuideGraph}
+use Rattle.lore_base.specs.Databases.{AreAscendingEdges}
+use Rattle.lore_base.specs.PathOrder.{AreInPathOrder}
+use Rattle.oem_graph.specs.Plans.{AreEdgeChanges}
+use Rattle.dataguide.specs.Guides.{GuideGraph, StandsFor, sets_of}
+use Rattle.dataguide.specs.Deltas.{StoodFor}
 use Rattle.dataguide.specs.GuideCauses.{GuideCause}
 use Rattle.lore_store.specs.Stores.{PlannedDatabase, database_then, order, IsGuided}
 use Rattle.lore_store.specs.inside.Sizes.{SizeCause}
@@ -138,6 +142,21 @@ module _ (names : List (List ℕ × Oid)) (edges : List Edge) (graph : OemGraph)
 
   pub graph_cause : (limit : ℕ) (error : GuideFault) → GuideCause limit names edges error → GuideCause limit graph.names graph.edges error
   graph_cause limit error cause = rw (named, linked) at cause
+
+  pub graph_guided : (guide : GuideGraph) → StandsFor guide names edges → AreInPathOrder names edges (sets_of guide.nodes) → IsGuided graph guide
+  graph_guided guide stands order = record { stands = rw (named, linked) at stands; order = rw (named, linked) at order }
+
+-- the guide that is kept stood before the edges changed
+pub stood_before : (graph : OemGraph) (guide : GuideGraph) → IsGuided graph guide → (then lost fresh : List Edge) → AreEdgeChanges graph.edges then lost fresh
+    → (edges gone come : List Edge) → edges ≡ then → gone ≡ lost → come ≡ fresh → StoodFor guide gone come edges × AreAscendingEdges come
+stood_before graph guide guided then lost fresh changes edges gone come same same_lost same_fresh =
+    let stood : StoodFor guide lost fresh then = record {
+      names = graph.names;
+      before = graph.edges;
+      stands = guided.stands;
+      differ = record { lost_are = changes.lost_exact; fresh_are = changes.fresh_exact };
+    } in
+    (rw (same, same_lost, same_fresh) stood, rw same_fresh changes.fresh_ascend)
 
 -- where nothing is linked anew, the guide stays, and it fits
 pub stays_guided : (db : Database) (guide : GuideGraph) → IsValid db → IsGuided db.graph guide → (changes : Changes) → LinkNothing changes

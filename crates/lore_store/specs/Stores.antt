@@ -1,5 +1,5 @@
 -- Stores, and what a prepared change leads to.
-use Rattle.std.specs.Prelude.{ℕ, ◌≤◌, List, [], ◌∷◌, ◌++◌, Option, Some, None}
+use Rattle.std.specs.Prelude.{ℕ, ◌≤◌, List, [], ◌∷◌, ◌++◌, Option, Some, None, IfSome}
 use Rattle.lore_store.specs.Types.{Mode, NODES, Refusal}
 use Rattle.lore_base.specs.GuideLimits.{FitsGuide}
 use Rattle.lore_store.specs.Types.refusals
@@ -8,6 +8,8 @@ use Rattle.lore_store.specs.declared.indexes.IndexPlan.{IndexPlan}
 use Rattle.lore_store.specs.Indexes.{AreIndexes, AreIndexed, HasIndexRoom}
 use Rattle.lore_base.specs.Databases.{OemGraph, Database, IsValid}
 use Rattle.dataguide.specs.Guides.{GuideGraph, IsOrderedGuide}
+use Rattle.dataguide.specs.Deltas.{PlannedGuide, IsReady}
+use Rattle.dataguide.specs.Deltas as guides
 use Rattle.oem_graph.specs.Graphs.{RoomyGraph}
 use Rattle.oem_graph.specs.Plans.{PlannedGraph, graph_then, HasRoom}
 use Rattle.oem_labels.specs.Labels.{PlannedLabels, LeadsFrom}
@@ -33,12 +35,13 @@ pub record IsStored (db : Database) (kept : Indexes) (guide : GuideGraph) : Type
   pub indexes : AreIndexes db.graph kept
   pub guided : IsGuided db.graph guide
 
--- what becomes of the graph, which label texts come, which entries go and come, and the guide, if it is another
+-- what becomes of the graph, which label texts come, which entries go and come, and what becomes of the guide, if it
+-- doesn't stay
 pub record PlannedDatabase : Type 0 where
   pub graph : PlannedGraph
   pub labels : PlannedLabels
   pub indexes : IndexPlan
-  pub guide : Option GuideGraph
+  pub guide : Option PlannedGuide
 
 -- the database that a prepared change leads to
 abbrev pub database_then : Database → PlannedDatabase → Database
@@ -50,9 +53,9 @@ database_then before plan = record {
 }
 
 -- the guide that there is then
-abbrev pub guide_then : GuideGraph → Option GuideGraph → GuideGraph
+abbrev pub guide_then : GuideGraph → Option PlannedGuide → GuideGraph
 guide_then kept None = kept
-guide_then kept (Some other) = other
+guide_then kept (Some plan) = guides.guide_then kept.nodes plan
 
 -- the plan leads from the database and its guide to a valid one and its guide, in all that is kept of it
 pub record LeadsOn (before : Database) (guide : GuideGraph) (plan : PlannedDatabase) : Type 0 where
@@ -60,6 +63,7 @@ pub record LeadsOn (before : Database) (guide : GuideGraph) (plan : PlannedDatab
   pub labels : LeadsFrom before.labels plan.labels
   pub indexes : AreIndexed before.graph (database_then before plan).graph plan.indexes
   pub guided : IsGuided (database_then before plan).graph (guide_then guide plan.guide)
+  pub ready : IfSome plan.guide (IsReady guide.nodes)
 
 -- the store keeps the room free that the prepared change needs
 pub record HasRoomFor (store : RoomyDatabase) (plan : PlannedDatabase) : Type 0 where

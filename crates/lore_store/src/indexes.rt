@@ -1,7 +1,7 @@
 ghost use Rattle.std.specs.Prelude.{◌≡◌, ◌≤◌, length, IfOk, OnOk};
 ghost use Rattle.lore_base.specs.Databases.{OemGraph, IsRooted, new_graph};
 ghost use Rattle.lore_base.specs.ChangeSets.{FitsGraph, IsGraphAfter};
-ghost use Rattle.oem_graph.specs.Plans.{graph_then};
+ghost use Rattle.oem_graph.specs.Plans.{graph_then, AreEdgeChanges};
 ghost use Rattle.lore_store.specs.Types.{EDGES};
 ghost use Rattle.lore_store.specs.Indexes.{AreIndexes, AreIndexed, HasIndexRoom};
 ghost use Rattle.lore_store.specs.inside.Fitting.{FitsIndexes};
@@ -86,13 +86,14 @@ impl Indexes {
         Ok(IndexPlan { links, values })
     }
 
-    /// Which entries go and come where the graph becomes that of the plan.
+    /// Which entries go and come where the graph becomes that of the plan, by these edges.
     pub(crate) fn prepare<L: Ledger>(
         &self,
         alloc: Global,
         graph: &Graph,
         changes: &Changes,
         plan: &GraphPlan,
+        edges: &EdgeChanges,
         steps: &mut Steps<L>,
     ) -> Result<IndexPlan, NoMemory>
         requires kept { AreIndexes graph.now.graph self.now }
@@ -100,16 +101,17 @@ impl Indexes {
         requires fits { FitsGraph graph.now.graph changes.now }
         requires after { IsGraphAfter graph.now.graph changes.now
             (graph_then graph.now.graph plan.now) }
+        requires edges { AreEdgeChanges graph.now.graph.edges
+            (graph_then graph.now.graph plan.now).edges edges.now.lost edges.now.fresh }
         requires few { length (graph_then graph.now.graph plan.now).edges ≤ EDGES }
         ensures { let after = graph_then graph.now.graph plan.now in
             IfOk result (AreIndexed graph.now.graph after) }
     {
-        let EdgeChanges { lost, fresh } = graph.edge_changes(plan)?;
-        let links = self.links.prepare(&lost, &fresh)?;
+        let links = self.links.prepare(&edges.lost, &edges.fresh)?;
         let then = graph.then(plan);
         let changes = GraphChanges {
-            lost: lost.as_slice(),
-            fresh: fresh.as_slice(),
+            lost: edges.lost.as_slice(),
+            fresh: edges.fresh.as_slice(),
             given: changes.values.as_slice(),
         };
         let entries = entry_changes(alloc, &self.links, graph, &then, changes, steps)?;

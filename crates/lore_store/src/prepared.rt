@@ -1,5 +1,5 @@
 use crate::indexes::IndexPlan;
-use dataguide::Guide;
+use dataguide::GuideDelta;
 use oem_graph::GraphPlan;
 use oem_labels::LabelPlan;
 use std::marker::Model;
@@ -10,8 +10,8 @@ pub struct Prepared {
     pub(crate) graph: GraphPlan,
     pub(crate) labels: LabelPlan,
     pub(crate) indexes: IndexPlan,
-    // The guide then, where it is another.
-    pub(crate) guide: Option<Guide>,
+    // What becomes of the guide, where it doesn't stay.
+    pub(crate) guide: Option<GuideDelta>,
 }
 
 impl Model for Prepared {

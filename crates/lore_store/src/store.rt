@@ -1,10 +1,11 @@
-ghost use Rattle.std.specs.Prelude.{◌≡◌, ◌↔◌, IsTrue, IfOk, IfErr, OnOk, OnErr};
+ghost use Rattle.std.specs.Prelude.{◌≡◌, ◌↔◌, IsTrue, IfSome, IfOk, IfErr, OnOk, OnErr};
 ghost use Rattle.lore_base.specs.Databases.{IsValid, new_database};
 ghost use Rattle.lore_base.specs.ChangeSets.{FitsGraph, Fits, IsAfter, IsGraphAfter, AreDead};
 ghost use Rattle.lore_base.specs.GuideLimits.{FitsGuide};
 ghost use Rattle.lore_base.specs.ChangeCauses.{DatabaseCause};
 ghost use Rattle.lore_base.specs.Verdicts.{IsClear, IsToldBy};
-ghost use Rattle.oem_graph.specs.Plans.{graph_then};
+ghost use Rattle.oem_graph.specs.Plans.{graph_then, AreEdgeChanges};
+ghost use Rattle.dataguide.specs.Deltas.{IsReady};
 ghost use Rattle.lore_base.specs.Restores.{IsWhole, database_from};
 ghost use Rattle.oem_labels.specs.Labels.{AreLabels};
 ghost use Rattle.index_traits.specs.Entries.{AreLinks, AreValueEntries};
@@ -18,11 +19,11 @@ ghost use Rattle.lore_store.specs.inside.Unlinked.{LinkNothing};
 use crate::faults::{RestoreFault, StoreFault};
 use crate::indexes::Indexes;
 use crate::prepared::Prepared;
-use dataguide::Guide;
+use dataguide::{Guide, GuideDelta};
 use link_index::LinkIndex;
 use lore_base::limits::{EDGES, NAMES, NODES, OBJECTS, START_NODES};
 use lore_base::{Changes, Mode, NoMemory, OidBuf, Restored, Steps, TextList};
-use oem_graph::{Graph, GraphPlan};
+use oem_graph::{EdgeChanges, Graph, GraphPlan};
 use oem_labels::LabelTable;
 use oem_reach::dead_objects;
 use std::alloc::Global;
@@ -173,11 +174,12 @@ impl Store {
         let dead = self.dead(alloc, changes, steps)?;
         let graph = self.graph.prepare(changes, &dead)?;
         self.check_sizes(&graph)?;
-        let guide = self.guide_then(alloc, changes, &graph, steps)?;
+        let edges = self.graph.edge_changes(&graph)?;
+        let guide = self.guide_then(changes, &graph, &edges, steps)?;
         let labels = self.labels.plan_new(&changes.labels)?;
         let indexes = self
             .indexes
-            .prepare(alloc, &self.graph, changes, &graph, steps)?;
+            .prepare(alloc, &self.graph, changes, &graph, &edges, steps)?;
         Ok(Prepared {
             graph,
             labels,
@@ -194,6 +196,7 @@ impl Store {
         ensures guide { self.new.guide ≡ self.old.guide }
     {
         self.graph.reserve(&prepared.graph)?;
+        make_ready(&mut self.guide, &prepared.guide)?;
         self.indexes.reserve(&prepared.indexes)
     }
 
@@ -213,7 +216,7 @@ impl Store {
         self.labels.commit_new(labels);
         self.indexes.commit(indexes);
         if let Some(guide) = guide {
-            self.guide = guide;
+            guide_maintain::commit(&mut self.guide, guide);
         }
     }
 
@@ -284,20 +287,23 @@ impl Store {
         dead_objects(alloc, names, &overlay, lost, fresh, changes, steps)
     }
 
-    // The guide of the graph that the plan leads to. None where nothing is linked anew, and so the
-    // guide stays.
+    // The guide of the graph that the plan leads to, where it has lost and gained these edges. None
+    // where nothing is linked anew, and so the guide stays.
     fn guide_then<L: Ledger>(
         &self,
-        alloc: Global,
         changes: &Changes,
         plan: &GraphPlan,
+        edges: &EdgeChanges,
         steps: &mut Steps<L>,
-    ) -> Result<Option<Guide>, StoreFault>
+    ) -> Result<Option<GuideDelta>, StoreFault>
         requires fits { FitsGraph self.now.db.graph changes.now }
         requires after { IsGraphAfter self.now.db.graph changes.now
             (graph_then self.now.db.graph plan.now) }
+        requires edges { AreEdgeChanges self.now.db.graph.edges
+            (graph_then self.now.db.graph plan.now).edges edges.now.lost edges.now.fresh }
         ensures guided { let after = graph_then self.now.db.graph plan.now in
             IfOk result (λ guide. IsGuided after (spec.guide_then self.now.guide guide)) }
+        ensures ready { IfOk result (λ guide. IfSome guide (IsReady self.now.guide.nodes)) }
         ensures fits { let after = graph_then self.now.db.graph plan.now in
             OnOk result (FitsGuide self.now.db.nodes after.names after.edges) }
         ensures err { let after = graph_then self.now.db.graph plan.now in
@@ -308,8 +314,17 @@ impl Store {
         if link_nothing(changes) {
             return Ok(None);
         }
-        let limit = self.limit;
-        let guide = Guide::build(alloc, &then, plan.names(), limit, steps)?;
+        let (lost, fresh) = (edges.lost.as_slice(), edges.fresh.as_slice());
+        let names = plan.names();
+        let guide = guide_maintain::plan(
+            &self.guide,
+            &then,
+            lost,
+            fresh,
+            names,
+            self.limit,
+            steps,
+        )?;
         Ok(Some(guide))
     }
 
@@ -330,6 +345,16 @@ impl Store {
             return Err(StoreFault::TooManyEdges);
         }
         Ok(())
+    }
+}
+
+// Takes the memory that the guide needs for its plan, if there is one.
+fn make_ready(guide: &mut Guide, plan: &Option<GuideDelta>) -> Result<(), NoMemory>
+    ensures { guide.new ≡ guide.old }
+{
+    match plan {
+        Some(plan) => guide_maintain::reserve(guide, plan),
+        None => Ok(()),
     }
 }
 

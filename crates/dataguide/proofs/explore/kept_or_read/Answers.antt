@@ -1,17 +1,14 @@
-use Rattle.std.proofs.Common.{List, map, inl, inr, All, sym, ap, ◌∙◌, subst, refl}
+use Rattle.std.proofs.Common.{List, inl, inr, sym, ◌∙◌, subst, refl}
 use Rattle.std.proofs.lemmas.Bool.{false≢true}
-use Rattle.dataguide.specs.Types.{Oid, Label, Node, Origin, Kept}
+use Rattle.dataguide.specs.Types.{Oid, Kept}
 use Rattle.dataguide.specs.Touched.{Meet}
 use Rattle.dataguide.specs.Guides.{sets_of}
-use Rattle.dataguide.specs.Deltas.{IsOrigin, origin_set}
+use Rattle.dataguide.specs.Deltas.{origin_set}
 use Rattle.dataguide.specs.inside.Arcs.{AreSteps}
 use Rattle.dataguide.specs.inside.Founds.{steps_of, Costs}
-use Rattle.dataguide.proofs.CleanLaws.{kept-steps, kept-origins}
+use Rattle.dataguide.proofs.PlaceLaws.{Contains-at}
 use Rattle.dataguide.proofs.ReadLaws.{kept-is, clean-untouched}
 use Rattle.dataguide.proofs.explore.kept_or_read.Goals as goal
-
-abbrev as_target : Label × Node → Label × Origin
-as_target edge = (edge.0, Kept edge.1)
 
 pub returns-then-meets-clause-steps : goal.returns-then-meets-clause-steps
 returns-then-meets-clause-steps g c =
@@ -33,31 +30,20 @@ returns-then-meets-clause-reads g c =
     (sym (kept-is kept c.args.node c.node_of-there.result.now c.requires.there c.node_of-there.ensures))
     (inl (inr (c.meets.ensures.0 c.if-meets.true), c.in_ok-targets.ensures.reads))
 
+pub kept_or_grown-requires-clause-there : goal.kept_or_grown-requires-clause-there
+kept_or_grown-requires-clause-there g c =
+    Contains-at c.args.change.now.guide.now.nodes c.args.node.0 c.node_of-there.result.now c.node_of-there.ensures
+
+pub kept_or_grown-requires-clause-clean : goal.kept_or_grown-requires-clause-clean
+kept_or_grown-requires-clause-clean g c = λ m. false≢true (sym c.if-meets.false ∙ c.meets.ensures.1 m)
+
 pub returns-clause-steps : goal.returns-clause-steps
 returns-clause-steps g c =
     let kept = c.args.change.now.guide.now.nodes in
-    let node = c.node_of-there.result.now in
-    let edges = g.A.Adjacent.edges c.args.change.now.after.now in
-    let stood = c.requires.stood in
-    let clean = λ (m : Meet node.set c.args.change.now.dirty.now). false≢true
-    (sym c.if-meets.false ∙ c.meets.ensures.1 m) in
-    let steps = kept-steps c.args.change.now.guide.now stood.names stood.before stood.stands c.args.node node
-    c.node_of-there.ensures edges
-    c.args.change.now.dirty.now stood.differ clean in
-    let is = c.in_ok-targets-2.ensures ∙ ap (map as_target) c.as_slice.ensures in
-    subst (λ (s : List Oid). AreSteps edges s (steps_of kept c.in_ok-targets-2.targets.items))
-    (sym (kept-is kept c.args.node node c.requires.there c.node_of-there.ensures))
-    (subst (λ (l : List (Label × Origin)). AreSteps edges node.set (steps_of kept l)) (sym is) steps)
-
-pub returns-clause-there : goal.returns-clause-there
-returns-clause-there g c =
-    let kept = c.args.change.now.guide.now.nodes in
-    let node = c.node_of-there.result.now in
-    let stood = c.requires.stood in
-    let is = c.in_ok-targets-2.ensures ∙ ap (map as_target) c.as_slice.ensures in
-    subst (λ (l : List (Label × Origin)). All (λ (t : Label × Origin). IsOrigin kept t.1) l) (sym is)
-    (kept-origins c.args.change.now.guide.now stood.names stood.before stood.stands c.args.node node
-    c.node_of-there.ensures)
+    subst (λ (s : List Oid). AreSteps (g.A.Adjacent.edges c.args.change.now.after.now) s
+    (steps_of kept c.in_ok-targets-2.targets.items))
+    (sym (kept-is kept c.args.node c.node_of-there.result.now c.requires.there c.node_of-there.ensures))
+    c.in_ok-targets-2.ensures.steps
 
 pub returns-clause-reads : goal.returns-clause-reads
 returns-clause-reads g c =

@@ -1,21 +1,20 @@
-use Rattle.std.proofs.Common.{◌+◌, List, [], sym, ap, ◌∙◌, subst}
+use Rattle.std.proofs.Common.{◌+◌, List, [], sym, ap, ◌∙◌, subst, arith}
 use Rattle.std.specs.List.{sum_by}
 use Rattle.std.proofs.lemmas.Result.{err_from_is_err_and}
 use Rattle.lore_base.specs.PathOrder.{AreInPathOrder}
-use Rattle.dataguide.specs.Types.{Oid, GuideNode}
+use Rattle.dataguide.specs.Types.{GuideNode}
 use Rattle.dataguide.specs.ReadCosts.{reads_of}
 use Rattle.dataguide.specs.Guides.{GuideGraph, StandsFor, sets_of}
 use Rattle.dataguide.specs.Touched.{ReadsTouched, ReadsSome}
-use Rattle.dataguide.specs.Deltas.{StoodFor, guide_then}
+use Rattle.dataguide.specs.Deltas.{guide_then}
 use Rattle.dataguide.proofs.ChangeLaws.{stood-new, reads-all, reads-at_most}
 use Rattle.dataguide.proofs.data_guide.Guide.build.Goals as goal
 
 pub plan-requires : goal.plan-requires
 plan-requires g c = record {
-  stood = subst (λ (d : List Oid). StoodFor c.new-guide.result d (g.A.Adjacent.edges c.args.graph.now))
-      (sym (c.from_ascending-none.ensures ∙ c.new.ensures))
-      (stood-new c.new-guide.result (g.A.Adjacent.edges c.args.graph.now) c.new-guide.ensures.nodes
-      c.new-guide.ensures.entries);
+  stood = stood-new c.new-guide.result (g.A.Adjacent.edges c.args.graph.now) c.new-guide.ensures.nodes
+      c.new-guide.ensures.entries;
+  ascend = λ i j d less within. absurd (omega (arith, within));
 }
 
 pub returns-clause-guide : goal.returns-clause-guide
@@ -33,10 +32,8 @@ pub returns-clause-steps : goal.returns-clause-steps
 returns-clause-steps g c =
     let edges = g.A.Adjacent.edges c.args.graph.now in
     let sets = sets_of (guide_then c.new-guide.result.nodes c.in_ok-delta.delta).nodes in
-    let reads = subst (λ (d : List Oid). ReadsTouched [] d edges sets c.args.steps.now c.plan.new.steps)
-    (c.from_ascending-none.ensures ∙ c.new.ensures)
-    (subst (λ (l : List GuideNode). ReadsTouched (sets_of l) c.from_ascending-none.result edges sets c.args.steps.now
-    c.plan.new.steps) c.new-guide.ensures.nodes c.in_ok-delta.ensures.steps) in
+    let reads = subst (λ (l : List GuideNode). ReadsTouched (sets_of l) [] edges sets c.args.steps.now c.plan.new.steps)
+    c.new-guide.ensures.nodes c.in_ok-delta.ensures.steps in
     reads-all edges sets c.args.steps.now c.plan.new.steps c.in_ok-delta.ensures.guide.nodes.apart reads
     ∙ ap (λ (v : GuideGraph). c.args.steps.now + sum_by (reads_of edges) (sets_of v.nodes)) (sym c.commit.ensures)
 
@@ -46,8 +43,5 @@ returns-in_err-delta-clause-reads g c =
     let edges = g.A.Adjacent.edges c.args.graph.now in
     let p = err_from_is_err_and c.from_residual.result c.from_residual.ensures.1 in
     rw p.1 (λ not_memory. reads-at_most c.args.limit names edges c.args.steps.now c.plan.new.steps
-    (subst (λ (d : List Oid). ReadsSome [] d c.args.limit names edges c.args.steps.now c.plan.new.steps)
-    (c.from_ascending-none.ensures ∙ c.new.ensures)
-    (subst (λ (l : List GuideNode). ReadsSome (sets_of l) c.from_ascending-none.result c.args.limit names edges
-    c.args.steps.now c.plan.new.steps) c.new-guide.ensures.nodes
-    (c.in_err-delta.ensures.reads (λ is. not_memory (p.2 ∙ is))))))
+    (subst (λ (l : List GuideNode). ReadsSome (sets_of l) [] c.args.limit names edges c.args.steps.now c.plan.new.steps)
+    c.new-guide.ensures.nodes (c.in_err-delta.ensures.reads (λ is. not_memory (p.2 ∙ is)))))

@@ -1,4 +1,4 @@
-use Rattle.std.proofs.Common.{◌≡◌, ℕ, ◌<◌, ◌≤◌, List, [], ◌∷◌, length, map, sym, ◌∙◌, subst, arith}
+use Rattle.std.proofs.Common.{◌≡◌, ℕ, ◌<◌, ◌≤◌, List, [], ◌∷◌, length, map, take, sym, ◌∙◌, subst, arith}
 use Rattle.std.specs.List.{AllZip}
 use Rattle.std.specs.List.Sorted.{IsStrictlySortedBy}
 use Rattle.std.proofs.lemmas.List.{take_all, length-map}
@@ -7,7 +7,7 @@ use Rattle.lore_base.specs.Bytes.{bytes_cmp}
 use Rattle.dataguide.specs.Types.{Oid, Node, GuideNode, GuideFault}
 use Rattle.dataguide.specs.Guides.{sets_of, IsEntry}
 use Rattle.dataguide.specs.GuideCauses.{GuideCause}
-use Rattle.dataguide.specs.Touched.{ReadsTouched}
+use Rattle.dataguide.specs.Touched.{ReadsTouched, parents_of}
 use Rattle.dataguide.specs.inside.Entering.{AreEntered}
 use Rattle.dataguide.specs.inside.Trails.{IsSearched}
 use Rattle.dataguide.specs.inside.Founds.{found_nodes, found_sets, AreStopped}
@@ -19,6 +19,7 @@ use Rattle.dataguide.proofs.FillLaws.{planned-ascend}
 use Rattle.dataguide.proofs.RuleLaws.{names-refused, steps-refused}
 use Rattle.dataguide.proofs.ExpandLaws.{grown-passed}
 use Rattle.dataguide.proofs.PlanLaws.{reads-none, reads-more, reads-nothing, reads-halted, name-sets, name-origins}
+use Rattle.dataguide.proofs.ChangeLaws.{stood-change, reads-same, some-same, costs-same}
 use Rattle.dataguide.proofs.PlanLaws.{nodes-count, keeps-once, no-sets, entries-start, entries-stay}
 use Rattle.dataguide.proofs.data_guide.Guide.plan.Goals as goal
 
@@ -38,7 +39,7 @@ nodes-init g c =
       found = enters.found;
       fit = enters.fit;
       searched = searched-start names edges (found_nodes kept found) c.in_ok-starts.ensures.table entered;
-      reads = reads-none (sets_of kept) c.args.dirty.now edges (found_sets kept found) c.args.steps.now;
+      reads = reads-none (sets_of kept) (parents_of c.args.lost.now) edges (found_sets kept found) c.args.steps.now;
       entries = subst (λ (l : List (List ℕ × Node)). AllZip (IsEntry (found_nodes kept found)) names l)
           (sym c.into_items-entries.ensures)
           (entries-start kept (found_nodes kept found) names c.in_ok-starts.starts.items c.in_ok-row.row
@@ -66,11 +67,12 @@ nodes-preserved g c =
       fit = c.in_ok-expand.ensures.fit;
       searched = searched-more names edges (found_nodes kept old) (found_nodes kept new) c.nodes.next before.searched
           now;
-      reads = reads-more (sets_of kept) c.args.dirty.now edges (found_sets kept old) (found_sets kept new)
+      reads = reads-more (sets_of kept) (parents_of c.args.lost.now) edges (found_sets kept old) (found_sets kept new)
           c.nodes.next now.set
           c.args.steps.now c.nodes.steps c.expand.new.steps before.searched.is.apart
           (expanded-sets edges (found_nodes kept old) (found_nodes kept new) c.nodes.next now) now.at before.reads
-          (c.in_ok-expand.ensures.reads now.set now.at);
+          (costs-same (sets_of kept) c.in_ok-dirty.dirty (parents_of c.args.lost.now) c.in_ok-dirty.ensures.exact edges now.set
+          c.nodes.steps c.expand.new.steps (c.in_ok-expand.ensures.reads now.set now.at));
       entries = entries-stay edges (found_nodes kept old) (found_nodes kept new) c.nodes.next now names
           c.into_items-entries.result.items before.entries;
       passed = omega (arith, grown-passed kept edges old new c.nodes.next now within);
@@ -133,8 +135,8 @@ returns-clause-steps g c =
       nodes-count kept found,
       length-map (found_nodes kept found) (λ (n : GuideNode). n.set),
     ) in
-    subst (λ (l : List (List Oid)). ReadsTouched (sets_of kept) c.args.dirty.now edges l c.args.steps.now c.nodes.steps)
-    (take_all c.nodes.next (found_sets kept found) few) c.nodes.invariant.reads
+    subst (λ (l : List (List Oid)). ReadsTouched (sets_of kept) (parents_of c.args.lost.now) edges l c.args.steps.now
+    c.nodes.steps) (take_all c.nodes.next (found_sets kept found) few) c.nodes.invariant.reads
 
 pub returns-in_err-row-clause-cause : goal.returns-in_err-row-clause-cause
 returns-in_err-row-clause-cause g c =
@@ -160,7 +162,7 @@ returns-in_err-expand-clause-cause g c =
     rw p.1 (subst (λ (f : GuideFault). GuideCause c.args.limit names edges f) (sym p.2)
     (steps-refused names edges c.in_ok-starts.ensures.table c.in_err-expand.field-0.0 c.args.limit
     (found_nodes kept c.nodes.found) c.nodes.next
-    (sets_of kept) c.args.dirty.now c.nodes.steps c.expand.new.steps c.nodes.invariant.searched
+    (sets_of kept) c.in_ok-dirty.dirty c.nodes.steps c.expand.new.steps c.nodes.invariant.searched
     c.in_err-expand.ensures.halted))
 
 pub returns-in_err-expand-clause-reads : goal.returns-in_err-expand-clause-reads
@@ -169,16 +171,21 @@ returns-in_err-expand-clause-reads g c =
     let names = c.args.names.now in
     let edges = g.A.Adjacent.edges c.args.after.now in
     let p = err_from_is_err_and c.from_residual-in_err-expand.result c.from_residual-in_err-expand.ensures.1 in
-    rw p.1 (λ not_memory. reads-halted c.in_err-expand.field-0.0 c.args.limit (sets_of kept) c.args.dirty.now names
-    edges
+    let exact = c.in_ok-dirty.ensures.exact in
+    let reads = reads-same (sets_of kept) (parents_of c.args.lost.now) c.in_ok-dirty.dirty
+    (λ oid. ((exact oid).1, (exact oid).0)) edges (take c.nodes.next (found_sets kept c.nodes.found)) c.args.steps.now
+    c.nodes.steps c.nodes.invariant.reads in
+    rw p.1 (λ not_memory. some-same (sets_of kept) c.in_ok-dirty.dirty (parents_of c.args.lost.now)
+    c.in_ok-dirty.ensures.exact c.args.limit names edges c.args.steps.now c.expand.new.steps
+    (reads-halted c.in_err-expand.field-0.0 c.args.limit (sets_of kept) c.in_ok-dirty.dirty names edges
     (found_nodes kept c.nodes.found) c.nodes.next c.args.steps.now c.nodes.steps c.expand.new.steps
     (λ is. not_memory (p.2 ∙ is))
-    c.nodes.invariant.searched c.nodes.invariant.fit c.nodes.invariant.reads c.in_err-expand.ensures.halted)
+    c.nodes.invariant.searched c.nodes.invariant.fit reads c.in_err-expand.ensures.halted))
 
 pub returns-in_err-row-clause-reads : goal.returns-in_err-row-clause-reads
 returns-in_err-row-clause-reads g c =
     let p = err_from_is_err_and c.from_residual-in_err-row.result c.from_residual-in_err-row.ensures.1 in
-    rw p.1 (λ not_memory. reads-nothing (sets_of c.args.self.now.nodes) c.args.dirty.now
+    rw p.1 (λ not_memory. reads-nothing (sets_of c.args.self.now.nodes) (parents_of c.args.lost.now)
     (g.A.Adjacent.edges c.args.after.now)
     c.args.limit c.args.names.now c.args.steps.now)
 
@@ -246,3 +253,13 @@ invariant_of-result g c =
       fits = omega (arith, c.in_ok-room.ensures.exact, c.len-2.ensures, found.nodes.ok.0);
       hashes_fit = omega (arith, c.in_ok-by_hash.ensures.exact, c.len-3.ensures, found.nodes.ok.0);
     }
+
+pub expand-requires : goal.expand-requires
+expand-requires g c = record {
+  stood = stood-change c.args.self.now c.args.lost.now c.args.fresh.now (g.A.Adjacent.edges c.args.after.now)
+      c.in_ok-dirty.dirty c.in_ok-grown.grown c.requires.stood c.requires.ascend c.in_ok-dirty.ensures
+      c.in_ok-grown.ensures;
+  found = c.nodes.invariant.found;
+  fit = c.nodes.invariant.fit;
+  place = omega (arith, c.nodes-test.true, c.len.ensures, c.nodes.found.nodes.ok.0);
+}

@@ -1,7 +1,8 @@
-use Rattle.std.proofs.Common.{length, sym, ap, subst, ◌∙◌, arith}
+use Rattle.std.proofs.Common.{length, Option, IfSome, sym, ap, subst, ◌∙◌, arith}
 use Rattle.lore_base.specs.Databases.{OemGraph, IsOrdered}
 use Rattle.oem_changes.proofs.ValidLaws.{rooted_graph}
 use Rattle.oem_graph.specs.Plans.{graph_then}
+use Rattle.dataguide.specs.Deltas.{PlannedGuide, IsReady}
 use Rattle.lore_store.specs.Stores.{RoomyDatabase, PlannedDatabase, guide_then}
 use Rattle.lore_store.proofs.IndexLaws.{fits_indexes}
 use Rattle.lore_store.proofs.CommitLaws.{leads_inside, kept_guide, stored_then}
@@ -29,7 +30,7 @@ invariant_of-self c =
     let graph = c.self.inside.graph.graph in
     let leads = leads_inside _ _ _ _ c.self.view_is c.prepared.view_is c.requires.leads in
     stored_then c.self.inside.labels graph c.self.inside.limit c.self.inside.mode c.self.inside.guide _ leads _ _ _ _ c.commit_new.ensures c.commit.ensures
-    (ap (guide_then c.self.inside.guide) c.in-Some.is)
+    (ap (guide_then c.self.inside.guide) c.in-Some.is ∙ sym c.commit-in-Some.ensures)
     (c.commit-2.ensures graph (graph_then graph c.prepared.inside.graph) c.self.invariant.indexes leads.indexes)
 
 pub invariant_of-self-in_default : goal.invariant_of-self-in_default
@@ -39,3 +40,8 @@ invariant_of-self-in_default c =
     stored_then c.self.inside.labels graph c.self.inside.limit c.self.inside.mode c.self.inside.guide _ leads _ _ _ _ c.commit_new.ensures c.commit.ensures
     (kept_guide c.self.inside.guide c.prepared.inside.guide c.in_default.not-Some)
     (c.commit-2.ensures graph (graph_then graph c.prepared.inside.graph) c.self.invariant.indexes leads.indexes)
+
+pub commit-requires-in-Some : goal.commit-requires-in-Some
+commit-requires-in-Some c =
+    let leads = leads_inside _ _ _ _ c.self.view_is c.prepared.view_is c.requires.leads in
+    subst (λ (o : Option PlannedGuide). IfSome o (IsReady c.self.inside.guide.nodes)) c.in-Some.is leads.ready

@@ -64,6 +64,7 @@ returns-clause-leads g c =
       labels = subst (λ (store : RoomyDatabase). LeadsFrom store.db.labels plan.labels) c.self.view_is c.in_ok-labels.ensures.leads;
       indexes = subst (λ (store : RoomyDatabase). AreIndexed store.db.graph (graph_then store.db.graph plan.graph) plan.indexes) c.self.view_is c.in_ok-indexes.ensures;
       guided = c.in_ok-guide.ensures.guided;
+      ready = c.in_ok-guide.ensures.ready;
     }
 
 pub returns-clause-ok : goal.returns-clause-ok
@@ -83,3 +84,8 @@ returns-in_err-guide-clause-err g c =
     let answered = err_from_is_err_and c.from_residual-in_err-guide.result c.from_residual-in_err-guide.ensures.1 in
     rw (answered.1, answered.2)
     (guided_told db changes (graph_then db.graph plan) after c.in_ok-check_sizes.ensures.ok (refusal_of c.in_err-guide.field-0.0) c.in_err-guide.ensures.err)
+
+pub returns-in_err-indexes-clause-err : goal.returns-in_err-indexes-clause-err
+returns-in_err-indexes-clause-err g c =
+    let answered = err_from_is_err_and c.from_residual-in_err-indexes.result c.from_residual-in_err-indexes.ensures.1 in
+    rw (answered.1, answered.2) tt

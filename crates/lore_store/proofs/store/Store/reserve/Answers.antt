@@ -1,5 +1,6 @@
 use Rattle.std.proofs.Common.{sym, subst}
 use Rattle.lore_base.specs.Databases.{OemGraph}
+use Rattle.dataguide.specs.Guides.{GuideGraph}
 use Rattle.lore_store.specs.Stores.{IsStored, database_of}
 use Rattle.lore_store.proofs.store.Store.reserve.Goals as goal
 
@@ -12,5 +13,7 @@ invariant_of-self-2 c =
       indexes = c.reserve-2.ensures.same c.self.inside.graph.graph c.self.invariant.indexes;
       guided = c.self.invariant.guided;
     } in
-    subst (λ (g : OemGraph). IsStored (database_of c.self.inside.labels g c.self.inside.limit c.self.inside.mode) c.reserve-2.new.self c.self.inside.guide)
-    (sym c.reserve.ensures.same) stored
+    subst (λ (g : OemGraph). IsStored (database_of c.self.inside.labels g c.self.inside.limit c.self.inside.mode) c.reserve-2.new.self c.make_ready.new.guide)
+    (sym c.reserve.ensures.same)
+    (subst (λ (u : GuideGraph). IsStored (database_of c.self.inside.labels c.self.inside.graph.graph c.self.inside.limit c.self.inside.mode) c.reserve-2.new.self u)
+    (sym c.make_ready.ensures) stored)

@@ -1,0 +1,30 @@
+use Rattle.std.proofs.Common.{◌∙◌}
+use Rattle.std.proofs.lemmas.List.Elements.{All-contains}
+use Rattle.dataguide.specs.inside.Gains.{IsThere}
+use Rattle.dataguide.proofs.GainLaws.{union-step, union-kept, union-none, node-within}
+use Rattle.dataguide.proofs.gains.united.Goals as goal
+
+pub returns-in-Some-clause-set : goal.returns-in-Some-clause-set
+returns-in-Some-clause-set c =
+    union-step c.args.guide.now.nodes c.args.edges.now c.args.row.now c.args.label c.requires.edges c.requires.row
+    c.next_by-node.result c.next_by-node.ensures.found c.next_by-node.ensures.none c.in-Some.step.now
+    c.in-Some.ensures.found c.in_ok-set-in-Some.set c.in_ok-set-in-Some.ensures
+
+pub returns-in-Some-node-clause-there : goal.returns-in-Some-node-clause-there
+returns-in-Some-node-clause-there c =
+    (All-contains (IsThere c.args.guide.now.nodes) c.args.edges.now (c.args.label, c.in-Some-node.node) c.requires.there
+    c.in-Some-node.ensures.found).0
+
+pub returns-in-Some-node-clause-set : goal.returns-in-Some-node-clause-set
+returns-in-Some-node-clause-set c =
+    let found = c.in-Some-node.ensures.found in
+    union-kept c.args.guide.now.nodes c.args.edges.now c.args.row.now c.args.label c.requires.edges c.requires.row
+    c.in-Some-node.node found c.in-None.ensures.none
+    (All-contains (IsThere c.args.guide.now.nodes) c.args.edges.now (c.args.label, c.in-Some-node.node) c.requires.there
+    found).1
+
+pub returns-in-None-node-clause-set : goal.returns-in-None-node-clause-set
+returns-in-None-node-clause-set c =
+    union-none c.args.guide.now.nodes c.args.edges.now c.args.row.now c.args.label c.requires.edges c.requires.row
+    c.in-None-node.ensures.none c.in-None.ensures.none c.from_ascending-none.result
+    (c.from_ascending-none.ensures ∙ c.new.ensures)

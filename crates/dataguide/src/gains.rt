@@ -1,0 +1,158 @@
+ghost use Rattle.std.specs.Prelude.{◌≡◌, ◌⊎◌, ◌↔◌, ◌<◌, ◌++◌, length, All, AllPairs, Contains};
+ghost use Rattle.std.specs.Prelude.{IfSome, IfOk, OnOk};
+ghost use Rattle.lore_base.specs.TargetSets.{ListsInOrder};
+ghost use Rattle.dataguide.specs.Types.{Label as TheLabel};
+ghost use Rattle.dataguide.specs.Guides.{AscendByLabel};
+ghost use Rattle.dataguide.specs.Touched.{parents_of as the_parents};
+ghost use Rattle.dataguide.specs.Deltas.{origin_set, IsOrigin};
+ghost use Rattle.dataguide.specs.inside.Gains.{labels_in, HasEither, IsThere, IsUnion, AreUnions};
+
+use crate::data_guide::{Guide, node_of};
+use crate::groups::step_by;
+use crate::nodes::{Node, next_by};
+use crate::planned_nodes::Origin;
+use lore_base::{Edge, Label, NoMemory, Oid, OidBuf, Word};
+use oem_set::OidSet;
+use std::alloc::Global;
+
+// The objects that the edges leave.
+pub(crate) fn parents_of(alloc: Global, edges: &[Edge]) -> Result<OidSet, NoMemory>
+    ensures { IfOk result (λ set. ListsInOrder (Contains (the_parents edges.now)) set) }
+{
+    let mut oids = OidBuf::with_capacity(alloc, edges.len())?;
+    'edges: for edge in edges {
+        oids.push(edge.parent)?;
+    }
+    let set = OidSet::from_buf(&mut oids)?;
+    Ok(set)
+}
+
+// Those of the objects that are in the set.
+fn those_in(alloc: Global, oids: &[Oid], set: &OidSet) -> Result<OidSet, NoMemory>
+    ensures { IfOk result
+        (λ both. ListsInOrder (λ oid. Contains oids.now oid × Contains set.now oid) both) }
+{
+    let mut both = OidBuf::new(alloc);
+    'oids: for oid in oids {
+        if set.contains(*oid) {
+            both.push(*oid)?;
+        }
+    }
+    let set = OidSet::from_buf(&mut both)?;
+    Ok(set)
+}
+
+// The objects that are in both sets: those of the smaller one are looked for in the other.
+pub(crate) fn in_both(alloc: Global, set: &OidSet, other: &OidSet) -> Result<OidSet, NoMemory>
+    ensures { IfOk result
+        (λ both. ListsInOrder (λ oid. Contains set.now oid × Contains other.now oid) both) }
+{
+    if set.len() <= other.len() {
+        let both = those_in(alloc, set.as_slice(), other)?;
+        return Ok(both);
+    }
+    let both = those_in(alloc, other.as_slice(), set)?;
+    Ok(both)
+}
+
+// Puts the labels of a row behind those that are there.
+fn push_labels<T>(labels: &mut Word, row: &[(Label, T)]) -> Result<(), NoMemory>
+    ensures { OnOk result (labels.new ≡ labels.old ++ labels_in row.now) }
+{
+    'row: for entry in row {
+        labels.push(entry.0)?;
+    }
+    Ok(())
+}
+
+// The labels of both rows, each once, in ascending order.
+fn labels_of(
+    alloc: Global,
+    edges: &[(Label, Node)],
+    row: &[(Label, OidSet)],
+) -> Result<Word, NoMemory>
+    ensures ascend { IfOk result (λ labels. AllPairs (λ a b. a.0 < b.0) labels) }
+    ensures members { IfOk result (λ labels. (label : TheLabel) → Contains labels label
+        ↔ (Contains (labels_in edges.now) label ⊎ Contains (labels_in row.now) label)) }
+{
+    let mut labels = Word::new(alloc);
+    push_labels(&mut labels, edges)?;
+    push_labels(&mut labels, row)?;
+    labels.sort_set();
+    Ok(labels)
+}
+
+// The set of a kept node, or that of none, with the objects of a step.
+fn grown_set(
+    alloc: Global,
+    guide: &Guide,
+    node: Option<Node>,
+    step: &OidSet,
+) -> Result<OidSet, NoMemory>
+    requires { IfSome node (λ node. node.0 < length guide.now.nodes) }
+    ensures { IfOk result (ListsInOrder (HasEither guide.now.nodes node step.now)) }
+{
+    let mut set = OidSet::from_ascending(OidBuf::new(alloc));
+    step.union_into(&mut set)?;
+    match node {
+        Some(node) => {
+            node_of(guide, node).set.union_into(&mut set)?;
+            return Ok(set);
+        }
+        None => return Ok(set),
+    }
+}
+
+// Where a label leads: to the kept node of its edge, where no step has the label, and else to the
+// set of that node with the objects of the step.
+fn united(
+    alloc: Global,
+    guide: &Guide,
+    edges: &[(Label, Node)],
+    row: &[(Label, OidSet)],
+    label: Label,
+) -> Result<Origin, NoMemory>
+    requires there { All (IsThere guide.now.nodes) edges.now }
+    requires edges { AscendByLabel edges.now }
+    requires row { AllPairs (λ a b. a.0.0 < b.0.0) row.now }
+    ensures there { IfOk result (λ origin. IsOrigin guide.now.nodes origin) }
+    ensures set { IfOk result (λ origin.
+        IsUnion guide.now.nodes edges.now row.now label (origin_set guide.now.nodes origin)) }
+{
+    let node = next_by(edges, label);
+    match step_by(row, label) {
+        Some(step) => {
+            let set = grown_set(alloc, guide, node, step)?;
+            return Ok(Origin::Fresh(set));
+        }
+        None => match node {
+            Some(node) => return Ok(Origin::Kept(node)),
+            None => {
+                let none = OidSet::from_ascending(OidBuf::new(alloc));
+                return Ok(Origin::Fresh(none));
+            }
+        },
+    }
+}
+
+// Where the labels of the edges and of the steps lead, in the order of the labels.
+pub(crate) fn united_targets(
+    alloc: Global,
+    guide: &Guide,
+    edges: &[(Label, Node)],
+    row: &[(Label, OidSet)],
+) -> Result<Vec<(Label, Origin)>, NoMemory>
+    requires there { All (IsThere guide.now.nodes) edges.now }
+    requires edges { AscendByLabel edges.now }
+    requires row { AllPairs (λ a b. a.0.0 < b.0.0) row.now }
+    ensures { IfOk result
+        (λ targets. AreUnions guide.now.nodes edges.now row.now targets.items) }
+{
+    let labels = labels_of(alloc, edges, row)?;
+    let mut targets = Vec::with_capacity(alloc, labels.len())?;
+    'labels: for label in labels.as_slice() {
+        let target = united(alloc, guide, edges, row, *label)?;
+        targets.push((*label, target))?;
+    }
+    Ok(targets)
+}
