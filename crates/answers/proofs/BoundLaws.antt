@@ -2,8 +2,8 @@
 use Rattle.std.proofs.Common.{◌≡◌, ℕ, zero, suc, ◌+◌, ◌<◌, ◌≤◌, List, [], ◌∷◌, length, map, get_or, All, sum_by, subst, sym, ap, ◌∙◌, arith}
 use Rattle.std.proofs.lemmas.List.{get_or-map, length-map}
 use Rattle.std.proofs.lemmas.List.Sums.{get_or-le-sum_by}
+use Rattle.plan_ops.proofs.DescribeLawsRows.{within_more}
 use Rattle.lore_base.specs.Paths.{path_tree, leaves}
-use Rattle.lorel_bound.specs.declared.bound.Start.{Start}
 use Rattle.lorel_bound.specs.declared.bound.Start.TheVariants as starts
 use Rattle.lorel_bound.specs.declared.bound.Range.{Range}
 use Rattle.lorel_bound.specs.declared.bound.Bound.{Bound}
@@ -12,19 +12,14 @@ use Rattle.lorel_bound.specs.Runnable.{IsWithin, IsCellWithin, AreInOrder, IsRun
 use Rattle.path_expr.specs.Types.{LEAVES}
 use Rattle.answers.specs.Types.{CellOf, RANGES}
 
--- a slot that is one of a few is one of more
-pub start_wider : (m n : ℕ) (start : Start) → m ≤ n → IsWithin m start → IsWithin n start
-start_wider m n (starts.Named own) le within = tt
-start_wider m n (starts.Slot slot) le within = omega (arith, le, within)
-
 -- a range starts at an object, at an earlier range, or at one of those in front of all
 ordered_start : (count : ℕ) (ranges : List RangeTree) (k : ℕ) (d : RangeTree) → AreInOrder count ranges → k < length ranges
     → IsWithin (count + length ranges) (get_or ranges k d).start
 ordered_start count [] k d order within = absurd (omega (arith, within))
 ordered_start count (range ∷ ranges) zero d order within =
-    start_wider count (count + length (range ∷ ranges)) range.start (omega arith) order.0
+    within_more count (count + length (range ∷ ranges)) range.start (omega arith) order.0
 ordered_start count (range ∷ ranges) (suc k) d order within =
-    start_wider (suc count + length ranges) (count + length (range ∷ ranges)) (get_or ranges k d).start (omega arith)
+    within_more (suc count + length ranges) (count + length (range ∷ ranges)) (get_or ranges k d).start (omega arith)
     (ordered_start (suc count) ranges k d order.1 (omega (arith, within)))
 
 -- there are few ranges
@@ -46,7 +41,7 @@ module _ (bound : Bound) (runnable : IsRunnable (bound_tree bound)) (slot : ℕ)
   pub start_fits : IsWithin RANGES range.start
   start_fits =
       let count = length (map range_tree bound.ranges) in
-      start_wider (0 + count) RANGES range.start (omega (arith, runnable.few_ranges))
+      within_more (0 + count) RANGES range.start (omega (arith, runnable.few_ranges))
       (subst (λ (tree : RangeTree). IsWithin (0 + count) tree.start) at_slot
       (ordered_start 0 (map range_tree bound.ranges) slot (range_tree range) runnable.in_order tree_within))
 

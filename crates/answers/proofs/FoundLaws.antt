@@ -1,13 +1,13 @@
 -- Rows that were noted down: those that ascend, one more row, and the answer that they give.
-use Rattle.std.proofs.Common.{◌≡◌, ◌≢◌, ℕ, ◌-◌, inl, inr, ◌↔◌, Bool, true, List, [], ◌∷◌, ◌++◌, length, get_or, Some, All, AllPairs, Less, Equal, Greater, subst, sym, ap, ◌∙◌, arith}
+use Rattle.std.proofs.Common.{◌≡◌, ◌≢◌, ℕ, ◌-◌, inl, inr, ◌↔◌, Bool, true, List, [], ◌∷◌, ◌++◌, length, get_or, Some, All, AllPairs, Less, Equal, subst, sym, ap, ◌∙◌, arith}
 use Rattle.std.specs.List.{Contains, slice_get}
-use Rattle.std.specs.Ordering.{ordering_reverse}
 use Rattle.std.specs.Cmp.{Equal-is}
 use Rattle.std.specs.Cmp.Lexicographic.{pointwise}
 use Rattle.std.proofs.lemmas.Bool.{cases_lt}
 use Rattle.std.proofs.lemmas.List.Elements.{All-contains_itself, All-weaker, Contains-append_left, Contains-push, Contains-push_cases}
 use Rattle.std.proofs.lemmas.List.Quantifiers.{all_pairs_push}
 use Rattle.std.proofs.lemmas.Option.{get_or_from_slice_get, slice_get_within}
+use Rattle.list_laws.proofs.AscentLaws.{never_less}
 use Rattle.lorel_bound.specs.CellOrder.{same_cell, tied_rows, row_cmp, rows_total, rows_ties}
 use Rattle.answers.specs.Types.{Cell}
 use Rattle.lorel_bound.specs.Answers.{AreAscendingRows, IsTooMuch}
@@ -17,11 +17,6 @@ use Rattle.answers.specs.inside.Finding.{Finds}
 -- ---- rows that are tested as equal are one
 pub equal_rows : (a b : List Cell) → pointwise same_cell a b ≡ true → a ≡ b
 equal_rows a b same = tied_rows a b ((Equal-is (row_cmp a b)).0 (sym (rows_ties a b) ∙ same))
-
-unlike_itself : (row : List Cell) → row_cmp row row ≡ Less → ⊥
-unlike_itself row less =
-    let mirrored : Less ≡ Greater = sym less ∙ rows_total.antisymm row row ∙ ap ordering_reverse less in
-    cc
 
 -- ---- rows that ascend
 -- a row that compares as equal to the last one is there
@@ -49,7 +44,7 @@ ascend_push rows last row ascend is behind =
 -- none is there twice
 pub apart_rows : (rows : List (List Cell)) → AreAscendingRows rows → AllPairs (λ a b. a ≢ b) rows
 apart_rows rows ascend i j d low within same =
-    unlike_itself (get_or rows j d) (subst (λ (r : List Cell). row_cmp r (get_or rows j d) ≡ Less) same (ascend i j d low within))
+    never_less row_cmp rows_total (get_or rows j d) (subst (λ (r : List Cell). row_cmp r (get_or rows j d) ≡ Less) same (ascend i j d low within))
 
 -- ---- one row more
 pub finds_one : (row : List Cell) (old pushed new : List (List Cell)) (cut : Bool) → pushed ≡ old ++ row ∷ []

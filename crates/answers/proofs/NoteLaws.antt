@@ -6,6 +6,7 @@ use Rattle.std.proofs.lemmas.List.{take_more}
 use Rattle.std.proofs.lemmas.List.Elements.{All-weaker, All-contains_itself, All-contains, All-take, Contains-append_left, Contains-push, Contains-push_cases}
 use Rattle.std.proofs.lemmas.List.Sorted.{Contains-permutation, IsPermutation-sym, length_permutation}
 use Rattle.std.proofs.lemmas.Option.{same_Some}
+use Rattle.lore_base.proofs.MemberLaws.{Contains-none}
 use Rattle.lorel_bound.specs.declared.bound.Bound.{Bound}
 use Rattle.lorel_bound.specs.Bound.{bound_tree}
 use Rattle.answers.specs.Types.{Oid, Edge, Cell}
@@ -164,10 +165,6 @@ found_many Wanted Asked old new wanted finds =
       many = many.1;
     }
 
--- no row of no rows of slots is there
-none_there : (slots : List Oid) → Contains [] slots → ⊥
-none_there slots there = omega (arith, there.1)
-
 -- the order of no rows of slots
 pub none_moved : (xs ys : List (List Oid)) → IsPermutation xs ys → xs ≡ [] → ys ≡ []
 none_moved xs [] moved none = refl
@@ -177,7 +174,7 @@ none_moved xs (y ∷ ys) moved none = absurd (omega (arith, length_permutation x
 pub none_noted : (shown : RowsShown) → shown.waiting ≡ [] → shown.found ≡ [] → (row : List Cell) → IsNoted shown row → ⊥
 none_noted shown waits found row noted = elim noted [
   | inl there ↦ let at : Contains [] row = subst (λ (rows : List (List Cell)). Contains rows row) found there in omega (arith, at.1)
-  | inr asked ↦ none_there asked.0 (subst (λ (rows : List (List Oid)). Contains rows asked.0) waits asked.1)
+  | inr asked ↦ Contains-none asked.0 (subst (λ (rows : List (List Oid)). Contains rows asked.0) waits asked.1)
 ]
 
 -- where none waits the answer of those found is that of all
@@ -195,7 +192,7 @@ found_all Wanted shown found cut now whole none same =
         | inl there ↦ (now.exact whole row).0 (inl (subst (λ (rows : List (List Cell)). Contains rows row) same there))
         | inr waits ↦ (now.exact whole row).0 (inr waits)
       ],
-    )) (λ row asked. none_there asked.0 (subst (λ (rows : List (List Oid)). Contains rows asked.0) none asked.1))
+    )) (λ row asked. Contains-none asked.0 (subst (λ (rows : List (List Oid)). Contains rows asked.0) none asked.1))
 
 pub of_one_trans : (old mid new : RowsShown) → AreOfOne old mid → AreOfOne mid new → AreOfOne old new
 of_one_trans old mid new first next = record {
@@ -281,7 +278,7 @@ module _ (labels : List (List ℕ)) (edges : List Edge) (bound : Bound) where
         ] in one in
         record {
           exact = λ whole row. (
-            λ h. elim h [ inl there ↦ sound row there | inr waits ↦ absurd (none_there waits.0 waits.1) ],
+            λ h. elim h [ inl there ↦ sound row there | inr waits ↦ absurd (Contains-none waits.0 waits.1) ],
             λ h. elim h [
               | inl there ↦ inl (finds.kept row there)
               | inr waits ↦ inl (finds.complete whole row (waits.0, Contains-permutation waiting ordered waits.0 moved waits.1, (shows waits.0 row).0 waits.2))

@@ -63,8 +63,8 @@ impl FoundRows {
         }
     }
 
-    /// Notes the row down. Answers whether it is certain that there are more than 100,000 rows, or
-    /// more than 16,777,216 labels in their words.
+    /// Notes the row down. Answers whether it is certain that there are more rows than `ROWS`, or
+    /// more labels in their words than `PATH_LABELS`.
     pub(crate) fn add(&mut self, row: AnswerRow) -> Result<bool, NoMemory>
         ensures { IfOk result (λ cut. Finds (λ found. found ≡ row) self.old self.new cut) }
     {
@@ -79,8 +79,8 @@ impl FoundRows {
         Ok(self.has_too_much())
     }
 
-    /// The rows in their order, each once; None exactly where there are more than 100,000, or more
-    /// than 16,777,216 labels in their words. Takes no memory.
+    /// The rows in their order, each once; None exactly where there are more than `ROWS`, or more
+    /// than `PATH_LABELS` labels in their words. Takes no memory.
     pub(crate) fn into_answer(self) -> Option<Answer>
         ensures { MatchOption result (AreTooMany (Contains self)) (AreRows (Contains self)) }
     {

@@ -18,7 +18,7 @@ use std::alloc::Global;
 use std::sync::ledger::Ledger;
 
 /// What the cells of a bound select show of the rows of slots that are to come: each row once, in
-/// their order; None exactly where there are more than 100,000, or more than 16,777,216 labels in
+/// their order; None exactly where there are more than `ROWS`, or more than `PATH_LABELS` labels in
 /// their words.
 ///
 /// No step is counted where the plan reads no edge, and either no cell shows a word or no row comes.

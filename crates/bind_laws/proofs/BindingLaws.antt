@@ -21,7 +21,8 @@ use Rattle.bind_laws.specs.Laws.{HasOneBinding, HasSomeBinding}
 use Rattle.lorel_ranges.specs.inside.Orders.{IsOpen, AreOrdered}
 use Rattle.lorel_bind.specs.inside.Slots.{CanStart, CanShow, CanBind}
 use Rattle.lore_base.proofs.ToldLaws.{told_member, told_bytes}
-use Rattle.lorel_ranges.proofs.ListLaws.{All-parts, Contains-slot}
+use Rattle.list_laws.proofs.PlaceLaws.{Contains-from_place}
+use Rattle.lorel_ranges.proofs.ListLaws.{All-parts}
 use Rattle.lorel_ranges.proofs.OrderLaws.{open_places, other_places}
 use Rattle.lorel_ranges.proofs.GatherLaws.{has_one_plain, has_some_plain}
 use Rattle.lorel_ranges.proofs.PlainLaws.{plain_ordered}
@@ -155,7 +156,7 @@ not_later : (earlier : List Place) (range : Range) (ranges : List Range) → Are
 not_later earlier range ranges ordered slot place is later =
     All-contains (λ p. p ≢ range.place) (places ranges) place
     (All-map (λ p. p ≢ range.place) (λ (r : Range). r.place) ranges (other_places earlier range ranges ordered))
-    (Contains-slot (places ranges) slot place later) (sym is)
+    (Contains-from_place (places ranges) slot place later) (sym is)
 
 -- no place stands twice
 one_slot : (earlier : List Place) (ranges : List Range) → AreOrdered earlier ranges → (a b : ℕ) (place : Place)
@@ -174,7 +175,7 @@ module _ (names : List (List ℕ × Oid)) (fused : List Range) (ordered : AreOrd
   open_slot : (slot : ℕ) (place : Place) → slice_get (places fused) slot ≡ Some place → IsOpen place
   open_slot slot place is =
       All-contains IsOpen (places fused) place (All-map IsOpen (λ (r : Range). r.place) fused (open_places [] fused ordered))
-      (Contains-slot (places fused) slot place is)
+      (Contains-from_place (places fused) slot place is)
 
   one_start : (place : Place) (a b : Start) → StandsFor names fused place a → StandsFor names fused place b → a ≡ b
   one_start place (starts.Named a) (starts.Named b) first second =

@@ -6,6 +6,7 @@ use Rattle.lore_base.specs.Databases.{Database}
 use Rattle.lore_base.specs.Paths.{seq, trees_of}
 use Rattle.lore_base.specs.LeastWords.{IsLeast, IsSpelledWalk}
 use Rattle.lore_base.proofs.MemberLaws.{Contains-none, Contains-cases}
+use Rattle.list_laws.proofs.MemberLaws.{Contains-map}
 use Rattle.lorel_trees.specs.Trees.{SelectTree}
 use Rattle.lorel_bind.specs.Types.{Oid, Label, Cell}
 use Rattle.lorel_bind.specs.Types.cells
@@ -16,7 +17,6 @@ use Rattle.lorel_ranges.specs.Texts.{text_places}
 use Rattle.lorel_ranges.specs.inside.Orders.{IsFound, AreOrdered}
 use Rattle.lorel_bound.proofs.ListedLaws.{IsListed, listed_members, listed_one, listed_same, listed_over, listed_where, listed_pairs}
 use Rattle.bind_laws.proofs.LeastWordLaws.{listed_least}
-use Rattle.lorel_ranges.proofs.ListLaws.{Contains-mapped}
 use Rattle.lorel_ranges.proofs.PlaceLaws.{told_place}
 use Rattle.lorel_ranges.proofs.OrderLaws.{IsFound-wider}
 use Rattle.lorel_ranges.proofs.PlainLaws.{plain_ordered}
@@ -100,5 +100,5 @@ module _ (names : List (List ℕ × Oid)) (query : SelectTree) (plain : List Ran
   cells_agree at other agree (word place) there = λ range found is. (
     found,
     agree range.start (start_known range found),
-    agree place (inr (subst (Contains (places plain)) is (Contains-mapped (λ (r : Range). r.place) plain range found))),
+    agree place (inr (subst (Contains (places plain)) is (Contains-map (λ (r : Range). r.place) plain range found))),
   )

@@ -7,6 +7,7 @@ use Rattle.lore_base.specs.Databases.{Database}
 use Rattle.lore_base.specs.Paths.{seq, trees_of}
 use Rattle.lore_base.specs.LeastWords.{IsLeast, IsSpelledWalk}
 use Rattle.lore_base.proofs.MemberLaws.{Contains-tail, Contains-cases}
+use Rattle.list_laws.proofs.MemberLaws.{All-from_members}
 use Rattle.lorel_trees.specs.Trees.{SelectTree}
 use Rattle.lorel_bind.specs.Types.{Oid, Label, Cell}
 use Rattle.lorel_bind.specs.Types.cells
@@ -16,7 +17,7 @@ use Rattle.lorel_ranges.specs.Ranges.{Range, IsFixed, IsUsed, joined, Fuses, Fus
 use Rattle.lorel_bind.specs.Answers.{Leads, IsValuation, HoldsAt, IsWordAt, ShowsCell, IsRowOver}
 use Rattle.bind_laws.specs.Laws.{FusingKeepsRows}
 use Rattle.lorel_ranges.specs.inside.Orders.{AreOrdered}
-use Rattle.lorel_ranges.proofs.ListLaws.{Contains-between, All-parts, All-from_members}
+use Rattle.lorel_ranges.proofs.ListLaws.{Contains-between, All-parts}
 use Rattle.lorel_ranges.proofs.GatherLaws.{has_one_plain}
 use Rattle.lorel_ranges.proofs.OrderLaws.{open_at, own_start, placed_once}
 use Rattle.lorel_ranges.proofs.PlainLaws.{plain_ordered}

@@ -14,9 +14,9 @@ use Rattle.lore_base.specs.Paths.{PathTree, PathTrees, Fits, Times, Spells, Spel
 use Rattle.lore_base.proofs.WalkLaws.{Walk-append, Walk-split}
 use Rattle.lore_base.proofs.MemberLaws.{Contains-none, Contains-tail, Contains-head, Contains-cases, Contains-same}
 use Rattle.lore_base.proofs.ToldLaws.{IsTold, told_both, told_member, told_oid, told_bytes}
+use Rattle.list_laws.proofs.MemberLaws.{Contains-map}
 use Rattle.lorel_bound.proofs.MatchedLaws.{told_stand}
 use Rattle.lorel_bound.proofs.ListedLaws.{IsListed}
-use Rattle.lorel_ranges.proofs.ListLaws.{Contains-mapped}
 
 -- ---- whether a label fits a pattern
 told_text : (found : Option (List ℕ)) (text : List ℕ) → IsTold (found ≡ Some text)
@@ -330,7 +330,7 @@ module _ (edges : List Edge) where
   )
 
   child_end : (edge : Edge) → Contains edges edge → Contains ends edge.child
-  child_end edge here = Contains-mapped (λ (e : Edge). e.child) edges edge here
+  child_end edge here = Contains-map (λ (e : Edge). e.child) edges edge here
 
   walk_bound : (word : List Label) (x y : Oid) → Walk edges x word y → (x ≡ y) ⊎ Contains ends y
   walk_bound [] x y same = inl same

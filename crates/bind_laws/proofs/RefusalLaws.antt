@@ -1,5 +1,5 @@
 -- Refusals: whether a cause applies can be told, so each select is accepted or has one first cause.
-use Rattle.std.proofs.Common.{◌≡◌, ◌≢◌, ℕ, ◌<◌, ◌⊎◌, inl, inr, List, [], ◌∷◌, length, Option, Some, None, AllPairs, refl, sym, ap, subst, ◌∙◌}
+use Rattle.std.proofs.Common.{◌≡◌, ◌≢◌, ℕ, ◌<◌, ◌⊎◌, inl, inr, List, [], ◌∷◌, length, Option, Some, None, AllPairs, refl, sym, ap, subst}
 use Rattle.std.specs.List.{Contains}
 use Rattle.std.proofs.lemmas.List.Kept.{AllPairs-cons}
 use Rattle.lore_base.specs.Names.{object_of}
@@ -15,9 +15,10 @@ use Rattle.lorel_ranges.specs.Texts.{text_places, ranged_identifiers}
 use Rattle.lorel_bind.specs.Refusals.{StartsNowhere, HasUnknownPathVariable, HasManyRanges, leaves_in, Cause, order, IsFirst, IsClear}
 use Rattle.bind_laws.specs.Laws.{HasSomeVerdict, HasOneVerdict}
 use Rattle.lore_base.proofs.ToldLaws.{IsTold, told_same, told_not, told_either, told_member, told_bytes, told_below}
+use Rattle.list_laws.proofs.PairLaws.{AllPairs-nil}
+use Rattle.lore_base.proofs.VerdictLaws.{first_unclear, one_first}
+use Rattle.list_laws.proofs.MemberLaws.{All-from_members}
 use Rattle.lorel_bound.proofs.ListedLaws.{IsListed, listed_members, listed_none, listed_one, listed_same, listed_over, listed_where, told_some}
-use Rattle.lorel_bound.proofs.AscentLaws.{AllPairs-nil}
-use Rattle.lorel_ranges.proofs.ListLaws.{All-from_members}
 use Rattle.lorel_ranges.proofs.GatherLaws.{has_one_plain, has_some_plain}
 use Rattle.lorel_ranges.proofs.FuseLaws.{has_one_fused}
 use Rattle.lorel_ranges.proofs.PrefixLaws.{has_some_fused}
@@ -35,18 +36,6 @@ module _ (Applies : Refusal → Type 0) where
       | inr later ↦ inr (later.0, inr (none, later.1))
     ]
   ]
-
-  pub one_first : (causes : List Refusal) (refusal other : Refusal) → IsFirst Applies causes refusal → IsFirst Applies causes other → refusal ≡ other
-  one_first [] refusal other first second = absurd first
-  one_first (next ∷ others) refusal other (inl first) (inl second) = first.1 ∙ sym second.1
-  one_first (next ∷ others) refusal other (inl first) (inr second) = absurd (second.0 first.0)
-  one_first (next ∷ others) refusal other (inr first) (inl second) = absurd (first.0 second.0)
-  one_first (next ∷ others) refusal other (inr first) (inr second) = one_first others refusal other first.1 second.1
-
-  pub clear_none : (causes : List Refusal) (refusal : Refusal) → IsClear Applies causes → IsFirst Applies causes refusal → ⊥
-  clear_none [] refusal clear first = first
-  clear_none (next ∷ others) refusal clear (inl first) = clear.0 first.0
-  clear_none (next ∷ others) refusal clear (inr later) = clear_none others refusal clear.1 later.1
 
 -- ---- paths that start nowhere
 told_none : {X : Type 0} (found : Option X) → IsTold (found ≡ None)
@@ -126,6 +115,6 @@ has_some_verdict names query = told_first (Cause names query) (told_cause names 
 
 pub has_one_verdict : HasOneVerdict
 has_one_verdict names query refusal first = (
-  λ accepted. clear_none (Cause names query) order refusal accepted first,
+  λ accepted. first_unclear (Cause names query) order refusal first accepted,
   λ other second. one_first (Cause names query) order refusal other first second,
 )

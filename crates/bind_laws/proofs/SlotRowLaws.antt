@@ -5,12 +5,15 @@ use Rattle.std.specs.Option.{option_map, unwrap_or}
 use Rattle.std.proofs.lemmas.Bool.{cond-true, cond-false, false_from_ne_true}
 use Rattle.std.proofs.lemmas.List.Elements.{All-nil, All-cons, All-head, All-tail, All-contains, All-map, All-weaker}
 use Rattle.std.proofs.lemmas.Option.{slice_get-map, same_Some, none-some}
+use Rattle.std.proofs.lemmas.Slice.Zip.{AllZip-long}
 use Rattle.lore_base.specs.Databases.{Database}
 use Rattle.lore_base.specs.Names.{object_of}
 use Rattle.lore_base.specs.Paths.{PathTree, seq, trees_of, Reaches}
 use Rattle.lore_base.specs.Comparisons.{Compares}
 use Rattle.lore_base.specs.LeastWords.{IsLeast, IsSpelledWalk}
 use Rattle.lore_base.proofs.MemberLaws.{Contains-none, Contains-cases}
+use Rattle.list_laws.proofs.ZipLaws.{AllZip-place}
+use Rattle.list_laws.proofs.PlaceLaws.{Contains-from_place}
 use Rattle.lorel_trees.specs.Trees.{SelectTree}
 use Rattle.lorel_bind.specs.Types.{Oid, Label, Start, BoundStart, Cell, CellOf}
 use Rattle.lorel_bind.specs.Types.cells
@@ -28,7 +31,7 @@ use Rattle.lorel_bound.specs.SlotRows.{StartsAt, BoundStartsAt, MeetsBy, HoldsOv
 use Rattle.bind_laws.specs.Laws.{BindingKeepsRows}
 use Rattle.lorel_ranges.specs.inside.Equality.{same_place}
 use Rattle.lorel_ranges.specs.inside.Orders.{IsOpen, AreOrdered}
-use Rattle.lorel_ranges.proofs.ListLaws.{map-same, AllZip-length, Contains-slot}
+use Rattle.lorel_ranges.proofs.ListLaws.{map-same}
 use Rattle.lorel_ranges.proofs.PlaceLaws.{same_place-Decides}
 use Rattle.lorel_ranges.proofs.OrderLaws.{open_places, other_places}
 use Rattle.lorel_ranges.proofs.PlainLaws.{plain_ordered}
@@ -67,14 +70,6 @@ placed_at : (ranges : List Range) (slot : ℕ) (place : Place) → slice_get (pl
 placed_at [] slot place is = absurd (none-some place is)
 placed_at (range ∷ ranges) zero place is = (range, refl, same_Some range.place place is)
 placed_at (range ∷ ranges) (suc slot) place is = placed_at ranges slot place is
-
--- what goes in pairs does so at each slot
-pair_behind : {P Q : Type 0} (R : P → Q → Type 0) (xs : List P) (ys : List Q) (slot : ℕ) (x : P) → AllZip R xs ys → slice_get xs slot ≡ Some x
-    → (y : Q) × (slice_get ys slot ≡ Some y) × R x y
-pair_behind R [] ys slot x pairs is = absurd (none-some x is)
-pair_behind R (first ∷ xs) [] slot x pairs is = absurd pairs
-pair_behind R (first ∷ xs) (y ∷ ys) zero x pairs is = (y, refl, subst (λ z. R z y) (same_Some first x is) pairs.0)
-pair_behind R (first ∷ xs) (y ∷ ys) (suc slot) x pairs is = pair_behind R xs ys slot x pairs.1 is
 
 -- where what goes in pairs is alike to what stands in a third list, so are the lists
 pairs_alike : {P Q R : Type 0} (A : P → Q → Type 0) (B : P → R → Type 0) (C : Q → R → Type 0)
@@ -173,8 +168,8 @@ module _ (db : Database) (fused : List Range) (valued : Place → Oid) (slots : 
       → IsSlotWord db.labels db.graph.edges bound slots slot labels
   slot_word bound ordered stands place slot labels is h =
       let own = placed_at fused slot place is in
-      let same : own.0 ≡ h.range = one_at_place [] fused ordered own.0 h.range (Contains-slot fused slot own.0 own.1) h.there (own.2 ∙ sym h.is) in
-      let pair = pair_behind (IsBoundRange db.graph.names fused) fused bound slot own.0 stands own.1 in
+      let same : own.0 ≡ h.range = one_at_place [] fused ordered own.0 h.range (Contains-from_place fused slot own.0 own.1) h.there (own.2 ∙ sym h.is) in
+      let pair = AllZip-place (IsBoundRange db.graph.names fused) fused bound slot own.0 stands own.1 in
       let path : pair.0.path ≡ seq (trees_of h.range.parts) = pair.2.path ∙ ap (λ (r : Range). seq (trees_of r.parts)) same in
       record {
         range = pair.0;
@@ -193,7 +188,7 @@ module _ (db : Database) (fused : List Range) (valued : Place → Oid) (slots : 
       → IsWordAt db fused valued place labels
   word_of_slot bound stands place slot labels is h =
       let own = placed_at fused slot place is in
-      let pair = pair_behind (IsBoundRange db.graph.names fused) fused bound slot own.0 stands own.1 in
+      let pair = AllZip-place (IsBoundRange db.graph.names fused) fused bound slot own.0 stands own.1 in
       let range : h.range ≡ pair.0 = same_Some h.range pair.0 (sym h.there ∙ pair.1) in
       let begins = subst (λ (r : RangeTree). StartsAt slots r.start h.start) range h.begins in
       let start : h.start ≡ valued own.0.start = started_at own.0.start pair.0.start h.start pair.2.start begins in
@@ -201,7 +196,7 @@ module _ (db : Database) (fused : List Range) (valued : Place → Oid) (slots : 
       let path : h.range.path ≡ seq (trees_of own.0.parts) = ap (λ (r : RangeTree). r.path) range ∙ pair.2.path in
       record {
         range = own.0;
-        there = Contains-slot fused slot own.0 own.1;
+        there = Contains-from_place fused slot own.0 own.1;
         is = own.2;
         least = walk_same db h.range.path (seq (trees_of own.0.parts)) h.start (valued own.0.start) h.oid (valued place) labels path start oid h.least;
       }
@@ -234,7 +229,7 @@ module _ (db : Database) (fused : List Range) (valued : Place → Oid) (slots : 
       (λ h. object ∙ same.0 h, λ h. same.1 (sym object ∙ h))
   any_starts_at opens objects place (bound_starts.Slot slot) oid stands =
       let object = slot_object slot place stands in
-      let same = open_object objects place.root (valued place) oid (opens place (Contains-slot (places fused) slot place stands)).unquantified in
+      let same = open_object objects place.root (valued place) oid (opens place (Contains-from_place (places fused) slot place stands)).unquantified in
       (λ h. object ∙ ap Some (same.0 h), λ h. same.1 (same_Some (valued place) oid (sym object ∙ h)))
   any_starts_at opens objects place (bound_starts.Quantified depth) oid stands =
       (subst (λ (p : Place). HasObject valued objects p oid) stands, subst (λ (p : Place). HasObject valued objects p oid) (sym stands))
@@ -365,7 +360,7 @@ module _ (db : Database) (query : SelectTree) (bound : BoundTree) (b : IsBinding
   range_row h =
       let names = db.graph.names in
       let valued = value_at names (places b.fused) h.slots in
-      let long : length h.slots ≡ length b.fused = AllZip-length _ bound.ranges h.slots h.filled ∙ AllZip-length _ b.fused bound.ranges b.ranges in
+      let long : length h.slots ≡ length b.fused = AllZip-long _ bound.ranges h.slots h.filled ∙ AllZip-long _ b.fused bound.ranges b.ranges in
       let held : h.slots ≡ map valued (places b.fused) = values_read names b.fused h.slots in_order long in
       let named_objects = value_named names (places b.fused) h.slots in
       record {

@@ -16,11 +16,11 @@ use Rattle.lorel_bound.specs.CellOrder.{row_cmp, rows_total, tied_rows}
 use Rattle.lorel_bind.specs.Refusals.{StartsNowhere}
 use Rattle.bind_laws.specs.Laws.{HasSomeAnswer}
 use Rattle.lore_base.proofs.ToldLaws.{IsTold, told_oid}
+use Rattle.list_laws.proofs.AscentLaws.{IsOrder, total_ordered, some_ordered}
+use Rattle.list_laws.proofs.MemberLaws.{All-from_members}
 use Rattle.lorel_bound.proofs.ListedLaws.{IsListed, listed_members, listed_one, listed_option, listed_given, listed_same, listed_over, listed_where}
-use Rattle.lorel_bound.proofs.AscentLaws.{IsOrder, total_ordered, some_ordered}
 use Rattle.bind_laws.proofs.ReachedLaws.{listed_reached}
 use Rattle.bind_laws.proofs.ConditionLaws.{told_holds}
-use Rattle.lorel_ranges.proofs.ListLaws.{All-from_members}
 use Rattle.bind_laws.proofs.FusedRowLaws.{AgreeOn, cells_same}
 use Rattle.bind_laws.proofs.CellLaws.{listed_shown, cells_agree}
 use Rattle.lorel_ranges.proofs.PrefixLaws.{Prefix, listed_fixed}

@@ -1,11 +1,12 @@
 -- All guides of a database are the same but for the numbers of their nodes.
 use Rattle.std.proofs.Common.{◌≡◌, ℕ, List, [], ◌∷◌, Some, Contains, sym, ◌∙◌, subst}
 use Rattle.std.proofs.lemmas.List.Elements.{All-contains}
+use Rattle.list_laws.proofs.PlaceLaws.{Contains-from_place, place_of_member}
 use Rattle.dataguide.specs.Types.{Oid, Label, Edge, Node, GuideNode}
 use Rattle.lore_base.specs.TargetSets.{IsStep}
 use Rattle.dataguide.specs.Guides.{GuideGraph, StandsFor, sets_of, HasSet, HasEdge, HasItsSteps, IsEntry}
 use Rattle.dataguide.specs.GuideLaws.{GoesOn, BeginsAt, HasAlikeGuides}
-use Rattle.dataguide.proofs.PlaceLaws.{Contains-at, at-Contains, at-map, at-unmap, zip-left, zip-right}
+use Rattle.set_steps.proofs.PlaceLaws.{at-map, at-unmap, zip-left, zip-right}
 
 module _ (names : List (List ℕ × Oid)) (edges : List Edge) (guide other : GuideGraph)
     (first : StandsFor guide names edges) (second : StandsFor other names edges) where
@@ -17,7 +18,7 @@ module _ (names : List (List ℕ × Oid)) (edges : List Edge) (guide other : Gui
       → (there : Node) × HasSet other.nodes there set
   node-there node set has =
       let at =
-      at-Contains (sets_of other.nodes) set (sets-within set (Contains-at (sets_of guide.nodes) node.0 set has)) in
+      place_of_member (sets_of other.nodes) set (sets-within set (Contains-from_place (sets_of guide.nodes) node.0 set has)) in
       (record { 0 = at.0 }, at.1)
 
   -- an edge leads to the step of the set
@@ -27,7 +28,7 @@ module _ (names : List (List ℕ × Oid)) (edges : List Edge) (guide other : Gui
   is-step node there set label next has leads edge =
       let steps =
       All-contains (HasItsSteps edges guide.nodes) guide.nodes edge.0 first.steps
-      (Contains-at guide.nodes node.0 edge.0 edge.1) in
+      (Contains-from_place guide.nodes node.0 edge.0 edge.1) in
       let step = (steps.exact label there).0 edge.2 in
       let from : Some edge.0.set ≡ Some set =
       sym (at-map (λ (n : GuideNode). n.set) guide.nodes node.0 edge.0 edge.1) ∙ has in
@@ -46,7 +47,7 @@ module _ (names : List (List ℕ × Oid)) (edges : List Edge) (guide other : Gui
       let from = at-unmap (λ (n : GuideNode). n.set) other.nodes node.0.0 set node.1 in
       let steps =
       All-contains (HasItsSteps edges other.nodes) other.nodes from.0 second.steps
-      (Contains-at other.nodes node.0.0 from.0 from.1) in (
+      (Contains-from_place other.nodes node.0.0 from.0 from.1) in (
         node.0,
         there.0,
         node.1,

@@ -7,17 +7,17 @@ use Rattle.lore_base.specs.Deltas.{IsOnlyIn}
 use Rattle.lore_base.specs.TargetSets.{ListsInOrder}
 use Rattle.lore_base.proofs.MemberLaws.{Contains-none}
 use Rattle.lore_base.proofs.ToldLaws.{told_member, told_edge}
+use Rattle.list_laws.proofs.SumLaws.{sum_by-within}
+use Rattle.list_laws.proofs.MemberLaws.{All-from_members, Contains-map}
 use Rattle.dataguide.specs.Types.{Oid, Edge}
-use Rattle.dataguide.specs.ReadCosts.{ReadsAtMost, reads_of}
+use Rattle.dataguide.specs.ReadCosts.{ReadsAtMost}
+use Rattle.set_steps.specs.SetSteps.{reads_of}
 use Rattle.dataguide.specs.Guides.{GuideGraph}
 use Rattle.dataguide.specs.Touched.{IsTouched, ReadsTouched, ReadsSome, parents_of}
 use Rattle.dataguide.specs.Deltas.{StoodFor}
 use Rattle.dataguide.specs.inside.Founds.{Costs}
 use Rattle.dataguide.specs.inside.Gains.{IsChange}
-use Rattle.dataguide.proofs.PlaceLaws.{mapped}
-use Rattle.dataguide.proofs.StopLaws.{All-by}
 use Rattle.dataguide.proofs.DoneLaws.{nothing-stands}
-use Rattle.dataguide.proofs.SumLaws.{sum_by-within}
 
 -- the guide without nodes stood for every graph before
 pub stood-new : (guide : GuideGraph) (edges : List Edge) → guide.nodes ≡ [] → guide.entries ≡ []
@@ -43,7 +43,7 @@ stood-change guide lost fresh after dirty grown stood ascend dirty_are grown_are
   stay = λ edge was clean. (elim (told_member told_edge after edge) [
     | inl there ↦ there
     | inr gone ↦ absurd (clean ((dirty_are.exact edge.parent).1
-        (mapped (λ (e : Edge). e.parent) lost edge ((stood.differ.lost_are edge).1 (was, gone)))))
+        (Contains-map (λ (e : Edge). e.parent) lost edge ((stood.differ.lost_are edge).1 (was, gone)))))
   ]);
   come = stood.differ.fresh_are;
   ascend = ascend;
@@ -102,9 +102,9 @@ pub reads-all : (edges : List Edge) (sets : List (List Oid)) (before now : ℕ) 
     → ReadsTouched [] [] edges sets before now → now ≡ before + sum_by (reads_of edges) sets
 reads-all edges sets before now apart reads =
     let most = sum_by-within (reads_of edges) reads.touched sets reads.are.apart
-    (All-by (Contains sets) reads.touched (λ set there. ((reads.are.exact set).0 there).0)) in
+    (All-from_members (Contains sets) reads.touched (λ set there. ((reads.are.exact set).0 there).0)) in
     let least = sum_by-within (reads_of edges) sets reads.touched apart
-    (All-by (Contains reads.touched) sets (λ set there. (reads.are.exact set).1
+    (All-from_members (Contains reads.touched) sets (λ set there. (reads.are.exact set).1
     (there, inl (λ none. Contains-none set none)))) in
     omega (arith, reads.counted, most, least)
 

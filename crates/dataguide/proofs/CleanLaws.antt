@@ -1,5 +1,5 @@
 -- A node's edges tell the steps of its set.
-use Rattle.std.proofs.Common.{◌≡◌, ◌↔◌, ℕ, ◌<◌, List, [], length, map, All, Contains, Some, sym, ◌∙◌, subst, arith}
+use Rattle.std.proofs.Common.{◌≡◌, ℕ, ◌<◌, List, [], length, map, All, Contains, Some, sym, ◌∙◌, subst, arith}
 use Rattle.std.specs.List.{slice_get}
 use Rattle.std.proofs.lemmas.List.{length-map}
 use Rattle.std.proofs.lemmas.List.Elements.{All-contains, All-map}
@@ -8,13 +8,17 @@ use Rattle.dataguide.specs.Types.{Oid, Label, Edge, Node, GuideNode, Origin, Kep
 use Rattle.lore_base.specs.TargetSets.{IsStep, LeavesTo, IsLedTo}
 use Rattle.dataguide.specs.Guides.{GuideGraph, StandsFor, HasItsSteps, HasSet, AscendByLabel, sets_of, node_number}
 use Rattle.dataguide.specs.Deltas.{origin_set, IsOrigin}
-use Rattle.dataguide.specs.inside.Arcs.{AreSteps}
+use Rattle.set_steps.specs.SetSteps.{AreSteps}
 use Rattle.dataguide.specs.inside.Trails.{longer}
 use Rattle.dataguide.specs.inside.Founds.{steps_of}
 use Rattle.dataguide.specs.inside.Gains.{IsThere}
-use Rattle.dataguide.proofs.PlaceLaws.{Contains-at, at-Contains, at-map, mapped, map-map}
+use Rattle.set_steps.proofs.PlaceLaws.{at-map}
 use Rattle.lore_base.proofs.MemberLaws.{Contains-none}
-use Rattle.dataguide.proofs.StopLaws.{All-by, AllPairs-map, leads-step}
+use Rattle.list_laws.proofs.MemberLaws.{All-from_members, Contains-map}
+use Rattle.list_laws.proofs.PlaceLaws.{Contains-from_place, place_of_member}
+use Rattle.list_laws.proofs.PartLaws.{map-map}
+use Rattle.dataguide.proofs.StopLaws.{leads-step}
+use Rattle.set_steps.proofs.PairLaws.{AllPairs-map}
 use Rattle.dataguide.proofs.StepLaws.{step_of, step_is}
 use Rattle.dataguide.proofs.FoundLaws.{kept-set}
 
@@ -24,7 +28,7 @@ module _ (guide : GuideGraph) (names : List (List ℕ × Oid)) (before : List Ed
   kept = guide.nodes
 
   its-steps : HasItsSteps before kept node
-  its-steps = All-contains (HasItsSteps before kept) kept node stands.steps (Contains-at kept place.0 node at)
+  its-steps = All-contains (HasItsSteps before kept) kept node stands.steps (Contains-from_place kept place.0 node at)
 
   -- the set at the end of an edge
   edge-step : (label : Label) (next : Node) → Contains node.edges (label, next)
@@ -55,7 +59,7 @@ module _ (guide : GuideGraph) (names : List (List ℕ × Oid)) (before : List Ed
   as_target edge = (edge.0, Kept edge.1)
 
   kept-within : All (λ edge. edge.1.0 < length kept) node.edges
-  kept-within = All-by (λ (e : Label × Node). e.1.0 < length kept) node.edges (λ e there. next-within e.0 e.1 there)
+  kept-within = All-from_members (λ (e : Label × Node). e.1.0 < length kept) node.edges (λ e there. next-within e.0 e.1 there)
 
   pub kept-origins : All (λ target. IsOrigin kept target.1) (map as_target node.edges)
   kept-origins = All-map (λ (t : Label × Origin). IsOrigin kept t.1) as_target node.edges kept-within
@@ -67,10 +71,10 @@ module _ (guide : GuideGraph) (names : List (List ℕ × Oid)) (before : List Ed
       let step = step_is before node.set label in
       let set = step_of before node.set label in
       let one : Contains set oid = (step.exact oid).1 leaves in
-      let own = led node.set (Contains-at (sets_of kept) place.0 node.set (at-set place.0 node at)) in
+      let own = led node.set (Contains-from_place (sets_of kept) place.0 node.set (at-set place.0 node at)) in
       let path = leads-step names before own.0 node.set label set own.1 step
       (λ none. absurd (nothing (subst (λ (l : List Oid). Contains l oid) none one))) in
-      let there = at-Contains (sets_of kept) set ((stands.nodes.exact set).1 (longer own.0 label, path)) in
+      let there = place_of_member (sets_of kept) set ((stands.nodes.exact set).1 (longer own.0 label, path)) in
       (node_number there.0, (its-steps.exact label (node_number there.0)).1 (set, there.1, step))
     where
       at-set : (k : ℕ) (n : GuideNode) → slice_get guide.nodes k ≡ Some n → slice_get (sets_of guide.nodes) k ≡ Some
@@ -84,7 +88,7 @@ module _ (guide : GuideGraph) (names : List (List ℕ × Oid)) (before : List Ed
   kept-ascend = its-steps.ascending
 
   pub kept-there : All (IsThere kept) node.edges
-  kept-there = All-by (IsThere kept) node.edges (λ e there. (next-within e.0 e.1 there, (edge-set e.0 e.1 there).ascending))
+  kept-there = All-from_members (IsThere kept) node.edges (λ e there. (next-within e.0 e.1 there, (edge-set e.0 e.1 there).ascending))
 
   -- the steps of the node's set
   pub kept-row : AreSteps before node.set (map as_step node.edges)
@@ -92,15 +96,15 @@ module _ (guide : GuideGraph) (names : List (List ℕ × Oid)) (before : List Ed
     ascend = AllPairs-map as_step (λ (a b : Label × Node). a.0.0 < b.0.0) (λ (a b : Label × List Oid). a.0.0 < b.0.0)
         (λ a b less. less) node.edges its-steps.ascending;
     sets = All-map (λ (s : Label × List Oid). IsStep before node.set s.0 s.1) as_step node.edges
-        (All-by (λ (e : Label × Node). IsStep before node.set e.0 (origin_set kept (Kept e.1))) node.edges
+        (All-from_members (λ (e : Label × Node). IsStep before node.set e.0 (origin_set kept (Kept e.1))) node.edges
         (λ e there. edge-set e.0 e.1 there));
     some = All-map (λ (s : Label × List Oid). (s.1 ≡ []) → ⊥) as_step node.edges
-        (All-by (λ (e : Label × Node). (origin_set kept (Kept e.1) ≡ []) → ⊥) node.edges
-        (λ e there. (led (origin_set kept (Kept e.1)) (Contains-at (sets_of kept) e.1.0 (origin_set kept (Kept e.1))
+        (All-from_members (λ (e : Label × Node). (origin_set kept (Kept e.1) ≡ []) → ⊥) node.edges
+        (λ e there. (led (origin_set kept (Kept e.1)) (Contains-from_place (sets_of kept) e.1.0 (origin_set kept (Kept e.1))
         (kept-set kept e.1 (next-within e.0 e.1 there)))).1.some));
     all = λ label oid leaves. (
         let edge = edge-all label oid leaves in
-        (origin_set kept (Kept edge.0), mapped as_step node.edges (label, edge.0) edge.1));
+        (origin_set kept (Kept edge.0), Contains-map as_step node.edges (label, edge.0) edge.1));
   }
 
   -- as those of its edges' nodes

@@ -8,7 +8,9 @@ use Rattle.std.proofs.lemmas.Option.{slice_get_within}
 use Rattle.lore_base.specs.Walks.{Walk}
 use Rattle.lore_base.proofs.WalkLaws.{Walk-split}
 use Rattle.lore_base.proofs.TargetLaws.{ListsInOrder-unique}
-use Rattle.lore_base.proofs.MemberLaws.{Contains-none, Contains-head}
+use Rattle.lore_base.proofs.MemberLaws.{Contains-none}
+use Rattle.list_laws.proofs.MemberLaws.{All-from_members, Contains-map, Contains-from_map}
+use Rattle.list_laws.proofs.PlaceLaws.{Contains-from_place, place_of_member}
 use Rattle.dataguide.specs.Types.{Oid, Label, Edge, Node, GuideNode}
 use Rattle.lore_base.specs.TargetSets.{LabelPath, IsTargetSet, LeavesTo, LeadsTo, AreTargetSets}
 use Rattle.lore_base.specs.PathOrder.{IsLeastPath, AreInPathOrder, ComesBefore}
@@ -16,13 +18,10 @@ use Rattle.dataguide.specs.Guides.{sets_of, HasItsSteps, StandsFor}
 use Rattle.dataguide.specs.inside.Trails.{Stop, start_path, longer, IsMet, ComesUpTo, IsSearched}
 use Rattle.dataguide.proofs.PathOrder.{upto-longer, upto-trans}
 use Rattle.dataguide.proofs.TargetSteps.{walks-leave, step-target}
-use Rattle.dataguide.proofs.PlaceLaws.{Contains-at, at-Contains, at-map, mapped, unmapped, one-place}
+use Rattle.set_steps.proofs.PlaceLaws.{at-map, one-place}
 use Rattle.dataguide.proofs.TrailLaws.{set_of}
-use Rattle.dataguide.proofs.StopLaws.{All-by, AllPairs-map, named_stop, target-none}
-
-pub some-member : (set : List Oid) → set ≢ [] → (oid : Oid) × Contains set oid
-some-member [] some = absurd (some refl)
-some-member (oid ∷ set) some = (oid, Contains-head oid set)
+use Rattle.dataguide.proofs.StopLaws.{named_stop, target-none}
+use Rattle.set_steps.proofs.PairLaws.{some-member, AllPairs-map}
 
 pub AllZip-maps : {X Y Z : Type 0} (f : X → Y) (g : X → Z) (R : Y → Z → Type 0) (xs : List X) → All (λ x. R (f x) (g x)) xs
     → AllZip R (map f xs) (map g xs)
@@ -69,7 +68,7 @@ module _ (names : List (List ℕ × Oid)) (edges : List Edge) (nodes : List Guid
         let parts = Walk-split edges start word (label ∷ []) oid walked in
         let there = before parts.0 parts.1 in
         let leaves = (walks-leave edges start word label there.set there.target oid).0 walked in
-        let at = at-Contains searched.trail (record { path = there.by; set = there.set }) there.found in
+        let at = place_of_member searched.trail (record { path = there.by; set = there.set }) there.found in
         let next =
         searched.done at.0 (record { path = there.by; set = there.set })
         (all_places at.0 (record { path = there.by; set = there.set }) at.1) at.1 label oid leaves in
@@ -127,13 +126,13 @@ module _ (names : List (List ℕ × Oid)) (edges : List Edge) (nodes : List Guid
     exact = λ set. (
       λ there. (
           let from =
-          unmapped set_of searched.trail set (subst (λ (l : List (List Oid)). Contains l set) (sym searched.is.found)
+          Contains-from_map set_of searched.trail set (subst (λ (l : List (List Oid)). Contains l set) (sym searched.is.found)
           there) in
           (from.0.path, subst (λ (s : List Oid). LeadsTo names edges from.0.path s) from.2 (leads_by from.0 from.1))),
       λ led. (
           let found = found-led led.0 set led.1 in
           subst (λ (l : List (List Oid)). Contains l set) searched.is.found
-          (mapped set_of searched.trail (record { path = found.0; set = set }) found.1)),
+          (Contains-map set_of searched.trail (record { path = found.0; set = set }) found.1)),
     );
   }
 
@@ -141,8 +140,8 @@ module _ (names : List (List ℕ × Oid)) (edges : List Edge) (nodes : List Guid
   one-stop : (stop other : Stop) → Contains searched.trail stop → Contains searched.trail other → stop.set ≡ other.set
       → stop ≡ other
   one-stop stop other first second same =
-      let i = at-Contains searched.trail stop first in
-      let j = at-Contains searched.trail other second in
+      let i = place_of_member searched.trail stop first in
+      let j = place_of_member searched.trail other second in
       let apart =
       subst (λ (l : List (List Oid)). AllPairs (λ (a b : List Oid). (a ≡ b) → ⊥) l) (sym searched.is.found)
       searched.is.apart in
@@ -167,7 +166,7 @@ module _ (names : List (List ℕ × Oid)) (edges : List Edge) (nodes : List Guid
         subst (λ (l : List (List Oid)). AllZip (IsLeastPath names edges) (map (λ (s : Stop). s.path) searched.trail) l)
         searched.is.found
         (AllZip-maps (λ (s : Stop). s.path) set_of (IsLeastPath names edges) searched.trail
-        (All-by (λ (s : Stop). IsLeastPath names edges s.path s.set) searched.trail least-by));
+        (All-from_members (λ (s : Stop). IsLeastPath names edges s.path s.set) searched.trail least-by));
     ascending =
         AllPairs-map (λ (s : Stop). s.path) (λ (a b : Stop). ComesBefore a.path b.path) ComesBefore
         (λ a b before. before) searched.trail searched.is.ascending;
@@ -177,8 +176,8 @@ module _ (names : List (List ℕ × Oid)) (edges : List Edge) (nodes : List Guid
   led-some set there = ((are-targets.exact set).0 there).1.some
 
   pub has-steps : All (HasItsSteps edges nodes) nodes
-  has-steps = All-by (HasItsSteps edges nodes) nodes (λ node there.
-      let at = at-Contains nodes node there in
+  has-steps = All-from_members (HasItsSteps edges nodes) nodes (λ node there.
+      let at = place_of_member nodes node there in
       let row = searched.rows at.0 node (slice_get_within nodes at.0 node at.1) at.1 in
       record {
         ascending = row.ascending;
@@ -186,7 +185,7 @@ module _ (names : List (List ℕ × Oid)) (edges : List Edge) (nodes : List Guid
           λ edge. row.sound label next edge,
           λ step. (
               let set = step.0 in
-              let one = some-member set (led-some set (Contains-at (sets_of nodes) next.0 set step.1)) in
+              let one = some-member set (led-some set (Contains-from_place (sets_of nodes) next.0 set step.1)) in
               let edge = row.all label one.0 ((step.2.exact one.0).0 one.1) in
               let there = row.sound label edge.0 edge.1 in
               let same : there.0 ≡ set =

@@ -5,6 +5,8 @@ use Rattle.std.specs.List.{slice_get, sum_by}
 use Rattle.std.specs.Prelude.{slice_set}
 use Rattle.std.proofs.lemmas.List.Elements.{All-set, All-contains}
 use Rattle.std.proofs.lemmas.Option.{slice_get-get_or}
+use Rattle.std.proofs.lemmas.Bool.{cases_eq}
+use Rattle.list_laws.proofs.PlaceLaws.{Contains-from_place}
 use Rattle.dataguide.specs.Types.{Oid, Label, Node, GuideNode, DeltaNode}
 use Rattle.dataguide.specs.declared.found.Found.{Found}
 use Rattle.dataguide.specs.Guides.{node_number}
@@ -12,8 +14,8 @@ use Rattle.oem_set.specs.Sets.{hash_of}
 use Rattle.dataguide.specs.inside.NodeTables.{listed}
 use Rattle.dataguide.specs.Deltas.{origin_set, IsOrigin, node_then, nodes_then}
 use Rattle.dataguide.specs.inside.Founds.{IsFound, found_nodes, found_sets}
-use Rattle.dataguide.proofs.PlaceLaws.{Contains-at, at-map}
-use Rattle.dataguide.proofs.FoundLaws.{put-at, put-there, put-other, put-same, map-put, place-cases, sets-then}
+use Rattle.set_steps.proofs.PlaceLaws.{at-map}
+use Rattle.dataguide.proofs.FoundLaws.{put-at, put-there, put-other, put-same, map-put, sets-then}
 
 module _ (kept : List GuideNode) (old : Found) (place : ℕ) (within : place < length old.nodes.items) (was : DeltaNode)
     (read : was ≡ get_or old.nodes.items place was) (edges : List (Label × Node)) (new : Found)
@@ -55,7 +57,7 @@ module _ (kept : List GuideNode) (old : Found) (place : ℕ) (within : place < l
       → (before : DeltaNode) × (slice_get old.nodes.items k ≡ Some before) × (before.origin ≡ planned.origin)
   same-origin k planned at =
       let whole = subst (λ (l : List DeltaNode). slice_get l k ≡ Some planned) put at in
-      elim (place-cases k place) [
+      elim (cases_eq k place) [
         | inl one ↦ (
             let got = put-at old.nodes.items place now planned
             (subst (λ (j : ℕ). slice_get (slice_set old.nodes.items place now) j ≡ Some planned) one whole) in
@@ -71,14 +73,14 @@ module _ (kept : List GuideNode) (old : Found) (place : ℕ) (within : place < l
     origins = subst (λ (l : List DeltaNode). All (λ (p : DeltaNode). IsOrigin kept p.origin) l) (sym put)
         (All-set (λ (p : DeltaNode). IsOrigin kept p.origin) old.nodes.items place now
         (All-contains (λ (p : DeltaNode). IsOrigin kept p.origin) old.nodes.items was before.origins
-        (Contains-at old.nodes.items place was was-at))
+        (Contains-from_place old.nodes.items place was was-at))
         before.origins);
     placed = λ k planned node at origin. (
         let from = same-origin k planned at in
         ap (λ p. slice_get p.items node.0) places ∙ before.placed k from.0 node from.1 (from.2 ∙ origin));
     there = λ k node at. (
         let was_there = before.there k node (sym (ap (λ p. slice_get p.items k) places) ∙ at) in
-        elim (place-cases node.0 place) [
+        elim (cases_eq node.0 place) [
           | inl one ↦ (
               let both : Some was_there.0 ≡ Some was = sym was_there.1 ∙ ap (slice_get old.nodes.items) one ∙ was-at in
               let same : was_there.0 ≡ was = cc in (

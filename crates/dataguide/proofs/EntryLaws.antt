@@ -1,17 +1,17 @@
 -- Entries: how one is found by its name, and that they fit the names that they were made of.
-use Rattle.std.proofs.Common.{◌≡◌, ℕ, ◌<◌, ◌≤◌, inl, inr, Less, Equal, Greater, Err, List, [], ◌∷◌, ◌++◌, length}
+use Rattle.std.proofs.Common.{◌≡◌, ℕ, ◌<◌, inl, inr, Less, Equal, Err, List, [], ◌∷◌, ◌++◌, length}
 use Rattle.std.proofs.Common.{get_or, true, Some, None, All, Contains, refl, sym, ap, ◌∙◌, subst, arith}
 use Rattle.std.specs.List.{AllZip, AllByRecursion}
 use Rattle.std.specs.List.Sorted.{IsStrictlySortedBy, IsNonDecreasingBy, IsBinarySearchResult}
 use Rattle.std.specs.Map.{keys_of}
 use Rattle.std.specs.Ordering.{ordering_index, eq_by_cmp}
-use Rattle.std.specs.declared.cmp.Ordering.{Ordering}
 use Rattle.std.proofs.lemmas.Bool.{cases_lt}
 use Rattle.std.proofs.lemmas.Cmp.{nat_list_cmp_total, eq_by_cmp_equiv, tied_itself}
 use Rattle.std.proofs.lemmas.Map.Keys.{IsDistinct-from_sorted}
 use Rattle.std.proofs.lemmas.Map.Lookups.{exact_bytes}
 use Rattle.std.proofs.lemmas.List.Elements.{All-head, All-tail, Contains-get_or}
 use Rattle.std.proofs.lemmas.Map.Views.{Contains-from_lookup, lookup-from_Contains, tells_apart}
+use Rattle.list_laws.proofs.OrderLaws.{comparison_rises}
 use Rattle.lore_base.specs.Bytes.{bytes_cmp}
 use Rattle.dataguide.specs.Types.{Oid, Node, GuideNode}
 use Rattle.dataguide.specs.Guides.{IsEntry, node_of}
@@ -22,24 +22,6 @@ use Rattle.dataguide.proofs.StopLaws.{keys-ascend}
 same_name : (first second : List ℕ) → eq_by_cmp bytes_cmp first second ≡ true → first ≡ second
 same_name = tells_apart exact_bytes
 
--- a lower name compares no higher
-compared-rises : (a b name : List ℕ) → bytes_cmp a b ≡ Less
-    → ordering_index (bytes_cmp a name) ≤ ordering_index (bytes_cmp b name)
-compared-rises a b name less =
-    elim (bytes_cmp b name) as (λ o. bytes_cmp b name ≡ o → ordering_index (bytes_cmp a name) ≤ ordering_index o) [
-      | Less ↦ λ is. rw (nat_list_cmp_total.trans a b name less is) (omega arith)
-      | Equal ↦ λ is. (
-          let first : bytes_cmp a name ≡ Less =
-          subst (λ (n : List ℕ). bytes_cmp a n ≡ Less) (exact_bytes b name is) less in
-          rw first (omega arith))
-      | Greater ↦ λ is. highest (bytes_cmp a name)
-    ] refl
-  where
-    highest : (o : Ordering) → ordering_index o ≤ ordering_index Greater
-    highest Less = omega arith
-    highest Equal = omega arith
-    highest Greater = omega arith
-
 pub none-ascend : (entries : List (List ℕ × Node)) → entries ≡ [] → AreAscendingEntries entries
 unfolding IsStrictlySortedBy
 none-ascend entries none = rw none tt
@@ -47,7 +29,7 @@ none-ascend entries none = rw none tt
 module _ (entries : List (List ℕ × Node)) (name : List ℕ) (ascend : AreAscendingEntries entries) where
   comparisons-rise : IsNonDecreasingBy (λ e. ordering_index (bytes_cmp e.0 name)) entries
   comparisons-rise i j d le lt = elim (cases_lt i j) [
-    | inl before ↦ compared-rises (get_or entries i d).0 (get_or entries j d).0 name
+    | inl before ↦ comparison_rises bytes_cmp nat_list_cmp_total (get_or entries i d).0 (get_or entries j d).0 name
         (keys-ascend entries ascend i j d before lt)
     | inr ge ↦ (
         let same : i ≡ j = omega arith in

@@ -1,19 +1,20 @@
 -- A node is expanded: its targets are entered, and it gets their nodes as edges.
-use Rattle.std.proofs.Common.{◌≡◌, ℕ, ◌<◌, List, [], ◌∷◌, length, map, get_or, Some, sym, ap, subst, arith}
+use Rattle.std.proofs.Common.{◌≡◌, ℕ, ◌<◌, List, [], length, get_or, Some, sym, ap, subst, arith}
 use Rattle.std.proofs.Common.{length-append}
-use Rattle.std.specs.List.{slice_get, AllZip}
+use Rattle.std.specs.List.{slice_get}
 use Rattle.std.proofs.lemmas.List.{length-map}
 use Rattle.std.proofs.lemmas.Option.{slice_get-get_or}
+use Rattle.list_laws.proofs.ZipLaws.{AllZip-map}
+use Rattle.list_laws.proofs.PartLaws.{map-map}
 use Rattle.dataguide.specs.Types.{Oid, Label, Edge, Node, GuideNode, Origin, GuideFault, Nodes, Cells, NoMemory}
 use Rattle.dataguide.specs.declared.found.Found.{Found}
 use Rattle.dataguide.specs.Guides.{sets_of, HasSet}
 use Rattle.dataguide.specs.Deltas.{origin_set, node_then}
-use Rattle.dataguide.specs.inside.Arcs.{AreSteps}
+use Rattle.set_steps.specs.SetSteps.{AreSteps}
 use Rattle.dataguide.specs.inside.Entering.{AreEntered}
 use Rattle.dataguide.specs.inside.Trails.{IsExpanded}
 use Rattle.dataguide.specs.inside.Founds.{found_nodes, found_sets, steps_of, target_sets, Costs, EntersAll}
 use Rattle.dataguide.specs.inside.Founds.{AreStopped, StopsAt, IsHalted, HaltsAt}
-use Rattle.dataguide.proofs.PlaceLaws.{map-map}
 use Rattle.dataguide.proofs.SearchedLaws.{expanded-more}
 
 pub found-at : (kept : List GuideNode) (found : Found) (place : ℕ) → place < length found.nodes.items
@@ -27,14 +28,6 @@ found-at kept found place within =
       length-map
           found.nodes.items (node_then kept),
     ))
-
-AllZip-mapped : {X Y Z : Type 0} (f : X → Y) (R : Y → Z → Type 0) (xs : List X) (zs : List Z) → AllZip
-    (λ x z. R (f x) z) xs zs
-    → AllZip R (map f xs) zs
-AllZip-mapped f R [] [] zip = tt
-AllZip-mapped f R [] (z ∷ zs) zip = zip
-AllZip-mapped f R (x ∷ xs) [] zip = zip
-AllZip-mapped f R (x ∷ xs) (z ∷ zs) zip = (zip.0, AllZip-mapped f R xs zs zip.1)
 
 abbrev step_for : List GuideNode → Label × Origin → Label × List Oid
 step_for kept target = (target.0, origin_set kept target.1)
@@ -58,8 +51,7 @@ expanded kept edges limit old between new place set targets row at are enters se
   entered = subst (λ (l : List (List Oid)). AreEntered (found_sets kept old) l (found_sets kept between))
       (sym (map-map (step_for kept) (λ (s : Label × List Oid). s.1) targets)) enters.entered;
   row = row;
-  placed = AllZip-mapped (step_for kept)
-      (λ (s : Label × List Oid) (e : Label × Node). (e.0 ≡ s.0) × HasSet (found_nodes kept between) e.1 s.1) targets
+  placed = AllZip-map (λ (s : Label × List Oid) (e : Label × Node). (e.0 ≡ s.0) × HasSet (found_nodes kept between) e.1 s.1) (step_for kept) targets
       row enters.placed;
   sets = sets;
   put = put;

@@ -16,9 +16,10 @@ use Rattle.dataguide.specs.Deltas.{KeepsOnce}
 use Rattle.dataguide.specs.inside.Fills.{CanFill}
 use Rattle.dataguide.specs.inside.NodeTables.{HaveHashes}
 use Rattle.lore_base.proofs.MemberLaws.{Contains-head}
-use Rattle.dataguide.proofs.PlaceLaws.{Contains-at, at-Contains, at-front, at-append, at-push, mapped}
-use Rattle.dataguide.proofs.TrailLaws.{AllPairs-push}
-use Rattle.dataguide.proofs.StopLaws.{All-by}
+use Rattle.list_laws.proofs.MemberLaws.{All-from_members, Contains-map}
+use Rattle.list_laws.proofs.PlaceLaws.{Contains-from_place, place_of_member, slice_get-append_left, slice_get-push}
+use Rattle.set_steps.proofs.PlaceLaws.{at-front}
+use Rattle.set_steps.proofs.PairLaws.{AllPairs-push}
 use Rattle.dataguide.proofs.FoundLaws.{kept-set, map-put, put-other}
 
 -- what was yielded is filled in, and the sets of other nodes are still there
@@ -85,9 +86,9 @@ module _ (kept : List GuideNode) (nodes done rest others : List DeltaNode) (old 
   not-done : (node : Node) → planned.origin ≡ Kept node → (earlier : DeltaNode) → Contains done earlier
       → earlier.origin ≡ Kept node → ⊥
   not-done node is earlier there same =
-      let at = at-Contains done earlier there in
+      let at = place_of_member done earlier there in
       let in_all = subst (λ (l : List DeltaNode). slice_get l at.0 ≡ Some earlier) whole-now
-      (at-append done (planned ∷ others) at.0 earlier at.1) in
+      (slice_get-append_left done (planned ∷ others) at.0 earlier at.1) in
       let place : at.0 ≡ length done = before.keeps.once at.0 (length done) earlier planned node in_all planned-at
       same is in
       omega (arith, place, slice_get_within done at.0 earlier at.1)
@@ -140,7 +141,7 @@ module _ (kept : List GuideNode) (nodes done rest others : List DeltaNode) (old 
                     slice_get_within (room ++ node ∷ []) k there whole,
                     length-append room (node ∷ []),
                   ) in
-                  let both : Some node ≡ Some there = sym (at-push room node)
+                  let both : Some node ≡ Some there = sym (slice_get-push room node)
                   ∙ sym (ap (slice_get (room ++ node ∷ [])) here) ∙ whole in
                   let same : node ≡ there = cc in
                   subst (λ (n : GuideNode). Contains (hashes ++ (hash, node_number place) ∷ [])
@@ -194,10 +195,10 @@ filled-few kept nodes made is few = omega (arith, few, ap length is, length-map 
 pub planned-ascend : (kept : List GuideNode) (edges : List Edge) (nodes : List DeltaNode)
     → All (HasItsSteps edges (nodes_then kept nodes)) (nodes_then kept nodes)
     → All (λ planned. AscendByLabel planned.edges) nodes
-planned-ascend kept edges nodes steps = All-by (λ (p : DeltaNode). AscendByLabel p.edges) nodes (λ planned there. (
+planned-ascend kept edges nodes steps = All-from_members (λ (p : DeltaNode). AscendByLabel p.edges) nodes (λ planned there. (
     let own = All-contains (HasItsSteps edges (nodes_then kept nodes)) (nodes_then kept nodes)
     (node_then kept planned) steps
-    (mapped (node_then kept) nodes planned there) in own.ascending))
+    (Contains-map (node_then kept) nodes planned there) in own.ascending))
 
 -- an edge whose label is above those of a planned node is put behind them
 pub edge-ascends : (nodes : List DeltaNode) (place : ℕ) (node : DeltaNode) (label : Label) (to : ℕ)
@@ -207,5 +208,5 @@ pub edge-ascends : (nodes : List DeltaNode) (place : ℕ) (node : DeltaNode) (la
 edge-ascends nodes place node label to at below ascend =
     All-set (λ (p : DeltaNode). AscendByLabel p.edges) nodes place (with_edge node label to)
     (AllPairs-push (λ (a b : Label × Node). a.0.0 < b.0.0) node.edges (label, node_number to)
-    (All-contains (λ (p : DeltaNode). AscendByLabel p.edges) nodes node ascend (Contains-at nodes place node at))
+    (All-contains (λ (p : DeltaNode). AscendByLabel p.edges) nodes node ascend (Contains-from_place nodes place node at))
     (λ edge there. All-contains (λ (e : Label × Node). e.0.0 < label.0) node.edges edge below there)) ascend

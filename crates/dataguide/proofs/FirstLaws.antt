@@ -15,14 +15,17 @@ use Rattle.lore_base.specs.GuideLimits.{AreFirstSets}
 use Rattle.dataguide.specs.inside.Trails.{Stop, start_path, longer, ComesUpTo, IsMet, IsTrail}
 use Rattle.lore_base.proofs.WalkLaws.{Walk-split}
 use Rattle.lore_base.proofs.TargetLaws.{ListsInOrder-unique}
-use Rattle.oem_changes.proofs.AscentLaws.{AllPairs-once}
 use Rattle.lore_base.proofs.MemberLaws.{Contains-head}
+use Rattle.list_laws.proofs.AscentLaws.{AllPairs-once}
+use Rattle.list_laws.proofs.MemberLaws.{All-from_members, Contains-map, Contains-from_map}
+use Rattle.list_laws.proofs.PlaceLaws.{place_of_member}
 use Rattle.dataguide.proofs.PathOrder.{before-end, before-trans, upto-longer, upto-trans}
 use Rattle.dataguide.proofs.TargetSteps.{walks-leave, step-target}
-use Rattle.dataguide.proofs.PlaceLaws.{at-Contains, at-map, mapped, unmapped, one-place, AllZip-then}
-use Rattle.dataguide.proofs.TrailLaws.{set_of, AllPairs-push}
-use Rattle.dataguide.proofs.StopLaws.{All-by, AllPairs-map, named_stop, target-none, keys-ascend}
-use Rattle.dataguide.proofs.DoneLaws.{some-member, AllZip-maps}
+use Rattle.set_steps.proofs.PlaceLaws.{at-map, one-place, AllZip-then}
+use Rattle.dataguide.proofs.TrailLaws.{set_of}
+use Rattle.set_steps.proofs.PairLaws.{some-member, AllPairs-map, AllPairs-push}
+use Rattle.dataguide.proofs.StopLaws.{named_stop, target-none, keys-ascend}
+use Rattle.dataguide.proofs.DoneLaws.{AllZip-maps}
 
 -- the target set of a path was found, by a path that comes no later
 record IsReached (edges : List Edge) (trail : List Stop) (start : Oid) (path : LabelPath) : Type 0 where
@@ -125,12 +128,12 @@ module _ (names : List (List ℕ × Oid)) (edges : List Edge) (table : IsNameTab
       ]
 
   in-sets : (stop : Stop) → Contains trail stop → Contains sets stop.set
-  in-sets stop there = subst (λ (l : List (List Oid)). Contains l stop.set) is.found (mapped set_of trail stop there)
+  in-sets stop there = subst (λ (l : List (List Oid)). Contains l stop.set) is.found (Contains-map set_of trail stop there)
 
   same-stop : (stop other : Stop) → Contains trail stop → Contains trail other → stop.set ≡ other.set → stop ≡ other
   same-stop stop other first second same =
-      let i = at-Contains trail stop first in
-      let j = at-Contains trail other second in
+      let i = place_of_member trail stop first in
+      let j = place_of_member trail other second in
       let apart = subst (λ (l : List (List Oid)). AllPairs (λ (a b : List Oid). (a ≡ b) → ⊥) l)
       (sym is.found) is.apart in
       let place : i.0 ≡ j.0 = one-place (map set_of trail) apart i.0 j.0 other.set
@@ -175,12 +178,12 @@ module _ (names : List (List ℕ × Oid)) (edges : List Edge) (table : IsNameTab
     least = AllZip-then (IsLeastPath names edges) (map (λ (s : Stop). s.path) trail) sets next next_set
         (subst (λ (l : List (List Oid)). AllZip (IsLeastPath names edges) (map (λ (s : Stop). s.path) trail) l) is.found
         (AllZip-maps (λ (s : Stop). s.path) set_of (IsLeastPath names edges) trail
-        (All-by (λ (s : Stop). IsLeastPath names edges s.path s.set) trail least-stop))) least-next;
+        (All-from_members (λ (s : Stop). IsLeastPath names edges s.path s.set) trail least-stop))) least-next;
     ascending = AllPairs-push ComesBefore (map (λ (s : Stop). s.path) trail) next
         (AllPairs-map (λ (s : Stop). s.path) (λ (a b : Stop). ComesBefore a.path b.path) ComesBefore
         (λ a b h. h) trail is.ascending)
         (λ path there. (
-        let from = unmapped (λ (s : Stop). s.path) trail path there in
+        let from = Contains-from_map (λ (s : Stop). s.path) trail path there in
         subst (λ (p : LabelPath). ComesBefore p next) from.2 (before from.0 from.1)));
     others = λ path set led. (elim (told-led path set led) [
       | inl found ↦ inl (Contains-append_left sets (next_set ∷ []) set
@@ -192,8 +195,8 @@ module _ (names : List (List ℕ × Oid)) (edges : List Edge) (table : IsNameTab
             inl (Contains-append_right sets (next_set ∷ []) set
             (subst (λ (s : List Oid). Contains (next_set ∷ []) s) one (Contains-head next_set []))))
         | inr behind ↦ inr (All-push (λ (p : LabelPath). ComesBefore p path) (map (λ (s : Stop). s.path) trail) next
-            (All-by (λ (p : LabelPath). ComesBefore p path) (map (λ (s : Stop). s.path) trail) (λ p there. (
-            let from = unmapped (λ (s : Stop). s.path) trail p there in
+            (All-from_members (λ (p : LabelPath). ComesBefore p path) (map (λ (s : Stop). s.path) trail) (λ p there. (
+            let from = Contains-from_map (λ (s : Stop). s.path) trail p there in
             subst (λ (q : LabelPath). ComesBefore q path) from.2
             (before-trans from.0.path next path (before from.0 from.1) behind))))
             behind)

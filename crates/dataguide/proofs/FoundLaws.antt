@@ -3,11 +3,13 @@ use Rattle.std.proofs.Common.{◌≡◌, ℕ, ◌+◌, ◌<◌, ◌≤◌, ◌�
 use Rattle.std.proofs.Common.{Option, Some, None, All, Contains, refl, sym, ap, ◌∙◌, subst, arith, length-append}
 use Rattle.std.specs.List.{slice_get, sum_by}
 use Rattle.std.specs.Prelude.{slice_set}
-use Rattle.std.proofs.lemmas.Bool.{cases_lt}
+use Rattle.std.proofs.lemmas.Bool.{cases_lt, cases_eq}
 use Rattle.std.proofs.lemmas.List.{length-map, length-set, map_push, append-nil}
 use Rattle.std.proofs.lemmas.List.Sums.{sum_by_push}
 use Rattle.std.proofs.lemmas.List.Elements.{All-push, All-contains}
 use Rattle.std.proofs.lemmas.Option.{slice_get_within, slice_get-get_or}
+use Rattle.list_laws.proofs.PlaceLaws.{Contains-from_place, place_of_member, slice_get-append_left, slice_get-push}
+use Rattle.list_laws.proofs.PartLaws.{map-map}
 use Rattle.dataguide.specs.Types.{Oid, Node, GuideNode, Origin, Kept, Fresh, DeltaNode, GuideFault, Nodes, Cells}
 use Rattle.dataguide.specs.Types.{NoMemory}
 use Rattle.dataguide.specs.declared.found.Found.{Found}
@@ -18,8 +20,8 @@ use Rattle.dataguide.specs.Deltas.{origin_set, IsOrigin, node_then, nodes_then}
 use Rattle.lore_base.specs.GuideLimits.{KeepLimits}
 use Rattle.dataguide.specs.inside.NodeTables.{listed}
 use Rattle.dataguide.specs.inside.Founds.{IsFound, found_nodes, found_sets, IsFreshAt, IsRoomFault, Stops, Enters}
-use Rattle.dataguide.proofs.PlaceLaws.{Contains-at, at-Contains, at-append, at-front, at-push, at-map, at-unmap}
-use Rattle.dataguide.proofs.PlaceLaws.{one-place, map-map}
+use Rattle.set_steps.proofs.PlaceLaws.{at-front, at-map, at-unmap}
+use Rattle.set_steps.proofs.PlaceLaws.{one-place}
 
 -- ---- lists in which one item was put
 pub put-at : {X : Type 0} (xs : List X) (place : ℕ) (new x : X) → slice_get (slice_set xs place new) place ≡ Some x
@@ -53,17 +55,6 @@ put-same [] place x at = cc
 put-same (first ∷ xs) zero x at = (let same : first ≡ x = cc in ap (λ y. y ∷ xs) (sym same))
 put-same (first ∷ xs) (suc place) x at = ap (λ l. first ∷ l) (put-same xs place x at)
 
--- whether a place is another one
-pub place-cases : (i j : ℕ) → (i ≡ j) ⊎ (i ≡ j → ⊥)
-place-cases i j = elim (cases_lt i j) [
-  | inl less ↦ inr (λ same. omega (arith, less, same))
-  | inr more ↦ elim (cases_lt j i) [
-    | inl less ↦ inr (λ same. omega (arith, less, same))
-    | inr equal ↦ inl
-        (omega (arith, more, equal))
-  ]
-]
-
 -- ---- the sets of origins
 pub kept-set : (kept : List GuideNode) (node : Node) → node.0 < length kept
     → slice_get (sets_of kept) node.0 ≡ Some (origin_set kept (Kept node))
@@ -83,7 +74,7 @@ module _ (kept : List GuideNode) (found : Found) (is : IsFound kept found) where
       → (place : ℕ) × (planned : DeltaNode) × (slice_get found.nodes.items place ≡ Some planned)
       × (planned_set planned ≡ set)
   planned-at set there =
-      let at = at-Contains (map planned_set found.nodes.items) set
+      let at = place_of_member (map planned_set found.nodes.items) set
       (subst (λ (l : List (List Oid)). Contains l set) (sets-then kept found.nodes.items) there) in
       let from = at-unmap planned_set found.nodes.items at.0 set at.1 in
       (at.0, from.0, from.1, from.2)
@@ -92,7 +83,7 @@ module _ (kept : List GuideNode) (found : Found) (is : IsFound kept found) where
       → IsOrigin kept planned.origin
   origin-at place planned at =
       All-contains (λ (p : DeltaNode). IsOrigin kept p.origin) found.nodes.items planned is.origins
-      (Contains-at found.nodes.items place planned at)
+      (Contains-from_place found.nodes.items place planned at)
 
   pub set-at : (place : Node) (planned : DeltaNode) → slice_get found.nodes.items place.0 ≡ Some planned
       → HasSet (found_nodes kept found) place (planned_set planned)
@@ -117,7 +108,7 @@ module _ (kept : List GuideNode) (found : Found) (is : IsFound kept found) where
             sym put ∙ ap (slice_get found.places.items) place ∙ none in
             cc)
         | Fresh set ↦ λ fresh_is same. is.fresh from.0 from.1 set from.2 fresh_is
-            (Contains-at (sets_of kept) node.0 set (kept-set kept node within ∙ ap Some (sym same)))
+            (Contains-from_place (sets_of kept) node.0 set (kept-set kept node within ∙ ap Some (sym same)))
       ] refl from.3
 
   -- where no fresh node under its hash has the set, and no node before, it is not there
@@ -129,7 +120,7 @@ module _ (kept : List GuideNode) (found : Found) (is : IsFound kept found) where
       elim from.1.origin as (λ o. from.1.origin ≡ o → origin_set kept o ≡ set → ⊥) [
         | Kept other ↦ λ kept_is same. (
             let inside = subst (IsOrigin kept) kept_is (origin-at from.0 from.1 from.2) in
-            new (Contains-at (sets_of kept) other.0 set (kept-set kept other inside ∙ ap Some same)))
+            new (Contains-from_place (sets_of kept) other.0 set (kept-set kept other inside ∙ ap Some same)))
         | Fresh own ↦ λ fresh_is same. (
             let own_is : from.1.origin ≡ Fresh set = fresh_is ∙ ap Fresh same in
             All-contains (λ (n : Node). ¬ IsFreshAt found.nodes.items n set) (listed found.fresh (hash_of set))
@@ -147,7 +138,7 @@ module _ (kept : List GuideNode) (found : Found) (is : IsFound kept found) where
       record {
         found = is;
         fit = fit;
-        entered = inl (Contains-at (found_sets kept found) place.0 (origin_set kept origin) has, refl);
+        entered = inl (Contains-from_place (found_sets kept found) place.0 (origin_set kept origin) has, refl);
         has = has;
         grown = ([], sym (append-nil (found_nodes kept found)));
       }
@@ -196,7 +187,7 @@ module _ (kept : List GuideNode) (old new : Found) (planned : DeltaNode) (limit 
     has = set-at kept new is place planned
         (subst (λ (l : List DeltaNode). slice_get l place.0 ≡ Some planned) (sym pushed)
         (subst (λ (k : ℕ). slice_get (old.nodes.items ++ planned ∷ []) k ≡ Some planned) (sym here)
-        (at-push old.nodes.items planned)));
+        (slice_get-push old.nodes.items planned)));
     grown = (
       node_then kept planned ∷ [],
       ap (nodes_then kept) pushed ∙ map_push (node_then kept) old.nodes.items
@@ -220,7 +211,7 @@ module _ (kept : List GuideNode) (old new : Found) (planned : DeltaNode) (limit 
               length-append old.nodes.items
                   (planned ∷ []),
             ) in
-            let both : Some planned ≡ Some other = sym (at-push old.nodes.items planned)
+            let both : Some planned ≡ Some other = sym (slice_get-push old.nodes.items planned)
             ∙ sym (ap (slice_get (old.nodes.items ++ planned ∷ [])) here) ∙ whole in
             inr (here, cc))
       ]
@@ -234,11 +225,11 @@ module _ (kept : List GuideNode) (old new : Found) (planned : DeltaNode) (limit 
       place ≡ Some other
   old-at place other at =
       subst (λ (l : List DeltaNode). slice_get l place ≡ Some other) (sym pushed)
-      (at-append old.nodes.items (planned ∷ []) place other at)
+      (slice_get-append_left old.nodes.items (planned ∷ []) place other at)
 
   new-at : slice_get new.nodes.items (length old.nodes.items) ≡ Some planned
   new-at = subst (λ (l : List DeltaNode). slice_get l (length old.nodes.items) ≡ Some planned) (sym pushed)
-      (at-push old.nodes.items planned)
+      (slice_get-push old.nodes.items planned)
 
   -- a node before is put
   pub found-kept : (node : Node) → planned.origin ≡ Kept node → node.0 < length kept
@@ -273,7 +264,7 @@ module _ (kept : List GuideNode) (old new : Found) (planned : DeltaNode) (limit 
             ]));
         there = λ k place at. (
             let whole = subst (λ (l : List (Option Node)). slice_get l k ≡ Some (Some place)) put at in
-            elim (place-cases k node.0) [
+            elim (cases_eq k node.0) [
               | inl one ↦ (
                   let got = put-at old.places.items node.0 (Some (node_number (length old.nodes.items))) (Some place)
                   (subst (λ (j : ℕ). slice_get (slice_set old.places.items node.0

@@ -11,8 +11,9 @@ use Rattle.dataguide.specs.inside.Entering.{AreEntered}
 use Rattle.dataguide.specs.inside.Founds.{IsFound, found_nodes, found_sets, Stops, AreStopped, target_sets, Enters}
 use Rattle.dataguide.specs.inside.Founds.{EntersAll}
 use Rattle.lore_base.proofs.MemberLaws.{Contains-head}
-use Rattle.dataguide.proofs.PlaceLaws.{AllZip-then, AllZip-weaker}
-use Rattle.dataguide.proofs.EnteredLaws.{AreEntered-push, Extends-trans}
+use Rattle.list_laws.proofs.PlaceLaws.{Extends-trans}
+use Rattle.set_steps.proofs.PlaceLaws.{AllZip-then, AllZip-weaker}
+use Rattle.dataguide.proofs.EnteredLaws.{AreEntered-push}
 use Rattle.dataguide.proofs.SearchedLaws.{set-extends}
 
 -- the first targets were entered

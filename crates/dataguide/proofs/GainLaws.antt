@@ -1,46 +1,38 @@
 -- What a set that lost no edge gains by fresh ones.
-use Rattle.std.proofs.Common.{◌≡◌, ◌⊎◌, ◌↔◌, inl, inr, ℕ, ◌<◌, List, [], ◌∷◌, ◌++◌, map, All, AllPairs, Contains, Option}
-use Rattle.std.proofs.Common.{Some, None, IfSome, IfNone, length, get_or, nat_cmp, nat_eq, true, Less, refl, sym, ap, subst}
+use Rattle.std.proofs.Common.{◌≡◌, ◌⊎◌, ◌↔◌, inl, inr, ◌<◌, List, [], ◌∷◌, ◌++◌, map, All, AllPairs, Contains, Option}
+use Rattle.std.proofs.Common.{Some, None, IfSome, IfNone, length, get_or, nat_eq, true, refl, sym, ap, subst}
 use Rattle.std.proofs.Common.{arith}
 use Rattle.std.proofs.lemmas.Bool.Decides.{nat_tests}
 use Rattle.std.proofs.lemmas.List.{length-map, get_or-map}
-use Rattle.std.proofs.lemmas.List.Elements.{All-contains, All-map, All-weaker, Contains-push}
+use Rattle.std.proofs.lemmas.List.Elements.{All-contains, All-map, All-weaker, Contains-push, Contains-push_cases}
 use Rattle.std.proofs.lemmas.List.Elements.{Contains-append_left, Contains-append_right, Contains-append_cases}
 use Rattle.lore_base.specs.Walks.{edge_of}
 use Rattle.lore_base.specs.TargetSets.{ListsInOrder, LeavesTo, IsStep}
-use Rattle.lore_base.proofs.MemberLaws.{Contains-none, Contains-head, Contains-cases, Contains-same}
+use Rattle.lore_base.proofs.MemberLaws.{Contains-none, Contains-same}
 use Rattle.lore_base.proofs.TargetLaws.{ListsInOrder-same}
 use Rattle.lore_base.proofs.ToldLaws.{told_member, told_edge}
-use Rattle.oem_changes.proofs.AscentLaws.{AllPairs-once}
+use Rattle.list_laws.proofs.AscentLaws.{AllPairs-once}
+use Rattle.list_laws.proofs.MemberLaws.{All-from_members, Contains-map, Contains-from_map}
 use Rattle.oem_set.specs.Sets.{IsSet}
 use Rattle.dataguide.specs.Types.{Oid, Label, Edge, Node, GuideNode, Origin, Kept}
 use Rattle.dataguide.specs.Guides.{GuideGraph}
-use Rattle.dataguide.specs.Touched.{Meet, parents_of}
-use Rattle.dataguide.specs.Deltas.{origin_set, IsOrigin}
-use Rattle.dataguide.specs.inside.Arcs.{AreSteps}
+use Rattle.dataguide.specs.Touched.{Meet}
+use Rattle.dataguide.specs.Deltas.{origin_set}
+use Rattle.set_steps.specs.SetSteps.{AreSteps}
 use Rattle.dataguide.specs.inside.Founds.{steps_of}
 use Rattle.dataguide.specs.inside.Gains.{IsChange, labels_in, LeadsKept, LeadsBy, HasEither, IsThere}
 use Rattle.dataguide.specs.inside.Gains.{IsUnion, AreUnions}
-use Rattle.dataguide.proofs.PlaceLaws.{mapped, unmapped}
-use Rattle.dataguide.proofs.StopLaws.{All-by, AllPairs-map}
-use Rattle.dataguide.proofs.DoneLaws.{some-member}
-
--- one item more, among the members of a front of a list that pass
-pub in-push : {X : Type 0} (xs : List X) (x y : X) → Contains (xs ++ x ∷ []) y → Contains xs y ⊎ (x ≡ y)
-in-push xs x y there = elim (Contains-append_cases xs (x ∷ []) y there) [
-  | inl front ↦ inl front
-  | inr last ↦ elim (Contains-cases x [] y last) [ inl same ↦ inr same | inr none ↦ absurd (Contains-none y none) ]
-]
+use Rattle.set_steps.proofs.PairLaws.{some-member, AllPairs-map}
 
 module _ {X : Type 0} (P : X → Type 0) (found front : List X) (x : X)
     (are : (y : X) → Contains found y ↔ (Contains front y × P y)) where
   pub passes-more : P x → (y : X) → Contains (found ++ x ∷ []) y ↔ (Contains (front ++ x ∷ []) y × P y)
   passes-more passes y = (
-    λ there. elim (in-push found x y there) [
+    λ there. elim (Contains-push_cases found x y there) [
       | inl old ↦ (let both = (are y).0 old in (Contains-append_left front (x ∷ []) y both.0, both.1))
       | inr same ↦ (Contains-same (front ++ x ∷ []) x y same (Contains-push front x), subst P same passes)
     ],
-    λ both. elim (in-push front x y both.0) [
+    λ both. elim (Contains-push_cases front x y both.0) [
       | inl old ↦ Contains-append_left found (x ∷ []) y ((are y).1 (old, both.1))
       | inr same ↦ Contains-same (found ++ x ∷ []) x y same (Contains-push found x)
     ],
@@ -49,7 +41,7 @@ module _ {X : Type 0} (P : X → Type 0) (found front : List X) (x : X)
   pub passes-less : (P x → ⊥) → (y : X) → Contains found y ↔ (Contains (front ++ x ∷ []) y × P y)
   passes-less fails y = (
     λ there. (let both = (are y).0 there in (Contains-append_left front (x ∷ []) y both.0, both.1)),
-    λ both. elim (in-push front x y both.0) [
+    λ both. elim (Contains-push_cases front x y both.0) [
       | inl old ↦ (are y).1 (old, both.1)
       | inr same ↦ absurd (fails (subst P (sym same) both.1))
     ],
@@ -89,9 +81,9 @@ module _ (kept : List GuideNode) where
   pub kept-by : (edges : List (Label × Node)) (label : Label) (oid : Oid)
       → LeadsKept kept edges label oid ↔ LeadsBy (map as_step edges) label oid
   kept-by edges label oid = (
-    λ leads. (origin_set kept (Kept leads.0), mapped as_step edges (label, leads.0) leads.1, leads.2),
+    λ leads. (origin_set kept (Kept leads.0), Contains-map as_step edges (label, leads.0) leads.1, leads.2),
     λ leads. (
-        let from = unmapped as_step edges (label, leads.0) leads.1 in
+        let from = Contains-from_map as_step edges (label, leads.0) leads.1 in
         let labelled : from.0.0 ≡ label = ap (λ (s : Label × List Oid). s.0) from.2 in
         let set : origin_set kept (Kept from.0.1) ≡ leads.0 = ap (λ (s : Label × List Oid). s.1) from.2 in (
           from.0.1,
@@ -142,7 +134,7 @@ module _ (guide : GuideGraph) (dirty grown : List Oid) (fresh after : List Edge)
         member = (are leaves.from).1 (
           leaves.member,
           (change.grown_are leaves.from).1
-              (mapped (λ (e : Edge). e.parent) fresh (edge_of leaves.from label oid) leaves.edge),
+              (Contains-map (λ (e : Edge). e.parent) fresh (edge_of leaves.from label oid) leaves.edge),
         );
         edge = leaves.edge;
       },
@@ -197,8 +189,8 @@ module _ (guide : GuideGraph) (dirty grown : List Oid) (fresh after : List Edge)
 
       some-kept : (label : Label) → Contains (labels_in edges) label → (oid : Oid) × LeadsKept kept edges label oid
       some-kept label there =
-          let edge = unmapped (λ (e : Label × Node). e.0) edges label there in
-          let set_there = mapped (as_step kept) edges edge.0 edge.1 in
+          let edge = Contains-from_map (λ (e : Label × Node). e.0) edges label there in
+          let set_there = Contains-map (as_step kept) edges edge.0 edge.1 in
           let one = some-member (origin_set kept (Kept edge.0.1))
           (All-contains (λ (s : Label × List Oid). (s.1 ≡ []) → ⊥) (map (as_step kept) edges) (as_step kept edge.0)
           before_are.some set_there) in
@@ -206,7 +198,7 @@ module _ (guide : GuideGraph) (dirty grown : List Oid) (fresh after : List Edge)
 
       some-step : (label : Label) → Contains (labels_in row) label → (oid : Oid) × LeadsBy row label oid
       some-step label there =
-          let step = unmapped (λ (s : Label × List Oid). s.0) row label there in
+          let step = Contains-from_map (λ (s : Label × List Oid). s.0) row label there in
           let one = some-member step.0.1
           (All-contains (λ (s : Label × List Oid). (s.1 ≡ []) → ⊥) row step.0 row_are.some step.1) in
           (one.0, (step.0.1, subst (λ (l : Label). Contains row (l, step.0.1)) step.2 step.1, one.1))
@@ -220,7 +212,7 @@ module _ (guide : GuideGraph) (dirty grown : List Oid) (fresh after : List Edge)
 
       not-empty : (target : Label × Origin) → Contains targets target → (origin_set kept target.1 ≡ []) → ⊥
       not-empty target there none =
-          let one = some-object target.0 (mapped (λ (t : Label × Origin). t.0) targets target there) in
+          let one = some-object target.0 (Contains-map (λ (t : Label × Origin). t.0) targets target there) in
           let union = All-contains (λ (t : Label × Origin). IsUnion kept edges row t.0 (origin_set kept t.1)) targets
           target unions.sets there in
           Contains-none one.0 (subst (λ (l : List Oid). Contains l one.0) none ((union.exact one.0).1 one.1))
@@ -228,18 +220,18 @@ module _ (guide : GuideGraph) (dirty grown : List Oid) (fresh after : List Edge)
       target-there : (label : Label) → Contains (labels_in edges) label ⊎ Contains (labels_in row) label
           → (next : List Oid) × Contains (map of_target targets) (label, next)
       target-there label either =
-          let from = unmapped (λ (t : Label × Origin). t.0) targets label ((unions.labels label).1 either) in (
+          let from = Contains-from_map (λ (t : Label × Origin). t.0) targets label ((unions.labels label).1 either) in (
             origin_set kept from.0.1,
             subst (λ (l : Label). Contains (map of_target targets) (l, origin_set kept from.0.1))
-                from.2 (mapped of_target targets from.0 from.1),
+                from.2 (Contains-map of_target targets from.0 from.1),
           )
 
       step-there : (label : Label) (oid : Oid) → (LeadsKept kept edges label oid ⊎ LeadsBy row label oid)
           → (next : List Oid) × Contains (map of_target targets) (label, next)
       step-there label oid (inl leads) =
-          target-there label (inl (mapped (λ (e : Label × Node). e.0) edges (label, leads.0) leads.1))
+          target-there label (inl (Contains-map (λ (e : Label × Node). e.0) edges (label, leads.0) leads.1))
       step-there label oid (inr leads) =
-          target-there label (inr (mapped (λ (s : Label × List Oid). s.0) row (label, leads.0) leads.1))
+          target-there label (inr (Contains-map (λ (s : Label × List Oid). s.0) row (label, leads.0) leads.1))
 
       pub union-steps : AreSteps after set (steps_of kept targets)
       union-steps = record {
@@ -251,7 +243,7 @@ module _ (guide : GuideGraph) (dirty grown : List Oid) (fresh after : List Edge)
             (λ t union. ListsInOrder-same (λ oid. LeadsKept kept edges t.0 oid ⊎ LeadsBy row t.0 oid)
             (LeavesTo after set t.0) (origin_set kept t.1) (whole t.0) union) targets unions.sets);
         some = All-map (λ (s : Label × List Oid). (s.1 ≡ []) → ⊥) of_target targets
-            (All-by (λ (t : Label × Origin). (origin_set kept t.1 ≡ []) → ⊥) targets not-empty);
+            (All-from_members (λ (t : Label × Origin). (origin_set kept t.1 ≡ []) → ⊥) targets not-empty);
         all = λ label oid leaves. step-there label oid ((whole label oid).1 leaves);
       }
 
@@ -281,9 +273,6 @@ AllPairs-unmap f R xs pairs i j d less within =
     subst (λ y. R (f (get_or xs i d)) y) second (subst (λ x. R x (get_or (map f xs) j (f d))) first at)
 
 -- ---- labels
-pub label-below : (a b : ℕ) → nat_cmp a b ≡ Less → a < b
-label-below a b less = grind (arith, nat_tests)
-
 pub same-label : (a b : Label) → nat_eq a.0 b.0 ≡ true → a ≡ b
 same-label a b h = let number : a.0 ≡ b.0 = grind (arith, nat_tests) in ap (λ n. record { 0 = n }) number
 

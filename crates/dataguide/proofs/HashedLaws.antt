@@ -5,11 +5,12 @@ use Rattle.std.specs.List.{AllWithin}
 use Rattle.std.proofs.lemmas.Bool.{cases_lt}
 use Rattle.std.proofs.lemmas.Bool.Decides.{nat_tests}
 use Rattle.std.proofs.lemmas.List.{get_or_default}
+use Rattle.list_laws.proofs.PlaceLaws.{place_of_member}
 use Rattle.dataguide.specs.Types.{Oid, Node, GuideNode}
 use Rattle.oem_set.specs.Sets.{hash_of}
 use Rattle.dataguide.specs.Guides.{sets_of, HasSet, node_number}
 use Rattle.dataguide.specs.inside.NodeTables.{IsHashed}
-use Rattle.dataguide.proofs.PlaceLaws.{at-Contains, at-unmap}
+use Rattle.set_steps.proofs.PlaceLaws.{at-unmap}
 
 module _ (entries : List (ℕ × Node)) (nodes : List GuideNode) (is : IsHashed entries nodes) (set : List Oid)
     (start place : ℕ)
@@ -21,7 +22,7 @@ module _ (entries : List (ℕ × Node)) (nodes : List GuideNode) (is : IsHashed 
   behind : Contains (sets_of nodes) set
       → (k : ℕ) × (k < length entries) × (place ≤ k) × ((d : ℕ × Node) → (get_or entries k d).0 ≡ hash_of set)
   behind there =
-      let at = at-Contains (sets_of nodes) set there in
+      let at = place_of_member (sets_of nodes) set there in
       let node = at-unmap (λ (n : GuideNode). n.set) nodes at.0 set at.1 in
       let entry : ℕ × Node = (hash_of set, node_number at.0) in
       let stands = subst (λ (s : List Oid). Contains entries (hash_of s, node_number at.0)) node.2

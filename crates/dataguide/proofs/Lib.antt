@@ -1,16 +1,11 @@
 pub mod PathOrder
 pub mod TargetSteps
-pub mod PlaceLaws
 pub mod EnteredLaws
 pub mod TrailLaws
 pub mod StopLaws
 pub mod SearchedLaws
 pub mod DoneLaws
 pub mod OneGuide
-pub mod SumLaws
-pub mod RunLaws
-pub mod ArcLaws
-pub mod GroupLaws
 pub mod StepLaws
 pub mod TableLaws
 pub mod HashedLaws

@@ -5,6 +5,8 @@ use Rattle.std.specs.List.{slice_get, AllZip}
 use Rattle.std.proofs.lemmas.List.{get_or-map, length-map}
 use Rattle.std.proofs.lemmas.List.Elements.{All-contains, All-cons}
 use Rattle.lore_base.proofs.ListLaws.{AllPairs-unique}
+use Rattle.list_laws.proofs.PlaceLaws.{Contains-from_place}
+use Rattle.list_laws.proofs.MemberLaws.{Contains-from_map}
 use Rattle.dataguide.specs.Types.{Oid, Label, Edge, Node, GuideNode}
 use Rattle.lore_base.specs.TargetSets.{LabelPath, IsStep, AreTargetSets}
 use Rattle.lore_base.specs.PathOrder.{IsLeastPath, AreInPathOrder, ComesBefore}
@@ -12,7 +14,7 @@ use Rattle.dataguide.specs.Guides.{sets_of, HasItsSteps, IsEntry}
 use Rattle.dataguide.specs.GuideLaws.{HasOneOrderedGuide}
 use Rattle.dataguide.specs.inside.Trails.{Stop}
 use Rattle.dataguide.proofs.PathOrder.{before-not_back}
-use Rattle.dataguide.proofs.PlaceLaws.{Contains-at, one-place, unmapped}
+use Rattle.set_steps.proofs.PlaceLaws.{one-place}
 use Rattle.dataguide.proofs.TrailLaws.{set_of}
 
 AllPairs-unmap : {X Y : Type 0} (f : X → Y) (R : Y → Y → Type 0) (xs : List X) → AllPairs R (map f xs)
@@ -79,7 +81,7 @@ module _ (names : List (List ℕ × Oid)) (edges : List Edge) where
         let in_stops =
         subst (λ (l : List (List Oid)). Contains l stop.set)
         (sym (sets-of_stops (IsLeastPath names edges) next.paths others next.least)) in_others in
-        let from = unmapped set_of (stops_of next.paths others) stop.set in_stops in
+        let from = Contains-from_map set_of (stops_of next.paths others) stop.set in_stops in
         let least_there =
         All-contains (λ (s : Stop). IsLeastPath names edges s.path s.set) (stops_of next.paths others) from.0
         (all-stops (IsLeastPath names edges) next.paths others next.least) from.1 in
@@ -176,9 +178,9 @@ one_ordered_guide names edges guide other first second =
     second.order in
     let nodes : guide.nodes ≡ other.nodes = same-nodes names edges guide.nodes other.nodes sets
     (λ k x y at there set. one-row names edges guide.nodes other.nodes x y sets set
-    (All-contains (HasItsSteps edges guide.nodes) guide.nodes x first.stands.steps (Contains-at guide.nodes k x at))
+    (All-contains (HasItsSteps edges guide.nodes) guide.nodes x first.stands.steps (Contains-from_place guide.nodes k x at))
     (All-contains (HasItsSteps edges other.nodes) other.nodes y second.stands.steps
-    (Contains-at other.nodes k y there))) in
+    (Contains-from_place other.nodes k y there))) in
     let entries : guide.entries ≡ other.entries =
     one-entries names edges guide.nodes other.nodes sets first.stands.nodes.apart names guide.entries other.entries
     first.stands.entries second.stands.entries in

@@ -11,14 +11,11 @@ use Rattle.lore_base.specs.TargetSets.{LabelPath}
 use Rattle.lore_base.specs.PathOrder.{word_cmp, ComesBefore}
 use Rattle.dataguide.specs.inside.Trails.{longer, ComesUpTo}
 
-word_total : IsTotalOrder word_cmp
+pub word_total : IsTotalOrder word_cmp
 word_total = lists_total (on_total (λ (label : Label). label.0) nat_cmp_total)
 
 cmp_less : (a b : ℕ) → a < b → nat_cmp a b ≡ Less
 cmp_less a b less = grind (arith, nat_tests)
-
-cmp_self : (a : ℕ) → nat_cmp a a ≡ Equal
-cmp_self a = grind (arith, nat_tests)
 
 -- words in order stay so with one label more
 word_push : (v w : List Label) (a b : Label) → length v ≡ length w → word_cmp v w ≡ Less
@@ -37,7 +34,7 @@ word_push (x ∷ v) (y ∷ w) a b len less =
 -- a word with a lower label at its end comes first
 word_push_same : (w : List Label) (a b : Label) → a.0 < b.0 → word_cmp (w ++ a ∷ []) (w ++ b ∷ []) ≡ Less
 word_push_same [] a b less = rw (cmp_less a.0 b.0 less) refl
-word_push_same (x ∷ w) a b less = rw (cmp_self x.0) (word_push_same w a b less)
+word_push_same (x ∷ w) a b less = rw (tied_itself nat_cmp_total x.0) (word_push_same w a b less)
 
 pub before-longer : (path other : LabelPath) (a b : Label) → ComesBefore path other
     → ComesBefore (longer path a) (longer other b)

@@ -16,7 +16,7 @@ use Rattle.lore_base.specs.Lists.{Extends}
 use Rattle.dataguide.specs.Types.{Oid, Edge, Node, GuideNode, Origin, Fresh, DeltaNode, GuideFault, Nodes, Cells}
 use Rattle.dataguide.specs.Types.{NoMemory}
 use Rattle.dataguide.specs.declared.found.Found.{Found}
-use Rattle.dataguide.specs.ReadCosts.{reads_of}
+use Rattle.set_steps.specs.SetSteps.{reads_of}
 use Rattle.lore_base.specs.TargetSets.{IsLedTo, LeadsTo}
 use Rattle.dataguide.specs.Guides.{sets_of, HasSet, IsEntry, node_number}
 use Rattle.dataguide.specs.Touched.{IsTouched, ReadsTouched, ReadsSome}
@@ -25,10 +25,13 @@ use Rattle.dataguide.specs.inside.Trails.{Stop, IsSearched, IsExpanded}
 use Rattle.dataguide.specs.inside.Founds.{found_nodes, found_sets, target_sets, Costs, IsHalted, IsFound}
 use Rattle.dataguide.specs.Deltas.{KeepsOnce}
 use Rattle.lore_base.proofs.MemberLaws.{Contains-none}
-use Rattle.dataguide.proofs.PlaceLaws.{at-Contains, at-append, unmapped, map-map, one-place, AllZip-weaker}
-use Rattle.dataguide.proofs.TrailLaws.{set_of, AllPairs-push}
-use Rattle.dataguide.proofs.StopLaws.{All-by}
-use Rattle.oem_changes.proofs.CountLaws.{distinct_no_longer}
+use Rattle.list_laws.proofs.SumLaws.{distinct_no_longer}
+use Rattle.list_laws.proofs.MemberLaws.{All-from_members, Contains-from_map}
+use Rattle.list_laws.proofs.PlaceLaws.{place_of_member, slice_get-append_left}
+use Rattle.list_laws.proofs.PartLaws.{map-map}
+use Rattle.set_steps.proofs.PlaceLaws.{one-place, AllZip-weaker}
+use Rattle.dataguide.proofs.TrailLaws.{set_of}
+use Rattle.set_steps.proofs.PairLaws.{AllPairs-push}
 use Rattle.lore_base.specs.GuideLimits.{KeepLimits}
 use Rattle.dataguide.proofs.SearchedLaws.{expanded-stays}
 
@@ -51,11 +54,11 @@ reads-none kept dirty edges sets before = record {
 not-before : (sets : List (List Oid)) (n : ℕ) (set : List Oid) → AreApart sets → slice_get sets n ≡ Some set
     → Contains (take n sets) set → ⊥
 not-before sets n set apart at there =
-    let from = at-Contains (take n sets) set there in
+    let from = place_of_member (take n sets) set there in
     let within = slice_get_within (take n sets) from.0 set from.1 in
     let in_all : slice_get sets from.0 ≡ Some set =
     subst (λ (l : List (List Oid)). slice_get l from.0 ≡ Some set) (take-append-drop n sets)
-    (at-append (take n sets) (drop n sets) from.0 set from.1) in
+    (slice_get-append_left (take n sets) (drop n sets) from.0 set from.1) in
     let place : from.0 ≡ n = one-place sets apart from.0 n set in_all at in
     omega (arith, within, place, length-take n sets)
 
@@ -129,9 +132,9 @@ module _ (kept : List (List Oid)) (dirty : List Oid) (edges : List Edge) where
   reads-some limit names nodes n count before now searched few reads = record {
     sets = reads.touched;
     apart = reads.are.apart;
-    led = All-by (IsLedTo names edges) reads.touched (λ set there. (
+    led = All-from_members (IsLedTo names edges) reads.touched (λ set there. (
         let in_sets = taken-there set ((reads.are.exact set).0 there).0 in
-        let from = unmapped set_of searched.trail set (subst (λ (l : List (List Oid)). Contains l set)
+        let from = Contains-from_map set_of searched.trail set (subst (λ (l : List (List Oid)). Contains l set)
         (sym searched.is.found) in_sets) in (
           from.0.path,
           subst (λ (s : List Oid). LeadsTo names edges from.0.path s) from.2
@@ -144,7 +147,7 @@ module _ (kept : List (List Oid)) (dirty : List Oid) (edges : List Edge) where
       distinct_no_longer reads.touched (sets_of nodes) reads.are.apart
           (λ set there. taken-there set ((reads.are.exact set).0 there).0),
     );
-    touched = All-by (IsTouched kept dirty) reads.touched (λ set there. ((reads.are.exact set).0 there).1);
+    touched = All-from_members (IsTouched kept dirty) reads.touched (λ set there. ((reads.are.exact set).0 there).1);
     counted = reads.counted;
   }
     where

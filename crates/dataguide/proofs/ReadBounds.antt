@@ -1,13 +1,13 @@
 -- What is read is within the reads of the touched sets.
-use Rattle.std.proofs.Common.{inl, inr, ℕ, List, Contains, arith}
+use Rattle.std.proofs.Common.{inl, inr, List, Contains, arith}
 use Rattle.std.proofs.lemmas.List.Elements.{All-contains}
+use Rattle.list_laws.proofs.SumLaws.{sum_by-within}
+use Rattle.list_laws.proofs.MemberLaws.{All-from_members}
 use Rattle.lore_base.specs.TargetSets.{IsLedTo}
 use Rattle.dataguide.specs.Types.{Oid}
-use Rattle.dataguide.specs.ReadCosts.{reads_of}
+use Rattle.set_steps.specs.SetSteps.{reads_of}
 use Rattle.dataguide.specs.Touched.{IsTouched}
 use Rattle.dataguide.specs.GuideLaws.{ReadsAreWithin, SomeReadsAreWithin}
-use Rattle.dataguide.proofs.StopLaws.{All-by}
-use Rattle.dataguide.proofs.SumLaws.{sum_by-within}
 
 -- what a dirty object touches, more objects touch
 touched-more : (kept : List (List Oid)) (dirty more set : List Oid) → ((oid : Oid) → Contains dirty oid → Contains more oid)
@@ -18,7 +18,7 @@ touched-more kept dirty more set holds (inr meets) = inr (meets.0, meets.1, hold
 pub reads_are_within : ReadsAreWithin
 reads_are_within kept dirty more names edges sets before now are reads holds all within =
     let fits = sum_by-within (reads_of edges) reads.touched all reads.are.apart
-    (All-by (Contains all) reads.touched (λ set there. (
+    (All-from_members (Contains all) reads.touched (λ set there. (
     let both = (reads.are.exact set).0 there in
     within set ((are.exact set).0 both.0) (touched-more kept dirty more set holds both.1)))) in
     omega (arith, reads.counted, fits)
@@ -26,7 +26,7 @@ reads_are_within kept dirty more names edges sets before now are reads holds all
 pub some_reads_are_within : SomeReadsAreWithin
 some_reads_are_within kept dirty more limit names edges before now reads holds all within =
     let fits = sum_by-within (reads_of edges) reads.sets all reads.apart
-    (All-by (Contains all) reads.sets (λ set there. within set
+    (All-from_members (Contains all) reads.sets (λ set there. within set
     (All-contains (IsLedTo names edges) reads.sets set reads.led there)
     (touched-more kept dirty more set holds (All-contains (IsTouched kept dirty) reads.sets set reads.touched there)))) in
     omega (arith, reads.counted, fits)

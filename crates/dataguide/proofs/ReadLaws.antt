@@ -3,6 +3,7 @@ use Rattle.std.proofs.Common.{◌≡◌, ℕ, ◌<◌, inl, inr, List, [], ◌�
 use Rattle.std.proofs.Common.{◌∙◌, subst}
 use Rattle.std.specs.List.{slice_get}
 use Rattle.std.proofs.lemmas.List.Elements.{All-map, All-contains}
+use Rattle.list_laws.proofs.PlaceLaws.{Contains-from_place}
 use Rattle.dataguide.specs.Types.{Oid, Label, Node, GuideNode, Origin, Kept, Fresh, DeltaNode}
 use Rattle.dataguide.specs.declared.found.Found.{Found}
 use Rattle.dataguide.specs.Touched.{Meet}
@@ -10,7 +11,7 @@ use Rattle.dataguide.specs.Guides.{sets_of}
 use Rattle.dataguide.specs.Deltas.{origin_set, IsOrigin}
 use Rattle.dataguide.specs.Touched.{IsTouched}
 use Rattle.dataguide.specs.inside.Founds.{IsFound, found_sets, steps_of}
-use Rattle.dataguide.proofs.PlaceLaws.{Contains-at, at-map, at-unmap}
+use Rattle.set_steps.proofs.PlaceLaws.{at-map, at-unmap}
 use Rattle.dataguide.proofs.FoundLaws.{kept-set, sets-then}
 
 abbrev as_fresh : Label × List Oid → Label × Origin
@@ -52,7 +53,7 @@ origin-within kept found is place origin at =
     let from = at-unmap (λ (p : DeltaNode). p.origin) found.nodes.items place origin at in
     subst (IsOrigin kept) from.2
     (All-contains (λ (p : DeltaNode). IsOrigin kept p.origin) found.nodes.items from.0 is.origins
-    (Contains-at found.nodes.items place from.0 from.1))
+    (Contains-from_place found.nodes.items place from.0 from.1))
 
 pub fresh-touched : (kept : List GuideNode) (found : Found) → IsFound kept found → (place : ℕ) (own : List Oid)
     → slice_get (map (λ planned. planned.origin) found.nodes.items) place ≡ Some (Fresh own) → ¬ Contains
@@ -65,6 +66,6 @@ fresh-touched kept found is place own at =
 pub clean-untouched : (kept : List GuideNode) (dirty : List Oid) (node : Node) → node.0 < length kept
     → (¬ Meet (origin_set kept (Kept node)) dirty) → ¬ IsTouched (sets_of kept) dirty (origin_set kept (Kept node))
 clean-untouched kept dirty node within clean touched = elim touched [
-  | inl new ↦ new (Contains-at (sets_of kept) node.0 (origin_set kept (Kept node)) (kept-set kept node within))
+  | inl new ↦ new (Contains-from_place (sets_of kept) node.0 (origin_set kept (Kept node)) (kept-set kept node within))
   | inr meets ↦ clean meets
 ]

@@ -13,19 +13,22 @@ use Rattle.lore_base.specs.PathOrder.{ComesBefore}
 use Rattle.dataguide.specs.Guides.{sets_of}
 use Rattle.lore_base.specs.GuideLimits.{AreFirstSets, KeepLimits}
 use Rattle.dataguide.specs.GuideCauses.{GuideCause}
-use Rattle.dataguide.specs.inside.Arcs.{AreSteps}
+use Rattle.set_steps.specs.SetSteps.{AreSteps}
 use Rattle.dataguide.specs.inside.Entering.{AreEntered}
 use Rattle.dataguide.specs.inside.Trails.{Stop, start_path, longer, IsMet, IsSearched}
 use Rattle.dataguide.specs.inside.Founds.{Passes, StopsAt, AreStopped, IsHalted}
 use Rattle.lore_base.proofs.MemberLaws.{Contains-none, Contains-head, Contains-cases}
 use Rattle.dataguide.proofs.PathOrder.{before-longer, before-label, before-end}
-use Rattle.dataguide.proofs.PlaceLaws.{Contains-at, at-Contains, at-append, at-unmap, mapped, unmapped, map-map}
-use Rattle.dataguide.proofs.PlaceLaws.{pair-at}
+use Rattle.set_steps.proofs.PlaceLaws.{at-unmap}
 use Rattle.lore_base.proofs.ListLaws.{AllPairs-head, AllPairs-tail}
 use Rattle.std.proofs.lemmas.Option.{slice_get_within}
 use Rattle.std.proofs.lemmas.List.{get_or_append_left}
+use Rattle.list_laws.proofs.MemberLaws.{All-from_members, Contains-map, Contains-from_map}
+use Rattle.list_laws.proofs.PlaceLaws.{Contains-from_place, place_of_member, slice_get-append_left, pair_at}
+use Rattle.list_laws.proofs.PartLaws.{map-map}
 use Rattle.dataguide.proofs.TrailLaws.{set_of, IsGrown, trail-entered, met-extends}
-use Rattle.dataguide.proofs.StopLaws.{All-by, AllPairs-map, stop_of, named_stop, leads-start, leads-step, keys-ascend}
+use Rattle.dataguide.proofs.StopLaws.{stop_of, named_stop, leads-start, leads-step, keys-ascend}
+use Rattle.set_steps.proofs.PairLaws.{AllPairs-map}
 use Rattle.dataguide.proofs.FirstLaws.{first-sets, Advances}
 
 -- the first sets keep the limits, and the next one passes one
@@ -97,9 +100,9 @@ pairs-front : {X : Type 0} (R : X → X → Type 0) (front : List X) (item : X) 
     (front ++ item ∷ rest)
     → (x : X) → Contains front x → R x item
 pairs-front {X} R front item rest pairs x there =
-    let i = at-Contains front x there in
-    pair-at R (front ++ item ∷ rest) i.0 (length front) x item pairs (slice_get_within front i.0 x i.1)
-    (at-append front (item ∷ rest) i.0 x i.1) (at-mid front item rest)
+    let i = place_of_member front x there in
+    pair_at R (front ++ item ∷ rest) i.0 (length front) x item pairs (slice_get_within front i.0 x i.1)
+    (slice_get-append_left front (item ∷ rest) i.0 x i.1) (at-mid front item rest)
   where
     at-mid : (front : List X) (item : X) (rest : List X) → slice_get (front ++ item ∷ rest) (length front) ≡ Some item
     at-mid [] item rest = refl
@@ -161,8 +164,8 @@ module _ (names : List (List ℕ × Oid)) (edges : List Edge) (table : IsNameTab
           ascending = λ i j d less within. absurd (omega (arith, within));
           apart = λ i j d less within. absurd (omega (arith, within));
         })
-        (All-by (λ (s : Stop). LeadsTo names edges s.path s.set) (map named_stop cut.front) (λ stop there. (
-        let from = unmapped named_stop cut.front stop there in
+        (All-from_members (λ (s : Stop). LeadsTo names edges s.path s.set) (map named_stop cut.front) (λ stop there. (
+        let from = Contains-from_map named_stop cut.front stop there in
         subst (λ (s : Stop). LeadsTo names edges s.path s.set) from.2
         (leads-start names edges from.0 (in-front from.0 from.1)))))
         (AllPairs-map named_stop (λ (a b : List ℕ × Oid). bytes_cmp a.0 b.0 ≡ Less)
@@ -177,7 +180,7 @@ module _ (names : List (List ℕ × Oid)) (edges : List Edge) (table : IsNameTab
         × (named_stop named ≡ stop)
     from-front stop there = elim (grown.from stop there) [
       | inl none ↦ absurd (Contains-none stop none)
-      | inr begun ↦ unmapped named_stop cut.front stop begun
+      | inr begun ↦ Contains-from_map named_stop cut.front stop begun
     ]
 
     pub names-passed : IsPassed fault limit names edges
@@ -187,7 +190,7 @@ module _ (names : List (List ℕ × Oid)) (edges : List Edge) (table : IsNameTab
       first = first-sets names edges table grown.grown stops.found grown.is (start_path cut.item.0) stops.next
           (λ named there. (elim (Contains-append_cases cut.front (cut.item ∷ cut.rest) named
           (subst (λ (l : List (List ℕ × Oid)). Contains l named) cut.is there)) [
-            | inl front ↦ inl (grown.met (named_stop named) (mapped named_stop cut.front named front))
+            | inl front ↦ inl (grown.met (named_stop named) (Contains-map named_stop cut.front named front))
             | inr behind ↦ elim (Contains-cases cut.item cut.rest named behind) [
               | inl same ↦ inr (inl (ap (λ (n : List ℕ × Oid). start_path n.0) same))
               | inr later ↦ inr
@@ -229,7 +232,7 @@ module _ (names : List (List ℕ × Oid)) (edges : List Edge) (table : IsNameTab
 
     leads_here : LeadsTo names edges here.path here.set
     leads_here = All-contains (λ (s : Stop). LeadsTo names edges s.path s.set) searched.trail here searched.is.leads
-        (Contains-at searched.trail n here stop_at.1)
+        (Contains-from_place searched.trail n here stop_at.1)
 
     cut-steps : IsCut step_set steps stops.done stops.next stops.others
     cut-steps = cut-map step_set steps stops.done stops.next stops.others stops.is
@@ -258,9 +261,9 @@ module _ (names : List (List ℕ × Oid)) (edges : List Edge) (table : IsNameTab
     grown-steps =
         trail-entered names edges (map (stop_of here.path) cut-steps.front) searched.trail (sets_of nodes) stops.found
         searched.is
-        (All-by (λ (s : Stop). LeadsTo names edges s.path s.set) (map (stop_of here.path) cut-steps.front)
+        (All-from_members (λ (s : Stop). LeadsTo names edges s.path s.set) (map (stop_of here.path) cut-steps.front)
         (λ stop there. (
-        let from = unmapped (stop_of here.path) cut-steps.front stop there in
+        let from = Contains-from_map (stop_of here.path) cut-steps.front stop there in
         subst (λ (s : Stop). LeadsTo names edges s.path s.set) from.2 (leads-by from.0 (in-steps from.0 from.1)))))
         (AllPairs-map (stop_of here.path) (λ (a b : Label × List Oid). a.0.0 < b.0.0)
         (λ (a b : Stop). ComesBefore a.path b.path)
@@ -268,7 +271,7 @@ module _ (names : List (List ℕ × Oid)) (edges : List Edge) (table : IsNameTab
         (pairs-cut (λ (a b : Label × List Oid). a.0.0 < b.0.0) cut-steps.front cut-steps.item cut-steps.rest
         step-ascends))
         (λ earlier later in_trail in_steps. (
-        let step = unmapped (stop_of here.path) cut-steps.front later in_steps in
+        let step = Contains-from_map (stop_of here.path) cut-steps.front later in_steps in
         subst (λ (s : Stop). ComesBefore earlier.path s.path) step.2
         (All-contains (λ (s : Stop). ComesBefore s.path (longer here.path step.0.0)) searched.trail earlier
         (searched.ahead here step.0.0 stop_at.1) in_trail)))
@@ -279,7 +282,7 @@ module _ (names : List (List ℕ × Oid)) (edges : List Edge) (table : IsNameTab
         → LeavesTo edges stop.set label oid
         → Advances edges grown-steps.grown next_path stop label
     old-advances stop there label oid leaves =
-        let place = at-Contains searched.trail stop there in
+        let place = place_of_member searched.trail stop there in
         elim (cases_lt place.0 n) [
           | inl early ↦ (
               let done = searched.done place.0 stop early place.1 label oid leaves in
@@ -291,7 +294,7 @@ module _ (names : List (List ℕ × Oid)) (edges : List Edge) (table : IsNameTab
               ))
           | inr late ↦ elim (cases_lt n place.0) [
             | inl after ↦ inr (inr (before-longer here.path stop.path cut-steps.item.0 label
-                (pair-at (λ (a b : Stop). ComesBefore a.path b.path) searched.trail n place.0 here stop
+                (pair_at (λ (a b : Stop). ComesBefore a.path b.path) searched.trail n place.0 here stop
                 searched.is.ascending after stop_at.1 place.1)))
             | inr equal ↦ (
                 let k : n ≡ place.0 = omega (arith, late, equal) in
@@ -314,7 +317,7 @@ module _ (names : List (List ℕ × Oid)) (edges : List Edge) (table : IsNameTab
                 step.0,
                 is_step,
                 grown-steps.met (stop_of here.path (label, step.0))
-                    (mapped (stop_of here.path) cut-steps.front (label, step.0) front),
+                    (Contains-map (stop_of here.path) cut-steps.front (label, step.0) front),
               )
               | inr behind ↦ elim (Contains-cases cut-steps.item cut-steps.rest (label, step.0) behind) [
                 | inl same ↦ inr (inl (ap (λ (s : Label × List Oid). longer here.path s.0) same))
@@ -335,7 +338,7 @@ module _ (names : List (List ℕ × Oid)) (edges : List Edge) (table : IsNameTab
           (λ stop there label oid leaves. (elim (grown-steps.from stop there) [
             | inl old ↦ old-advances stop old label oid leaves
             | inr begun ↦ (
-                let step = unmapped (stop_of here.path) cut-steps.front stop begun in
+                let step = Contains-from_map (stop_of here.path) cut-steps.front stop begun in
                 inr (inr (before-longer here.path stop.path cut-steps.item.0 label
                 (subst (λ (s : Stop). ComesBefore here.path s.path) step.2
                 (before-end here.path here.path step.0.0 (inl refl))))))
@@ -346,7 +349,7 @@ module _ (names : List (List ℕ × Oid)) (edges : List Edge) (table : IsNameTab
             | inl old ↦ All-contains (λ (s : Stop). ComesBefore s.path next_path) searched.trail stop
                 (searched.ahead here cut-steps.item.0 stop_at.1) old
             | inr begun ↦ (
-                let step = unmapped (stop_of here.path) cut-steps.front stop begun in
+                let step = Contains-from_map (stop_of here.path) cut-steps.front stop begun in
                 subst (λ (s : Stop). ComesBefore s.path next_path) step.2
                 (before-label here.path step.0.0 cut-steps.item.0
                 (pairs-front (λ (a b : Label × List Oid). a.0.0 < b.0.0) cut-steps.front cut-steps.item cut-steps.rest

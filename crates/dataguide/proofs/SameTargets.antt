@@ -5,14 +5,14 @@ use Rattle.lore_base.specs.Walks.{Walk, edge_of}
 use Rattle.lore_base.specs.Databases.{IsReached}
 use Rattle.lore_base.proofs.WalkLaws.{Walk-push}
 use Rattle.lore_base.proofs.TargetLaws.{ListsInOrder-same}
+use Rattle.list_laws.proofs.MemberLaws.{All-from_members, Contains-map}
 use Rattle.lore_base.specs.TargetSets.{LabelPath, LeadsTo, IsLedTo, LeavesTo, AreTargetSets}
 use Rattle.dataguide.specs.Types.{Oid, Label, Edge, GuideNode}
 use Rattle.lore_base.specs.PathOrder.{IsLeastPath, AreInPathOrder}
-use Rattle.lore_base.specs.GuideLimits.{FitsGuide, AreFirstSets, PassesNodes, PassesCells}
+use Rattle.lore_base.specs.GuideLimits.{FitsGuide, AreFirstSets, ExceedsNodes, ExceedsCells}
 use Rattle.dataguide.specs.Guides.{GuideGraph, StandsFor, sets_of, HasItsSteps}
 use Rattle.dataguide.specs.GuideLaws.{AgreeWhereReached, ReachedEdgesDecide}
-use Rattle.dataguide.proofs.PlaceLaws.{AllZip-weaker, mapped}
-use Rattle.dataguide.proofs.StopLaws.{All-by}
+use Rattle.set_steps.proofs.PlaceLaws.{AllZip-weaker}
 
 -- what leads to sets by the one edges does so by the others
 module _ (names : List (List ℕ × Oid)) (edges others : List Edge)
@@ -58,7 +58,7 @@ module _ (names : List (List ℕ × Oid)) (edges others : List Edge)
     others = λ path set leads. are.others path set (back path set leads);
   }
 
-  nodes-there : (limit : ℕ) → PassesNodes limit names edges → PassesNodes limit names others
+  nodes-there : (limit : ℕ) → ExceedsNodes limit names edges → ExceedsNodes limit names others
   nodes-there limit passes = record {
     sets = passes.sets;
     next = passes.next;
@@ -67,7 +67,7 @@ module _ (names : List (List ℕ × Oid)) (edges others : List Edge)
     passed = passes.passed;
   }
 
-  cells-there : (limit : ℕ) → PassesCells limit names edges → PassesCells limit names others
+  cells-there : (limit : ℕ) → ExceedsCells limit names edges → ExceedsCells limit names others
   cells-there limit passes = record {
     sets = passes.sets;
     next = passes.next;
@@ -103,9 +103,9 @@ module _ (names : List (List ℕ × Oid)) (edges others : List Edge)
     stands-there : (guide : GuideGraph) → StandsFor guide names edges → StandsFor guide names others
     stands-there guide stands = record {
       nodes = targets-there (sets_of guide.nodes) stands.nodes;
-      steps = All-by (HasItsSteps others guide.nodes) guide.nodes (λ node at.
+      steps = All-from_members (HasItsSteps others guide.nodes) guide.nodes (λ node at.
           step-there guide.nodes node
-          ((stands.nodes.exact node.set).0 (mapped (λ (n : GuideNode). n.set) guide.nodes node at))
+          ((stands.nodes.exact node.set).0 (Contains-map (λ (n : GuideNode). n.set) guide.nodes node at))
           (All-contains (HasItsSteps edges guide.nodes) guide.nodes node stands.steps at));
       entries = stands.entries;
     }

@@ -9,18 +9,21 @@ use Rattle.std.proofs.lemmas.Option.{slice_get_within}
 use Rattle.lore_base.specs.Lists.{Extends}
 use Rattle.lore_base.specs.Names.{IsNameTable}
 use Rattle.lore_base.proofs.MemberLaws.{Contains-none}
+use Rattle.list_laws.proofs.MemberLaws.{All-from_members, Contains-map, Contains-from_map}
+use Rattle.list_laws.proofs.PlaceLaws.{Contains-from_place, pair_at}
+use Rattle.list_laws.proofs.PartLaws.{map-map}
 use Rattle.dataguide.specs.Types.{Oid, Label, Edge, Node, GuideNode}
 use Rattle.lore_base.specs.TargetSets.{IsStep, LeavesTo, LeadsTo}
 use Rattle.lore_base.specs.PathOrder.{ComesBefore}
 use Rattle.dataguide.specs.Guides.{sets_of, HasSet, AscendByLabel}
-use Rattle.dataguide.specs.inside.Arcs.{AreSteps}
+use Rattle.set_steps.specs.SetSteps.{AreSteps}
 use Rattle.dataguide.specs.inside.Entering.{AreEntered}
 use Rattle.dataguide.specs.inside.Trails.{Stop, longer, IsMet, IsTrail, HasRow, IsDone, IsSearched, IsExpanded}
 use Rattle.dataguide.proofs.PathOrder.{before-longer, before-trans}
-use Rattle.dataguide.proofs.PlaceLaws.{Contains-at, at-grown, at-front, at-map, at-unmap, mapped, unmapped, map-map}
-use Rattle.dataguide.proofs.PlaceLaws.{pair-at, zip-left, zip-right}
+use Rattle.set_steps.proofs.PlaceLaws.{at-grown, at-front, at-map, at-unmap}
+use Rattle.set_steps.proofs.PlaceLaws.{zip-left, zip-right}
 use Rattle.dataguide.proofs.TrailLaws.{set_of, IsGrown, trail-entered, met-extends}
-use Rattle.dataguide.proofs.StopLaws.{All-by, stop_of, named_stop, stops-lead, stops-ascend, names-lead, names-ascend}
+use Rattle.dataguide.proofs.StopLaws.{stop_of, named_stop, stops-lead, stops-ascend, names-lead, names-ascend}
 use Rattle.dataguide.proofs.StopLaws.{row-ascends}
 
 -- a node that has a set keeps it while nodes are put behind
@@ -53,16 +56,16 @@ module _ (names : List (List ℕ × Oid)) (edges : List Edge) where
       record {
         trail = grown.grown;
         is = grown.is;
-        started = All-by (λ (named : List ℕ × Oid). IsMet grown.grown (named_stop named)) names
-            (λ named there. grown.met (named_stop named) (mapped named_stop names named there));
+        started = All-from_members (λ (named : List ℕ × Oid). IsMet grown.grown (named_stop named)) names
+            (λ named there. grown.met (named_stop named) (Contains-map named_stop names named there));
         done = λ place stop less at. absurd (omega (arith, less));
         rows = λ place node less at. absurd (omega (arith, less));
-        ahead = λ stop label at. All-by (λ (earlier : Stop). ComesBefore earlier.path (longer stop.path label))
+        ahead = λ stop label at. All-from_members (λ (earlier : Stop). ComesBefore earlier.path (longer stop.path label))
             grown.grown
             (λ earlier there. elim (grown.from earlier there) [
               | inl none ↦ absurd (Contains-none earlier none)
               | inr begun ↦ (
-                  let named = unmapped named_stop names earlier begun in
+                  let named = Contains-from_map named_stop names earlier begun in
                   subst (λ (s : Stop). ComesBefore s.path (longer stop.path label)) named.2
                   (inl (omega (arith, length-append stop.path.word (label ∷ [])))))
             ]);
@@ -85,7 +88,7 @@ module _ (names : List (List ℕ × Oid)) (edges : List Edge) where
     leads_there : LeadsTo names edges stop_at.0.path stop_at.0.set
     leads_there =
         All-contains (λ (stop : Stop). LeadsTo names edges stop.path stop.set) before.trail stop_at.0 before.is.leads
-        (Contains-at before.trail n stop_at.0 stop_at.1)
+        (Contains-from_place before.trail n stop_at.0 stop_at.1)
 
     grown : IsGrown names edges before.trail (map (stop_of stop_at.0.path) now.steps) (sets_of now.between)
     grown =
@@ -94,7 +97,7 @@ module _ (names : List (List ℕ × Oid)) (edges : List Edge) where
         (stops-lead names edges stop_at.0.path stop_at.0.set now.steps leads_there steps_are)
         (stops-ascend edges stop_at.0.path stop_at.0.set now.steps steps_are)
         (λ earlier later in_trail in_steps.
-        let step = unmapped (stop_of stop_at.0.path) now.steps later in_steps in
+        let step = Contains-from_map (stop_of stop_at.0.path) now.steps later in_steps in
         subst (λ (s : Stop). ComesBefore earlier.path s.path) step.2
         (All-contains (λ (s : Stop). ComesBefore s.path (longer stop_at.0.path step.0.0)) before.trail earlier
         (before.ahead stop_at.0 step.0.0 stop_at.1) in_trail))
@@ -118,7 +121,7 @@ module _ (names : List (List ℕ × Oid)) (edges : List Edge) where
           All-contains (λ (s : Label × List Oid). IsStep edges stop_at.0.set s.0 s.1) now.steps (label, step.0)
               steps_are.sets step.1,
           grown.met (stop_of stop_at.0.path (label, step.0))
-              (mapped (stop_of stop_at.0.path) now.steps (label, step.0) step.1),
+              (Contains-map (stop_of stop_at.0.path) now.steps (label, step.0) step.1),
         )
 
     done-more : (place : ℕ) (stop : Stop) → place < n + 1 → slice_get grown.grown place ≡ Some stop
@@ -215,16 +218,16 @@ module _ (names : List (List ℕ × Oid)) (edges : List Edge) where
         → All (λ earlier. ComesBefore earlier.path (longer stop.path label)) grown.grown
     ahead-more stop label at =
         let rises : ComesBefore stop_at.0.path stop.path =
-        pair-at (λ (a b : Stop). ComesBefore a.path b.path) grown.grown n (n + 1) stop_at.0 stop grown.is.ascending
+        pair_at (λ (a b : Stop). ComesBefore a.path b.path) grown.grown n (n + 1) stop_at.0 stop grown.is.ascending
         (omega arith) stop_stays at in
-        All-by (λ (earlier : Stop). ComesBefore earlier.path (longer stop.path label)) grown.grown
+        All-from_members (λ (earlier : Stop). ComesBefore earlier.path (longer stop.path label)) grown.grown
         (λ earlier there. elim (grown.from earlier there) [
           | inl old ↦ before-trans earlier.path (longer stop_at.0.path label) (longer stop.path label)
               (All-contains (λ (s : Stop). ComesBefore s.path (longer stop_at.0.path label)) before.trail earlier
               (before.ahead stop_at.0 label stop_at.1) old)
               (before-longer stop_at.0.path stop.path label label rises)
           | inr begun ↦ (
-              let step = unmapped (stop_of stop_at.0.path) now.steps earlier begun in
+              let step = Contains-from_map (stop_of stop_at.0.path) now.steps earlier begun in
               subst (λ (s : Stop). ComesBefore s.path (longer stop.path label)) step.2
               (before-longer stop_at.0.path stop.path step.0.0 label rises))
         ])
@@ -233,7 +236,7 @@ module _ (names : List (List ℕ × Oid)) (edges : List Edge) where
     searched-more = record {
       trail = grown.grown;
       is = subst (λ (l : List (List Oid)). IsTrail names edges grown.grown l) (sym now.sets) grown.is;
-      started = All-by (λ (named : List ℕ × Oid). IsMet grown.grown (named_stop named)) names
+      started = All-from_members (λ (named : List ℕ × Oid). IsMet grown.grown (named_stop named)) names
           (λ named there. met-extends before.trail grown.grown (named_stop named) grown.extends
           (All-contains (λ (named : List ℕ × Oid). IsMet before.trail (named_stop named)) names named before.started
           there));

@@ -6,8 +6,8 @@ use Rattle.lore_base.specs.Walks.{edge_of}
 use Rattle.lore_base.specs.TargetSets.{LeavesTo, IsStep}
 use Rattle.lore_base.proofs.ToldLaws.{IsTold, told_same, told_some, told_member, told_edge}
 use Rattle.lore_base.proofs.ToldLaws.{passing, members_passing, AllPairs-passing}
-use Rattle.oem_changes.proofs.AscentLaws.{IsEither, IsOrder, IsSetOf, some_ordered}
-use Rattle.oem_changes.proofs.ClosureLaws.{Contains-mapped}
+use Rattle.list_laws.proofs.AscentLaws.{IsEither, IsOrder, IsSetOf, some_ordered}
+use Rattle.list_laws.proofs.MemberLaws.{Contains-map}
 use Rattle.dataguide.specs.Types.{Oid, Label, Edge}
 
 module _ {X : Type 0} (number : X → ℕ) (exact : (a b : X) → number a ≡ number b → a ≡ b) where
@@ -65,7 +65,7 @@ step_is edges set label =
             λ at. (both.0 at).1,
             λ leaves. both.1 (
               children.kept oid
-                  (Contains-mapped (λ (edge : Edge). edge.child) edges (edge_of leaves.from label oid)
+                  (Contains-map (λ (edge : Edge). edge.child) edges (edge_of leaves.from label oid)
                   leaves.edge),
               leaves,
             ),

@@ -1,37 +1,26 @@
 -- The stops that names and the steps of a stop lead to, in the order of their paths.
-use Rattle.std.proofs.Common.{◌≡◌, ◌≢◌, ◌<◌, ℕ, Less, inl, inr, List, [], ◌∷◌, get_or, map, All, AllPairs, Contains}
+use Rattle.std.proofs.Common.{◌≡◌, ◌≢◌, ◌<◌, ℕ, Less, inl, inr, List, [], ◌∷◌, map, All, AllPairs, Contains}
 use Rattle.std.proofs.Common.{refl, sym, subst, arith}
 use Rattle.std.specs.List.Sorted.{IsStrictlySortedBy}
 use Rattle.std.specs.Map.{keys_of}
 use Rattle.std.specs.List.{AllByRecursion, AllZip}
-use Rattle.std.proofs.lemmas.List.Elements.{All-cons, All-map, All-contains, Contains-get_or}
+use Rattle.std.proofs.lemmas.List.Elements.{All-cons, All-map, All-contains}
 use Rattle.std.proofs.lemmas.List.Kept.{AllPairs-cons}
 use Rattle.lore_base.specs.Bytes.{bytes_cmp}
 use Rattle.lore_base.specs.Names.{IsNameTable}
 use Rattle.lore_base.proofs.ListLaws.{AllPairs-tail, AllPairs-head}
 use Rattle.lore_base.proofs.MemberLaws.{Contains-none, Contains-head, Contains-cases, Contains-same}
+use Rattle.list_laws.proofs.MemberLaws.{All-from_members}
 use Rattle.dataguide.specs.Types.{Oid, Label, Edge, Node}
 use Rattle.dataguide.specs.Guides.{AscendByLabel}
 use Rattle.lore_base.specs.TargetSets.{LabelPath, IsTargetSet, IsStep, LeadsTo}
 use Rattle.lore_base.specs.PathOrder.{ComesBefore}
-use Rattle.dataguide.specs.inside.Arcs.{AreSteps}
+use Rattle.set_steps.specs.SetSteps.{AreSteps}
 use Rattle.dataguide.specs.inside.Trails.{Stop, start_path, longer}
 use Rattle.dataguide.proofs.PathOrder.{before-label}
-use Rattle.dataguide.proofs.PlaceLaws.{zip-right}
+use Rattle.set_steps.proofs.PlaceLaws.{zip-right}
+use Rattle.set_steps.proofs.PairLaws.{AllPairs-map}
 use Rattle.dataguide.proofs.TargetSteps.{step-target}
-
-pub All-by : {X : Type 0} (P : X → Type 0) (xs : List X) → ((x : X) → Contains xs x → P x) → All P xs
-All-by P xs each k d within = each (get_or xs k d) (Contains-get_or xs k d within)
-
-pub AllPairs-map : {X Y : Type 0} (f : X → Y) (S : X → X → Type 0) (R : Y → Y → Type 0)
-    → ((a b : X) → S a b → R (f a) (f b))
-    → (xs : List X) → AllPairs S xs → AllPairs R (map f xs)
-AllPairs-map f S R keeps [] pairs = λ i j d less within. absurd (omega (arith, within))
-AllPairs-map f S R keeps (x ∷ xs) pairs =
-    AllPairs-cons R (f x) (map f xs)
-    (All-map (R (f x)) f xs (All-by (λ y. R (f x) (f y)) xs
-    (λ y there. keeps x y (AllPairs-head S x xs pairs y there))))
-    (AllPairs-map f S R keeps xs (AllPairs-tail S x xs pairs))
 
 -- the stop that a step leads to, and the one of a name
 abbrev pub stop_of : LabelPath → Label × List Oid → Stop
@@ -76,7 +65,7 @@ pub stops-lead : (names : List (List ℕ × Oid)) (edges : List Edge) (path : La
     → All (λ stop. LeadsTo names edges stop.path stop.set) (map (stop_of path) steps)
 stops-lead names edges path set steps leads are =
     All-map (λ (stop : Stop). LeadsTo names edges stop.path stop.set) (stop_of path) steps
-    (All-by (λ (step : Label × List Oid). LeadsTo names edges (longer path step.0) step.1) steps
+    (All-from_members (λ (step : Label × List Oid). LeadsTo names edges (longer path step.0) step.1) steps
     (λ step there. leads-step names edges path set step.0 step.1 leads
     (All-contains (λ (s : Label × List Oid). IsStep edges set s.0 s.1) steps step are.sets there)
     (All-contains (λ (s : Label × List Oid). (s.1 ≡ []) → ⊥) steps step are.some there)))
@@ -92,7 +81,7 @@ pub names-lead : (names : List (List ℕ × Oid)) (edges : List Edge)
     → All (λ stop. LeadsTo names edges stop.path stop.set) (map named_stop names)
 names-lead names edges =
     All-map (λ (stop : Stop). LeadsTo names edges stop.path stop.set) named_stop names
-    (All-by (λ (named : List ℕ × Oid). LeadsTo names edges (start_path named.0) (named.1 ∷ [])) names
+    (All-from_members (λ (named : List ℕ × Oid). LeadsTo names edges (start_path named.0) (named.1 ∷ [])) names
     (λ named there. leads-start names edges named there))
 
 pub keys-ascend : {X : Type 0} (names : List (List ℕ × X)) → IsStrictlySortedBy bytes_cmp (keys_of names)
@@ -127,7 +116,7 @@ row-ascends R labelled [] (edge ∷ row) zip ascend = absurd zip
 row-ascends R labelled (step ∷ steps) [] zip ascend = absurd zip
 row-ascends R labelled (step ∷ steps) (edge ∷ row) zip ascend =
     AllPairs-cons (λ (a b : Label × Node). a.0.0 < b.0.0) edge row
-    (All-by (λ (b : Label × Node). edge.0.0 < b.0.0) row (λ b there.
+    (All-from_members (λ (b : Label × Node). edge.0.0 < b.0.0) row (λ b there.
     let from = zip-right R steps row b zip.1 there in
     let rises : step.0.0 < from.0.0.0 =
     AllPairs-head (λ (a b : Label × List Oid). a.0.0 < b.0.0) step steps ascend from.0 from.1 in

@@ -10,7 +10,7 @@ use Rattle.std.proofs.lemmas.List.Elements.{Contains-append_left, Contains-push}
 use Rattle.dataguide.specs.Types.{Oid, Node, GuideNode}
 use Rattle.dataguide.specs.Guides.{sets_of, HasSet, node_number}
 use Rattle.dataguide.specs.inside.NodeTables.{listed, IsNodeTable}
-use Rattle.dataguide.proofs.PlaceLaws.{one-place}
+use Rattle.set_steps.proofs.PlaceLaws.{one-place}
 
 same_key : (a b : ℕ) → is_at (nat_cmp a) b ≡ true → a ≡ b
 same_key a b h = grind (arith, nat_tests)

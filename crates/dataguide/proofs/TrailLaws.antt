@@ -1,30 +1,23 @@
 -- A trail grows: stops in the order of their paths are entered behind those that come before them.
-use Rattle.std.proofs.Common.{◌≡◌, ◌⊎◌, ℕ, inl, inr, List, [], ◌∷◌, ◌++◌, get_or, map, All, AllPairs, Contains, refl}
-use Rattle.std.proofs.Common.{sym, ap, ◌∙◌, subst, append_assoc, arith}
+use Rattle.std.proofs.Common.{◌≡◌, ◌⊎◌, ℕ, inl, inr, List, [], ◌∷◌, ◌++◌, map, All, AllPairs, Contains, refl}
+use Rattle.std.proofs.Common.{sym, ap, ◌∙◌, subst, append_assoc}
 use Rattle.std.proofs.lemmas.List.{append-nil, map_push}
-use Rattle.std.proofs.lemmas.List.Elements.{All-head, All-tail, All-push, Contains-get_or, Contains-append_left}
+use Rattle.std.proofs.lemmas.List.Elements.{All-head, All-tail, All-push, Contains-append_left}
 use Rattle.std.proofs.lemmas.List.Elements.{Contains-push, Contains-push_cases}
 use Rattle.lore_base.specs.Lists.{Extends}
-use Rattle.lore_base.proofs.ListLaws.{AllPairs-append, AllPairs-tail, AllPairs-head}
+use Rattle.lore_base.proofs.ListLaws.{AllPairs-tail, AllPairs-head}
 use Rattle.lore_base.proofs.MemberLaws.{Contains-none, Contains-head, Contains-tail, Contains-cases}
+use Rattle.list_laws.proofs.PlaceLaws.{Contains-extends}
+use Rattle.list_laws.proofs.MemberLaws.{Contains-from_map}
 use Rattle.dataguide.specs.Types.{Oid, Edge}
 use Rattle.lore_base.specs.TargetSets.{LeadsTo}
 use Rattle.lore_base.specs.PathOrder.{ComesBefore}
 use Rattle.dataguide.specs.inside.Entering.{AreEntered}
 use Rattle.dataguide.specs.inside.Trails.{Stop, IsMet, IsTrail}
-use Rattle.dataguide.proofs.PlaceLaws.{unmapped}
+use Rattle.set_steps.proofs.PairLaws.{AllPairs-push}
 
 abbrev pub set_of : Stop → List Oid
 set_of stop = stop.set
-
--- one item more at the end, that all others pass with
-pub AllPairs-push : {X : Type 0} (R : X → X → Type 0) (xs : List X) (x : X) → AllPairs R xs
-    → ((y : X) → Contains xs y → R y x) → AllPairs R (xs ++ x ∷ [])
-AllPairs-push R xs x pairs last =
-    AllPairs-append R xs (x ∷ []) pairs (λ i j d less within. absurd (omega (arith, less, within)))
-    (λ i j d first second.
-    let here : j ≡ 0 = omega (arith, second) in
-    rw here (last (get_or xs i d) (Contains-get_or xs i d first)))
 
 -- a trail that has grown by some stops, each of which is met
 pub record IsGrown (names : List (List ℕ × Oid)) (edges : List Edge) (trail stops : List Stop)
@@ -43,10 +36,6 @@ met-extends trail grown stop extends met = record {
       (Contains-append_left trail extends.0 (record { path = met.by; set = stop.set }) met.found);
   order = met.order;
 }
-
-pub stays : (trail grown : List Stop) (stop : Stop) → Extends trail grown → Contains trail stop → Contains grown stop
-stays trail grown stop extends there =
-    subst (λ (l : List Stop). Contains l stop) (sym extends.1) (Contains-append_left trail extends.0 stop there)
 
 module _ (names : List (List ℕ × Oid)) (edges : List Edge) where
   push-trail : (trail : List Stop) (sets : List (List Oid)) (stop : Stop) → IsTrail names edges trail sets
@@ -68,7 +57,7 @@ module _ (names : List (List ℕ × Oid)) (edges : List Edge) where
       → ((earlier : Stop) → Contains trail earlier → ComesBefore earlier.path stop.path) → IsMet trail stop
   met-there trail sets stop found there before =
       let from =
-      unmapped set_of trail stop.set (subst (λ (l : List (List Oid)). Contains l stop.set) (sym found) there) in
+      Contains-from_map set_of trail stop.set (subst (λ (l : List (List Oid)). Contains l stop.set) (sym found) there) in
       record {
         by = from.0.path;
         found = subst (λ (s : List Oid). Contains trail (record { path = from.0.path; set = s })) from.2 from.1;
@@ -137,7 +126,7 @@ module _ (names : List (List ℕ × Oid)) (edges : List Edge) where
               met = λ stop at. elim (Contains-cases first stops stop at) [
                 | inl same ↦ subst (λ (s : Stop). IsMet rest.grown s) same (record {
                   by = first.path;
-                  found = stays (trail ++ first ∷ []) rest.grown first rest.extends (Contains-push trail first);
+                  found = Contains-extends (trail ++ first ∷ []) rest.grown first rest.extends (Contains-push trail first);
                   order = inl refl;
                 })
                 | inr late ↦ rest.met stop late

@@ -5,7 +5,7 @@ use Rattle.lore_base.specs.Databases.{OemGraph, IsReached}
 use Rattle.lore_base.specs.ChangeSets.{IsGraphAfter}
 use Rattle.lore_base.specs.TargetSets.{LabelPath, IsTargetSet, IsStep, LeadsTo, AreTargetSets}
 use Rattle.lore_base.specs.PathOrder.{AreInPathOrder}
-use Rattle.lore_base.specs.GuideLimits.{KeepLimits, FitsGuide, PassesNodes, PassesCells}
+use Rattle.lore_base.specs.GuideLimits.{KeepLimits, FitsGuide, ExceedsNodes, ExceedsCells}
 use Rattle.dataguide.specs.Types.{Oid, Label, Edge, Node}
 use Rattle.dataguide.specs.Touched.{ReadsTouched, ReadsSome, ReadsWithin}
 use Rattle.dataguide.specs.Guides.{GuideGraph, StandsFor, IsOrderedGuide, sets_of, HasSet, HasEdge}
@@ -62,8 +62,8 @@ AgreeWhereReached names edges others =
 pub record HaveSameTargets (names : List (List ℕ × Oid)) (edges others : List Edge) : Type 0 where
   pub leads : (path : LabelPath) (set : List Oid) → LeadsTo names edges path set ↔ LeadsTo names others path set
   pub fits : (limit : ℕ) → FitsGuide limit names edges ↔ FitsGuide limit names others
-  pub nodes : (limit : ℕ) → PassesNodes limit names edges ↔ PassesNodes limit names others
-  pub cells : (limit : ℕ) → PassesCells limit names edges ↔ PassesCells limit names others
+  pub nodes : (limit : ℕ) → ExceedsNodes limit names edges ↔ ExceedsNodes limit names others
+  pub cells : (limit : ℕ) → ExceedsCells limit names edges ↔ ExceedsCells limit names others
   pub guides : (guide : GuideGraph) → StandsFor guide names edges ↔ StandsFor guide names others
   pub order : (sets : List (List Oid)) → AreInPathOrder names edges sets ↔ AreInPathOrder names others sets
 

@@ -1,12 +1,8 @@
 -- What it costs to read target sets.
 use Rattle.std.specs.Prelude.{◌≡◌, ◌≢◌, ℕ, ◌+◌, ◌≤◌, List, length, sum_by, All, AllPairs}
-use Rattle.lore_base.specs.Walks.{out_of}
 use Rattle.lore_base.specs.TargetSets.{IsLedTo}
+use Rattle.set_steps.specs.SetSteps.{reads_of}
 use Rattle.dataguide.specs.Types.{Oid, Edge}
-
--- what it costs to read the edges of all members of a set: a step for each member and one for each of its edges
-abbrev pub reads_of : List Edge → List Oid → ℕ
-reads_of edges set = sum_by (λ oid. 1 + length (out_of oid edges)) set
 
 -- the steps that were counted are those of reading some target sets, at most as many as the limit, each once
 pub record ReadsAtMost (limit : ℕ) (names : List (List ℕ × Oid)) (edges : List Edge) (before now : ℕ) : Type 0 where

@@ -4,7 +4,7 @@ use Rattle.std.specs.Prelude.{Contains}
 use Rattle.lore_base.specs.Deltas.{ListsOnlyIn}
 use Rattle.lore_base.specs.TargetSets.{IsLedTo}
 use Rattle.dataguide.specs.Types.{Oid, Edge}
-use Rattle.dataguide.specs.ReadCosts.{reads_of}
+use Rattle.set_steps.specs.SetSteps.{reads_of}
 
 -- the edges of the one graph that the other lacks, and those of the other that the one lacks
 pub record DifferBy (before after lost fresh : List Edge) : Type 0 where

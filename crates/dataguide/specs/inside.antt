@@ -1,5 +1,4 @@
 -- Definitions that no public contract cites.
-pub mod Arcs
 pub mod Entering
 pub mod NodeTables
 pub mod Trails

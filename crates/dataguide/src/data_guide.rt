@@ -195,3 +195,6 @@ impl Guide {
         self.by_hash = by_hash;
     }
 }
+
+#[cfg(test)]
+mod tests;

@@ -3,27 +3,25 @@ ghost use Rattle.std.specs.Prelude.{Some, slice_get, IfOk, IfErr, OnOk};
 ghost use Rattle.lore_base.specs.Names.{IsNameTable};
 ghost use Rattle.lore_base.specs.GuideLimits.{KeepLimits};
 ghost use Rattle.dataguide.specs.Types.{Oid as TheOid, GuideNode as TheGuideNode, Kept, Fresh};
-ghost use Rattle.dataguide.specs.ReadCosts.{reads_of};
+ghost use Rattle.set_steps.specs.SetSteps.{AreSteps, reads_of};
 ghost use Rattle.dataguide.specs.Guides.{sets_of};
 ghost use Rattle.dataguide.specs.Touched.{Meet};
 ghost use Rattle.dataguide.specs.Deltas.{IsOrigin, origin_set};
-ghost use Rattle.dataguide.specs.inside.Arcs.{AreSteps};
 ghost use Rattle.dataguide.specs.inside.Trails.{IsExpanded};
 ghost use Rattle.dataguide.specs.inside.Founds.{IsFound, found_nodes, found_sets, steps_of};
 ghost use Rattle.dataguide.specs.inside.Founds.{Costs, IsHalted};
 ghost use Rattle.dataguide.specs.inside.Gains.{IsChange};
 
-use crate::arcs::Reader;
 use crate::data_guide::{Guide, node_of};
 use crate::faults::GuideFault;
 use crate::found::{Found, enter_all};
 use crate::gains::{in_both, united_targets};
-use crate::groups::group_arcs;
 use crate::nodes::{GuideNode, Node};
 use crate::planned_nodes::Origin;
 use index_traits::Adjacent;
 use lore_base::{Edge, Label, Names, NoMemory, OemText, Oid, OidBuf, Steps};
 use oem_set::OidSet;
+use set_steps::StepReader;
 use std::alloc::Global;
 use std::sync::ledger::Ledger;
 
@@ -81,26 +79,10 @@ pub(crate) fn name_targets(alloc: Global, names: &Names) -> Result<Vec<(OemText,
     Ok(targets)
 }
 
-// The steps of a set, read from the graph.
-fn read_steps<A: Adjacent, L: Ledger>(
-    alloc: Global,
-    reader: &mut Reader,
-    graph: &A,
-    set: &OidSet,
-    steps: &mut Steps<L>,
-) -> Result<Vec<(Label, OidSet)>, NoMemory>
-    ensures are { IfOk result (λ row. AreSteps (A.edges graph.now) set.now row.items) }
-    ensures steps { OnOk result (steps.new ≡ steps.old + reads_of (A.edges graph.now) set.now) }
-{
-    reader.read(graph, set, steps)?;
-    let row = group_arcs(alloc, reader.arcs.as_slice())?;
-    Ok(row)
-}
-
 // The targets of a set, read from the graph.
 fn read_targets<A: Adjacent, L: Ledger>(
     alloc: Global,
-    reader: &mut Reader,
+    reader: &mut StepReader,
     graph: &A,
     set: &OidSet,
     steps: &mut Steps<L>,
@@ -111,7 +93,7 @@ fn read_targets<A: Adjacent, L: Ledger>(
         → All (λ target. IsOrigin kept target.1) targets.items) }
     ensures reads { OnOk result (steps.new ≡ steps.old + reads_of (A.edges graph.now) set.now) }
 {
-    let row = read_steps(alloc, reader, graph, set, steps)?;
+    let row = reader.read(graph, set, steps)?;
     let targets = fresh_targets(alloc, row)?;
     Ok(targets)
 }
@@ -129,7 +111,7 @@ fn origin_at(found: &Found, place: usize) -> &Origin
 // set.
 fn kept_or_grown<A: Adjacent>(
     alloc: Global,
-    reader: &mut Reader,
+    reader: &mut StepReader,
     change: &Change<A>,
     there: &GuideNode,
 ) -> Result<Vec<(Label, Origin)>, NoMemory>
@@ -147,8 +129,7 @@ fn kept_or_grown<A: Adjacent>(
         let targets = kept_targets(alloc, there.edges.as_slice())?;
         return Ok(targets);
     }
-    reader.take(change.fresh, &gained)?;
-    let row = group_arcs(alloc, reader.arcs.as_slice())?;
+    let row = reader.take(change.fresh, &gained)?;
     let targets = united_targets(alloc, change.guide, there.edges.as_slice(), row.as_slice())?;
     Ok(targets)
 }
@@ -156,7 +137,7 @@ fn kept_or_grown<A: Adjacent>(
 // The targets of a node before: read where its set has a dirty member.
 fn kept_or_read<A: Adjacent, L: Ledger>(
     alloc: Global,
-    reader: &mut Reader,
+    reader: &mut StepReader,
     change: &Change<A>,
     node: Node,
     steps: &mut Steps<L>,
@@ -189,7 +170,7 @@ fn targets_at<A: Adjacent, L: Ledger>(
     found: &Found,
     place: usize,
     change: &Change<A>,
-    reader: &mut Reader,
+    reader: &mut StepReader,
     steps: &mut Steps<L>,
 ) -> Result<Vec<(Label, Origin)>, NoMemory>
     requires stood { IsChange change.now.guide.now change.now.dirty.now change.now.grown.now
@@ -225,7 +206,7 @@ pub(crate) fn expand<A: Adjacent, L: Ledger>(
     found: &mut Found,
     place: usize,
     change: &Change<A>,
-    reader: &mut Reader,
+    reader: &mut StepReader,
     limit: u32,
     steps: &mut Steps<L>,
 ) -> Result<(), GuideFault>

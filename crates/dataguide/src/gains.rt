@@ -8,11 +8,11 @@ ghost use Rattle.dataguide.specs.Deltas.{origin_set, IsOrigin};
 ghost use Rattle.dataguide.specs.inside.Gains.{labels_in, HasEither, IsThere, IsUnion, AreUnions};
 
 use crate::data_guide::{Guide, node_of};
-use crate::groups::step_by;
 use crate::nodes::{Node, next_by};
 use crate::planned_nodes::Origin;
 use lore_base::{Edge, Label, NoMemory, Oid, OidBuf, Word};
 use oem_set::OidSet;
+use set_steps::step_by;
 use std::alloc::Global;
 
 // The objects that the edges leave.

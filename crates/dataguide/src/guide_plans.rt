@@ -3,13 +3,13 @@ ghost use Rattle.lore_base.specs.Databases.{AreAscendingEdges};
 ghost use Rattle.lore_base.specs.PathOrder.{AreInPathOrder};
 ghost use Rattle.lore_base.specs.GuideLimits.{FitsGuide};
 ghost use Rattle.dataguide.specs.Types.faults;
-ghost use Rattle.dataguide.specs.ReadCosts.{ReadsAtMost, reads_of};
+ghost use Rattle.dataguide.specs.ReadCosts.{ReadsAtMost};
+ghost use Rattle.set_steps.specs.SetSteps.{reads_of};
 ghost use Rattle.dataguide.specs.Touched.{ReadsTouched, ReadsSome, parents_of};
 ghost use Rattle.dataguide.specs.Guides.{StandsFor, sets_of};
 ghost use Rattle.dataguide.specs.Deltas.{guide_then, nodes_then, IsReady, StoodFor};
 ghost use Rattle.dataguide.specs.GuideCauses.{GuideCause};
 
-use crate::arcs::Reader;
 use crate::data_guide::Guide;
 use crate::delta::GuideDelta;
 use crate::entries::Entries;
@@ -19,6 +19,7 @@ use crate::found::{Found, enter_all};
 use crate::gains;
 use index_traits::Adjacent;
 use lore_base::{Edge, Names, Steps};
+use set_steps::StepReader;
 use std::alloc::Global;
 use std::sync::ledger::Ledger;
 
@@ -97,7 +98,7 @@ impl Guide {
             fresh,
             after,
         };
-        let mut reader = Reader::new(alloc);
+        let mut reader = StepReader::new(alloc);
         let mut next = 0;
         'nodes: while next < found.nodes.len() {
             expand(alloc, &mut found, next, &change, &mut reader, limit, steps)?;

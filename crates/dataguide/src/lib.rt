@@ -12,17 +12,14 @@ pub use faults::GuideFault;
 pub use nodes::{EdgeList, GuideNode, Node};
 pub use planned_nodes::{DeltaNode, Origin};
 
-mod arcs;
 mod data_guide;
 mod delta;
-mod edge_runs;
 mod entries;
 mod explore;
 mod faults;
 mod fill;
 mod found;
 mod gains;
-mod groups;
 mod guide_plans;
 mod hash_lists;
 pub mod laws;

@@ -1,23 +1,16 @@
 -- Labels, edges and names of a dump text, read one after another.
 use Rattle.std.proofs.Common.{◌≡◌, ◌≢◌, ℕ, ◌+◌, ◌<◌, List, [], ◌∷◌, ◌++◌, length, get_or, take, drop, map, Some, slice_get, AllPairs, Contains, sym, ap, ◌∙◌, subst, arith, length-take}
 use Rattle.std.specs.BTreeMap.{insert_entry}
-use Rattle.std.proofs.lemmas.List.{take_more, drop_more, map-append, get_or-take}
+use Rattle.std.proofs.lemmas.List.{drop_more, get_or-take}
 use Rattle.std.proofs.lemmas.Option.{slice_get-get_or, slice_get_within, get_or_from_slice_get}
+use Rattle.list_laws.proofs.PartLaws.{take_more_read, map_more_read}
+use Rattle.oem_labels.proofs.PlaceLaws.{label_in-at}
 use Rattle.lore_base.specs.Bytes.{bytes_cmp}
 use Rattle.lore_base.specs.inside.NameTables.{names_after}
 use Rattle.lore_base.specs.Walks.{edge_of}
 use Rattle.oem_labels.proofs.TextSetLaws.{apart_push}
 use Rattle.dump_text.specs.Types.{Oid, Label, Edge}
 use Rattle.dump_text.specs.Rules.{numbered_edge}
-use Rattle.dump_text.proofs.PlaceLaws.{label_in-at}
-
--- one item more, at its place
-pub take_one : {X : Type 0} (xs : List X) (i : ℕ) (x : X) → i < length xs → x ≡ get_or xs i x → take (i + 1) xs ≡ take i xs ++ x ∷ []
-take_one xs i x low is = take_more xs i x low ∙ ap (λ y. take i xs ++ y ∷ []) (sym is)
-
-map_one : {X Y : Type 0} (f : X → Y) (xs : List X) (i : ℕ) (x : X) → i < length xs → x ≡ get_or xs i x
-    → map f (take (i + 1) xs) ≡ map f (take i xs) ++ f x ∷ []
-map_one f xs i x low is = ap (map f) (take_one xs i x low is) ∙ map-append f (take i xs) (x ∷ [])
 
 -- ---- labels
 module _ (texts table : List (List ℕ)) (i : ℕ) (text : List ℕ) (low : i < length texts) (is : text ≡ get_or texts i text) (same : table ≡ take i texts) where
@@ -34,7 +27,7 @@ module _ (texts table : List (List ℕ)) (i : ℕ) (text : List ℕ) (low : i < 
   pub one_apart : ((label : Label) → slice_get table label.0 ≢ Some text) → AllPairs (λ a b. a ≢ b) (take i texts)
       → AllPairs (λ a b. a ≢ b) (take (i + 1) texts)
   one_apart none apart =
-      subst (AllPairs (λ a b. a ≢ b)) (sym (take_one texts i text low is))
+      subst (AllPairs (λ a b. a ≢ b)) (sym (take_more_read texts i text low is))
       (apart_push (take i texts) text apart
       (λ k there. none (record { 0 = k }) (subst (λ (l : List (List ℕ)). slice_get l k ≡ Some text) (sym same) there)))
 
@@ -52,7 +45,7 @@ pub one_edge : (labels : List (List ℕ)) → AllPairs (λ a b. a ≢ b) labels 
 one_edge labels distinct entries i entry low is edges new label found so_far pushed =
     pushed ∙ ap (λ (l : List Edge). l ++ edge_of entry.0 label entry.2 ∷ []) so_far
     ∙ ap (λ (l : Label). map (numbered_edge labels) (take i entries) ++ edge_of entry.0 l entry.2 ∷ []) (label_in-at labels label entry.1 distinct found)
-    ∙ sym (map_one (numbered_edge labels) entries i entry low is)
+    ∙ sym (map_more_read (numbered_edge labels) entries i entry low is)
 
 -- ---- names
 -- the names that come, bound one after another

@@ -1,5 +1,4 @@
 pub mod ListLaws
-pub mod PlaceLaws
 pub mod LineLaws
 pub mod ReachLaws
 pub mod RuleLaws

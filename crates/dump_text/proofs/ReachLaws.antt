@@ -2,9 +2,9 @@
 use Rattle.std.proofs.Common.{◌≡◌, ◌↔◌, ℕ, Bool, List, map, All, Contains, sym, subst}
 use Rattle.std.specs.Bool.{IsTrue}
 use Rattle.std.proofs.lemmas.List.Elements.{All-weaker}
+use Rattle.list_laws.proofs.MemberLaws.{Contains-map, Contains-from_map}
 use Rattle.lore_base.specs.Databases.{IsReached}
 use Rattle.lore_base.specs.TargetSets.{ListsInOrder}
-use Rattle.oem_changes.proofs.ClosureLaws.{Contains-mapped, mapped_from}
 use Rattle.object_search.specs.Reached.{IsWalkedFrom}
 use Rattle.dump_text.specs.Types.{Oid, Edge, Value}
 
@@ -13,7 +13,7 @@ pub walked_reached : (edges : List Edge) (names : List (List ℕ × Oid)) (oid :
     → IsWalkedFrom edges (map (λ entry. entry.1) names) oid ↔ IsReached names edges oid
 walked_reached edges names oid = (
   λ walked.
-      let entry = mapped_from (λ (e : List ℕ × Oid). e.1) names walked.0 walked.2 in
+      let entry = Contains-from_map (λ (e : List ℕ × Oid). e.1) names walked.0 walked.2 in
       record {
         name = (entry.0).0;
         start = walked.0;
@@ -24,7 +24,7 @@ walked_reached edges names oid = (
   λ reached. (
     reached.start,
     reached.word,
-    Contains-mapped (λ (e : List ℕ × Oid). e.1) names (reached.name, reached.start) reached.named,
+    Contains-map (λ (e : List ℕ × Oid). e.1) names (reached.name, reached.start) reached.named,
     reached.walked,
   ),
 )

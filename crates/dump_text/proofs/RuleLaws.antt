@@ -10,7 +10,8 @@ use Rattle.lore_base.specs.Names.{IsNameTable}
 use Rattle.lore_base.specs.Databases.{Database, AreAscendingObjects, AreAscendingEdges, IsLive, IsComplex, IsLinked, IsReached}
 use Rattle.lore_base.specs.Walks.{edge_of}
 use Rattle.lore_base.proofs.MemberLaws.{Contains-same}
-use Rattle.oem_graph.proofs.ObjectLaws.{one_value}
+use Rattle.index_traits.proofs.ObjectLaws.{one_value_of}
+use Rattle.oem_labels.proofs.PlaceLaws.{place_in-at, label_in-at}
 use Rattle.oem_labels.specs.Labels.{place_in, label_in}
 use Rattle.dump_text.specs.Types.{Oid, Label, Edge, Value, Complex, DumpTree, Restored}
 use Rattle.dump_text.specs.Dumps.{text_of, spelled_edge, dump_tree, IsVersion, in_version_two}
@@ -19,7 +20,6 @@ use Rattle.dump_text.specs.Restores.{IsDumpOf, IsBad, IsRestored}
 use Rattle.lore_base.specs.Restores.{database_from}
 use Rattle.lore_base.specs.Databases.{IsRestorable}
 use Rattle.dump_text.specs.inside.RuleParts.{IsHead, KeepsHead, KeepsLists, KeepsOrder, KeepsEdges, IsGraph, AreChanges}
-use Rattle.dump_text.proofs.PlaceLaws.{place_in-at, label_in-at}
 
 -- ---- labels that stand once, and their texts
 module _ (labels : List (List ℕ)) (distinct : AllPairs (λ a b. a ≢ b) labels) where
@@ -160,7 +160,7 @@ pub complex_told : (objects : List (Oid × Value)) → AreAscendingObjects objec
     → Contains objects (oid, value) → IsTrue answer ↔ (value ≡ Complex) → IsTrue answer ↔ IsComplex objects oid
 complex_told objects ascend oid value answer at tells = (
   λ yes. Contains-same objects (oid, value) (oid, Complex) (ap (λ (v : Value). (oid, v)) (tells.0 yes)) at,
-  λ complex. tells.1 (one_value objects ascend oid value Complex at complex),
+  λ complex. tells.1 (one_value_of objects ascend oid value Complex at complex),
 )
 
 -- ---- the tests of names and objects, and of the graph, over the tree's lists

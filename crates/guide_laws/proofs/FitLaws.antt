@@ -5,20 +5,20 @@ use Rattle.std.proofs.Common.{refl, sym, ap, ◌∙◌, subst, append_assoc, ari
 use Rattle.std.specs.List.{AllZip}
 use Rattle.std.proofs.lemmas.Bool.{cases_lt}
 use Rattle.std.proofs.lemmas.List.{append-nil}
-use Rattle.std.proofs.lemmas.List.Kept.{AllPairs-cons}
 use Rattle.std.proofs.lemmas.List.Sums.{sum_by_push}
-use Rattle.std.proofs.lemmas.List.Elements.{Contains-append_left, Contains-append_right, Contains-append_cases}
+use Rattle.std.proofs.lemmas.List.Elements.{Contains-append_right, Contains-append_cases}
 use Rattle.lore_base.specs.TargetSets.{LabelPath, LeadsTo, AreTargetSets}
 use Rattle.lore_base.specs.PathOrder.{ComesBefore, IsLeastPath, AreInPathOrder}
-use Rattle.lore_base.specs.GuideLimits.{cells, KeepLimits, AreFirstSets, PassesNodes, PassesCells}
+use Rattle.lore_base.specs.GuideLimits.{cells, KeepLimits, AreFirstSets, ExceedsNodes, ExceedsCells}
 use Rattle.lore_base.specs.declared.limits.TheConstants.{CELLS}
 use Rattle.lore_base.proofs.ListLaws.{AllPairs-head, AllPairs-tail}
 use Rattle.lore_base.proofs.MemberLaws.{Contains-none, Contains-cases}
 use Rattle.lore_base.proofs.ToldLaws.{IsTold, told_same}
+use Rattle.list_laws.proofs.PairLaws.{AllPairs-front}
+use Rattle.list_laws.proofs.MemberLaws.{All-from_members}
 use Rattle.dataguide.specs.Types.{Oid, Edge}
 use Rattle.dataguide.proofs.PathOrder.{before-trans}
-use Rattle.dataguide.proofs.PlaceLaws.{zip-right}
-use Rattle.dataguide.proofs.StopLaws.{All-by}
+use Rattle.set_steps.proofs.PlaceLaws.{zip-right}
 use Rattle.dataguide.proofs.CountLaws.{fit-counted}
 use Rattle.guide_laws.specs.Laws.{FitsAreCounted, FitsAreTold, GuidesFitOrPass}
 use Rattle.guide_laws.proofs.TargetSetLaws.{target_sets_exist}
@@ -33,14 +33,6 @@ pairs-across {X} R (first ∷ xs) ys x y pairs in_xs in_ys = elim (Contains-case
       (AllPairs-head R first (xs ++ ys) pairs y (Contains-append_right xs ys y in_ys))
   | inr later ↦ pairs-across R xs ys x y (AllPairs-tail R first (xs ++ ys) pairs) later in_ys
 ]
-
-pairs-front : {X : Type 0} (R : X → X → Type 0) (xs ys : List X) → AllPairs R (xs ++ ys) → AllPairs R xs
-pairs-front R [] ys pairs = λ i j d less within. absurd (omega (arith, within))
-pairs-front R (first ∷ xs) ys pairs =
-    AllPairs-cons R first xs
-    (All-by (R first) xs
-    (λ y there. AllPairs-head R first (xs ++ ys) pairs y (Contains-append_left xs ys y there)))
-    (pairs-front R xs ys (AllPairs-tail R first (xs ++ ys) pairs))
 
 -- a list beside a joined one is joined too
 record IsZipped {X Y : Type 0} (R : X → Y → Type 0) (xs : List X) (ys zs : List Y) : Type 0 where
@@ -71,11 +63,11 @@ module _ (names : List (List ℕ × Oid)) (edges : List Edge) (sets : List (List
   front-first front rest is = record {
     paths = cut.front;
     least = cut.fronts;
-    ascending = pairs-front ComesBefore cut.front cut.back ascends;
+    ascending = AllPairs-front ComesBefore cut.front cut.back ascends;
     others = λ path set leads. (elim (Contains-append_cases front rest set
         (subst (λ (l : List (List Oid)). Contains l set) is ((are.exact set).1 (path, leads)))) [
           | inl there ↦ inl there
-          | inr behind ↦ inr (All-by (λ (p : LabelPath). ComesBefore p path) cut.front
+          | inr behind ↦ inr (All-from_members (λ (p : LabelPath). ComesBefore p path) cut.front
               (λ p there. later path set leads behind p there))
         ]);
   }
@@ -99,7 +91,7 @@ module _ (names : List (List ℕ × Oid)) (edges : List Edge) (sets : List (List
 
   -- sets that keep the limits are all, or one more passes one of them
   first-passing : (limit : ℕ) (rest front : List (List Oid)) → sets ≡ front ++ rest → KeepLimits limit front
-      → KeepLimits limit sets ⊎ (PassesNodes limit names edges ⊎ PassesCells limit names edges)
+      → KeepLimits limit sets ⊎ (ExceedsNodes limit names edges ⊎ ExceedsCells limit names edges)
   first-passing limit [] front is keep =
       inl (subst (KeepLimits limit) (sym (is ∙ append-nil front)) keep)
   first-passing limit (next ∷ rest) front is keep =

@@ -2,12 +2,10 @@
 use Rattle.std.proofs.Common.{◌≡◌, ◌≢◌, ℕ, ◌≤◌, ◌⊎◌, inl, inr, Less, Equal, Greater, zero, suc}
 use Rattle.std.proofs.Common.{List, [], ◌∷◌, ◌++◌, length, map, refl, sym, ap, ◌∙◌, subst, arith}
 use Rattle.std.specs.Ordering.{nat_cmp, ordering_then, ordering_reverse}
-use Rattle.std.specs.Cmp.{IsTotalOrder}
 use Rattle.std.specs.List.{Contains}
 use Rattle.std.proofs.lemmas.Bool.{cases_lt}
-use Rattle.std.proofs.lemmas.Bool.Decides.{nat_tests}
 use Rattle.std.proofs.lemmas.List.Elements.{Contains-append_left, Contains-append_right}
-use Rattle.std.proofs.lemmas.Cmp.{nat_cmp_total, on_total, lists_total, nat_list_cmp_total}
+use Rattle.std.proofs.lemmas.Cmp.{nat_list_cmp_total}
 use Rattle.std.proofs.lemmas.Map.Lookups.{exact_bytes}
 use Rattle.lore_base.specs.Bytes.{bytes_cmp}
 use Rattle.lore_base.specs.Walks.{Walk, edge_of}
@@ -16,23 +14,18 @@ use Rattle.lore_base.proofs.ListLaws.{AllPairs-head}
 use Rattle.lore_base.proofs.MemberLaws.{Contains-none, Contains-head, Contains-tail, Contains-cases}
 use Rattle.lore_base.proofs.TargetLaws.{ListsInOrder-unique}
 use Rattle.lore_base.proofs.ToldLaws.{IsTold, told_same, told_both, told_some, told_bytes, passing, members_passing}
-use Rattle.oem_changes.proofs.AscentLaws.{IsEither, IsSetOf, some_ordered_among}
-use Rattle.oem_changes.proofs.ClosureLaws.{Contains-mapped}
+use Rattle.list_laws.proofs.AscentLaws.{IsEither, IsSetOf, some_ordered_among}
+use Rattle.list_laws.proofs.OrderLaws.{same_from_cmp}
+use Rattle.list_laws.proofs.MemberLaws.{Contains-map}
 use Rattle.dataguide.specs.Types.{Oid, Label, Edge}
 use Rattle.lore_base.specs.PathOrder.{word_cmp, ComesBefore, IsLeastPath}
-use Rattle.dataguide.proofs.DoneLaws.{some-member}
-use Rattle.dataguide.proofs.PathOrder.{before-trans}
+use Rattle.set_steps.proofs.PairLaws.{some-member}
+use Rattle.dataguide.proofs.PathOrder.{before-trans, word_total}
 use Rattle.guide_laws.proofs.ListLaws.{told_some_in}
 use Rattle.guide_laws.proofs.StepLaws.{target_is}
 use Rattle.guide_laws.proofs.TargetSetLaws.{told_set}
 
 -- Any two paths are in order.
-
-word_total : IsTotalOrder word_cmp
-word_total = lists_total (on_total (λ (label : Label). label.0) nat_cmp_total)
-
-cmp_equal : (a b : ℕ) → nat_cmp a b ≡ Equal → a ≡ b
-cmp_equal a b is = grind (arith, nat_tests)
 
 same_numbers : (v w : List Label) → word_cmp v w ≡ Equal → v ≡ w
 same_numbers [] [] is = refl
@@ -42,7 +35,7 @@ same_numbers (x ∷ v) (y ∷ w) is =
     elim (nat_cmp x.0 y.0) as (λ o. nat_cmp x.0 y.0 ≡ o → ordering_then o (word_cmp v w) ≡ Equal → x ∷ v ≡ y ∷ w) [
       | Less ↦ λ first all. absurd (let less : Less ≡ Equal = all in cc)
       | Equal ↦ λ first all.
-          let number = cmp_equal x.0 y.0 first in
+          let number = same_from_cmp x.0 y.0 first in
           let others = same_numbers v w all in
           λ i. record { 0 = number i } ∷ others i
       | Greater ↦ λ first all. absurd (let more : Greater ≡ Equal = all in cc)
@@ -104,7 +97,7 @@ module _ (labels : List Label) where
   with_has words (first ∷ others) label word at there = elim (Contains-cases first others label at) [
     | inl same ↦ subst (λ (l : Label). Contains (with_each words (first ∷ others)) (l ∷ word)) same
         (Contains-append_left (map (λ w. first ∷ w) words) (with_each words others) (first ∷ word)
-        (Contains-mapped (λ (w : List Label). first ∷ w) words word there))
+        (Contains-map (λ (w : List Label). first ∷ w) words word there))
     | inr later ↦ Contains-append_right (map (λ w. first ∷ w) words) (with_each words others) (label ∷ word)
         (with_has words others label word later there)
   ]
@@ -134,7 +127,7 @@ module _ (labels : List Label) where
         | inl same ↦ Contains-append_left (map (along first.0) words) (paths_from names words) path
             (subst (λ (n : List ℕ). Contains (map (along first.0) words) (along n path.word))
             (ap (λ (n : List ℕ × Oid). n.0) same)
-            (Contains-mapped (along first.0) words path.word there))
+            (Contains-map (along first.0) words path.word there))
         | inr later ↦ Contains-append_right (map (along first.0) words) (paths_from names words) path
             (paths_have names words path start later there)
       ]
@@ -145,7 +138,7 @@ walked_labels : (edges : List Edge) (word : List Label) (from to : Oid) → Walk
 walked_labels edges [] from to walked label at = absurd (Contains-none label at)
 walked_labels edges (first ∷ word) from to walked label at = elim (Contains-cases first word label at) [
   | inl same ↦ subst (λ (l : Label). Contains (map (λ (edge : Edge). edge.label) edges) l) same
-      (Contains-mapped (λ (edge : Edge). edge.label) edges (edge_of from first walked.0) walked.1)
+      (Contains-map (λ (edge : Edge). edge.label) edges (edge_of from first walked.0) walked.1)
   | inr later ↦ walked_labels edges word walked.0 to walked.2 label later
 ]
 

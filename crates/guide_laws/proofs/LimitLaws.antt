@@ -11,13 +11,12 @@ use Rattle.lore_base.specs.PathOrder.{ComesBefore, IsLeastPath}
 use Rattle.lore_base.specs.GuideLimits.{KeepLimits, AreFirstSets}
 use Rattle.lore_base.proofs.ListLaws.{AllPairs-head, AllPairs-tail}
 use Rattle.lore_base.proofs.MemberLaws.{Contains-none, Contains-head, Contains-tail, Contains-cases}
-use Rattle.oem_changes.proofs.CountLaws.{distinct_no_longer}
+use Rattle.list_laws.proofs.SumLaws.{distinct_no_longer, sum_by-within}
+use Rattle.list_laws.proofs.MemberLaws.{All-from_members}
 use Rattle.dataguide.specs.Types.{Oid, Edge}
 use Rattle.dataguide.proofs.PathOrder.{before-itself, before-not_back}
 use Rattle.dataguide.proofs.OneGuide.{one-least}
-use Rattle.dataguide.proofs.PlaceLaws.{zip-right}
-use Rattle.dataguide.proofs.StopLaws.{All-by}
-use Rattle.dataguide.proofs.SumLaws.{sum_by-within}
+use Rattle.set_steps.proofs.PlaceLaws.{zip-right}
 use Rattle.guide_laws.specs.Laws.{FittingPassesNone, OneLimitIsPassed}
 
 -- ---- lists of first sets
@@ -30,7 +29,7 @@ module _ (names : List (List ℕ × Oid)) (edges : List Edge) where
   first-apart (path ∷ paths) [] zip ascend = absurd zip
   first-apart (path ∷ paths) (set ∷ sets) zip ascend =
       AllPairs-cons (λ (a b : List Oid). (a ≡ b) → ⊥) set sets
-      (All-by (λ (b : List Oid). (set ≡ b) → ⊥) sets (λ other there same. (
+      (All-from_members (λ (b : List Oid). (set ≡ b) → ⊥) sets (λ other there same. (
       let from = zip-right (IsLeastPath names edges) paths sets other zip.1 there in
       let one = one-least names edges path from.0 set zip.0 (subst
       (λ (s : List Oid). IsLeastPath names edges from.0 s) (sym same) from.2) in
@@ -110,7 +109,7 @@ fitting_passes_none limit names edges fits passed = elim passed [
     fits-first sets next first =
         fits (sets ++ next ∷ [])
         (first-apart names edges first.paths (sets ++ next ∷ []) first.least first.ascending)
-        (All-by (IsLedTo names edges) (sets ++ next ∷ []) (λ set there. led-first names edges (sets ++ next ∷ [])
+        (All-from_members (IsLedTo names edges) (sets ++ next ∷ []) (λ set there. led-first names edges (sets ++ next ∷ [])
         first set there))
 
 pub one_limit_is_passed : OneLimitIsPassed
@@ -129,7 +128,7 @@ one_limit_is_passed limit names edges one two =
     let not_all = λ (all : (set : List Oid) → Contains f1 set → Contains f2 set).
     (let few = distinct_no_longer f1 f2 apart1 all in let no : ⊥ = omega (arith, few, long) in no) in
     let last = last-path names edges one.first.paths one.sets one.next one.first.least one.first.ascending in
-    let among = All-by (Contains one.sets) f2
+    let among = All-from_members (Contains one.sets) f2
     (λ set there. (elim (within-first names edges f2 f1 two.first one.first set there) [
       | inr all ↦ absurd (not_all all)
       | inl found ↦ elim (Contains-push_cases one.sets one.next set found) [

@@ -6,9 +6,8 @@ use Rattle.std.proofs.lemmas.List.Elements.{Contains-append_left, Contains-appen
 use Rattle.std.proofs.lemmas.List.Kept.{AllPairs-cons}
 use Rattle.lore_base.proofs.MemberLaws.{Contains-head, Contains-tail, Contains-cases, Contains-same}
 use Rattle.lore_base.proofs.ToldLaws.{IsTold, told_member}
-use Rattle.oem_changes.proofs.AscentLaws.{AllPairs-nil}
-use Rattle.oem_changes.proofs.ClosureLaws.{Contains-mapped}
-use Rattle.dataguide.proofs.StopLaws.{All-by}
+use Rattle.list_laws.proofs.PairLaws.{AllPairs-nil}
+use Rattle.list_laws.proofs.MemberLaws.{Contains-map, All-from_members}
 
 -- where items can be told apart, so can lists of them
 pub told_list : {X : Type 0} → ((a b : X) → IsTold (a ≡ b)) → (xs ys : List X) → IsTold (xs ≡ ys)
@@ -38,7 +37,7 @@ filter-sublist {X} test (x ∷ xs) =
     let with_x : List X → List X = λ others. x ∷ others in
     elim (test x) as (λ b. Contains (sublists (x ∷ xs)) (cond b (x ∷ filter test xs) (filter test xs))) [
       | true ↦ Contains-append_left (map with_x (sublists xs)) (sublists xs) (x ∷ filter test xs)
-          (Contains-mapped with_x (sublists xs) (filter test xs) (filter-sublist test xs))
+          (Contains-map with_x (sublists xs) (filter test xs) (filter-sublist test xs))
       | false ↦ Contains-append_right (map with_x (sublists xs)) (sublists xs) (filter test xs)
           (filter-sublist test xs)
     ]
@@ -64,7 +63,7 @@ module _ {X : Type 0} (x : X) (xs new : List X) (once : IsOnce xs new) where
   once_more : (Contains new x → ⊥) → IsOnce (x ∷ xs) (x ∷ new)
   once_more fresh = record {
     apart = AllPairs-cons (λ (a b : X). a ≢ b) x new
-        (All-by (λ (z : X). x ≢ z) new (λ z there same. fresh (Contains-same new z x (sym same) there)))
+        (All-from_members (λ (z : X). x ≢ z) new (λ z there same. fresh (Contains-same new z x (sym same) there)))
         once.apart;
     same = λ z. (
       λ at. elim (Contains-cases x new z at) [

@@ -6,14 +6,14 @@ use Rattle.lore_base.specs.Walks.{Walk}
 use Rattle.lore_base.specs.TargetSets.{LabelPath, IsTargetSet, LeadsTo, IsLedTo, AreTargetSets}
 use Rattle.lore_base.proofs.MemberLaws.{Contains-none, Contains-head, Contains-tail, Contains-cases, Contains-same}
 use Rattle.lore_base.proofs.TargetLaws.{ListsInOrder-unique}
+use Rattle.list_laws.proofs.AscentLaws.{IsEither, IsSetOf, AllPairs-within, some_ordered_among}
+use Rattle.list_laws.proofs.MemberLaws.{Contains-map, Contains-from_map}
 use Rattle.oem_changes.proofs.TableLaws.{one_entry}
-use Rattle.oem_changes.proofs.AscentLaws.{IsEither, IsSetOf, AllPairs-within, some_ordered_among}
-use Rattle.oem_changes.proofs.ClosureLaws.{Contains-mapped, mapped_from}
 use Rattle.dataguide.specs.Types.{Oid, Edge}
 use Rattle.lore_base.specs.PathOrder.{ComesBefore, IsLeastPath, AreInPathOrder}
 use Rattle.dataguide.specs.inside.Trails.{Stop}
 use Rattle.dataguide.proofs.PathOrder.{before-trans, before-itself, before-not_back}
-use Rattle.dataguide.proofs.StopLaws.{AllPairs-map}
+use Rattle.set_steps.proofs.PairLaws.{AllPairs-map}
 use Rattle.guide_laws.specs.Laws.{OrderedSetsExist}
 use Rattle.guide_laws.proofs.LeastPaths.{either_path, some_least}
 use Rattle.guide_laws.proofs.TargetSetLaws.{target_sets_exist}
@@ -120,12 +120,12 @@ module _ (names : List (List ℕ × Oid)) (edges : List Edge) where
           (λ a b at_a at_b before. apart_stops a b (least_is a at_a) (least_is b at_b) before) is.ascend);
       exact = λ set. (
         λ at.
-            let from = mapped_from (λ (s : Stop). s.set) sorted set at in
+            let from = Contains-from_map (λ (s : Stop). s.set) sorted set at in
             subst (IsLedTo names edges) from.2 ((from.0.path, (least_is from.0 from.1).leads)),
         λ led.
             let there = with.all set ((are.exact set).1 led) in
             let stop : Stop = record { path = there.0; set = set } in
-            Contains-mapped (λ (s : Stop). s.set) sorted stop (is.kept stop there.1),
+            Contains-map (λ (s : Stop). s.set) sorted stop (is.kept stop there.1),
       );
     }
 

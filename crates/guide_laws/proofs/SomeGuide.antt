@@ -8,17 +8,19 @@ use Rattle.lore_base.proofs.ListLaws.{AllPairs-head, AllPairs-tail}
 use Rattle.lore_base.proofs.MemberLaws.{Contains-none, Contains-head, Contains-tail, Contains-cases, Contains-same}
 use Rattle.lore_base.proofs.TargetLaws.{ListsInOrder-unique}
 use Rattle.lore_base.proofs.ToldLaws.{told_member}
-use Rattle.oem_changes.proofs.AscentLaws.{IsSetOf, AllPairs-nil, some_ordered}
-use Rattle.oem_changes.proofs.ClosureLaws.{Contains-mapped}
+use Rattle.list_laws.proofs.AscentLaws.{IsSetOf, some_ordered}
+use Rattle.list_laws.proofs.PairLaws.{AllPairs-nil}
+use Rattle.list_laws.proofs.MemberLaws.{Contains-map, All-from_members}
+use Rattle.list_laws.proofs.PlaceLaws.{Contains-from_place, place_of_member}
 use Rattle.dataguide.specs.Types.{Oid, Label, Edge}
 use Rattle.dataguide.specs.declared.nodes.Node.{Node}
 use Rattle.dataguide.specs.declared.nodes.GuideNode.{GuideNode}
 use Rattle.lore_base.specs.TargetSets.{AreTargetSets, LeavesTo, IsStep}
 use Rattle.dataguide.specs.Guides.{GuideGraph, sets_of, AscendByLabel, HasItsSteps, IsEntry, StandsFor}
 use Rattle.dataguide.specs.inside.Trails.{start_path}
-use Rattle.dataguide.proofs.PlaceLaws.{Contains-at, at-Contains, one-place}
-use Rattle.dataguide.proofs.StopLaws.{All-by, leads-start}
-use Rattle.dataguide.proofs.DoneLaws.{some-member}
+use Rattle.set_steps.proofs.PlaceLaws.{one-place}
+use Rattle.dataguide.proofs.StopLaws.{leads-start}
+use Rattle.set_steps.proofs.PairLaws.{some-member}
 use Rattle.lore_base.specs.PathOrder.{AreInPathOrder}
 use Rattle.guide_laws.specs.Laws.{GuidesExist, OrderedGuidesExist}
 use Rattle.dataguide.proofs.StepLaws.{numbers_ordered, step_of, step_is}
@@ -47,7 +49,7 @@ module _ (edges : List Edge) (sets : List (List Oid)) (apart : AllPairs (λ a b.
         → IsRow set (label ∷ labels) ((label, node) ∷ row)
     row_more node ascend at = record {
       ascending = AllPairs-cons (λ (a b : Label × Node). a.0.0 < b.0.0) (label, node) row
-          (All-by (λ (e : Label × Node). label.0 < e.0.0) row
+          (All-from_members (λ (e : Label × Node). label.0 < e.0.0) row
           (λ e there. AllPairs-head (λ (a b : Label). a.0 < b.0) label labels ascend e.0
           ((is.exact e.0 e.1).0 there).0)) is.ascending;
       exact = λ other next. (
@@ -80,7 +82,7 @@ module _ (edges : List Edge) (sets : List (List Oid)) (apart : AllPairs (λ a b.
       exact = λ other next. (
         λ there. (let has = (is.exact other next).0 there in (Contains-tail label labels other has.0, has.1)),
         λ has. elim (Contains-cases label labels other has.0) [
-          | inl same ↦ absurd (none (Contains-at sets next.0 (step_of edges set label)
+          | inl same ↦ absurd (none (Contains-from_place sets next.0 (step_of edges set label)
               (subst (λ (l : Label). slice_get sets next.0 ≡ Some (step_of edges set l)) (sym same) has.1)))
           | inr later ↦ (is.exact other next).1 (later, has.1)
         ],
@@ -103,7 +105,7 @@ module _ (edges : List Edge) (sets : List (List Oid)) (apart : AllPairs (λ a b.
       let rest = some_row set labels (AllPairs-tail (λ (a b : Label). a.0 < b.0) label labels ascend) in
       elim (told_member told_set sets (step_of edges set label)) [
         | inl there ↦ (
-            let at = at-Contains sets (step_of edges set label) there in
+            let at = place_of_member sets (step_of edges set label) there in
             let node : Node = record { 0 = at.0 } in
             ((label, node) ∷ rest.0, row_more set label labels rest.0 rest.1 node ascend at.1))
         | inr none ↦ (rest.0, row_same set label labels rest.0 rest.1 none)
@@ -131,7 +133,7 @@ module _ (edges : List Edge) (sets : List (List Oid)) (apart : AllPairs (λ a b.
         let one = some-member next (some next there) in
         let leaves = (step.exact one.0).0 one.1 in
         (some_labels edges).1.kept label
-        (Contains-mapped (λ (edge : Edge). edge.label) edges (edge_of leaves.from label one.0) leaves.edge)
+        (Contains-map (λ (edge : Edge). edge.label) edges (edge_of leaves.from label one.0) leaves.edge)
 
     has_its_steps : (set : List Oid) → HasItsSteps edges nodes (node_of_set set)
     has_its_steps set =
@@ -152,7 +154,7 @@ module _ (edges : List Edge) (sets : List (List Oid)) (apart : AllPairs (λ a b.
                 ListsInOrder-unique (LeavesTo edges set label) has.0 (step_of edges set label) has.2
                 (step_is edges set label) in
                 (row.exact label next).1 (
-                  label_there set has.0 label has.2 (Contains-at sets next.0 has.0 at),
+                  label_there set has.0 label has.2 (Contains-from_place sets next.0 has.0 at),
                   at ∙ ap Some is,
                 ),
           );
@@ -163,7 +165,7 @@ module _ (edges : List Edge) (sets : List (List Oid)) (apart : AllPairs (λ a b.
         → (entries : List (List ℕ × Node)) × AllZip (IsEntry nodes) names entries
     some_entries [] each = ([], tt)
     some_entries (named ∷ names) each =
-        let at = at-Contains sets (named.1 ∷ []) (each named (Contains-head named names)) in
+        let at = place_of_member sets (named.1 ∷ []) (each named (Contains-head named names)) in
         let rest = some_entries names (λ other there. each other (Contains-tail named names other there)) in
         let node : Node = record { 0 = at.0 } in (
           (named.0, node) ∷ rest.0,
@@ -187,7 +189,7 @@ module _ (edges : List Edge) (sets : List (List Oid)) (apart : AllPairs (λ a b.
           record {
             nodes = subst (AreTargetSets names edges) (sym (sets_are sets)) are;
             steps = All-map (HasItsSteps edges nodes) node_of_set sets
-                (All-by (λ (set : List Oid). HasItsSteps edges nodes (node_of_set set)) sets
+                (All-from_members (λ (set : List Oid). HasItsSteps edges nodes (node_of_set set)) sets
                 (λ set there. has_its_steps set));
             entries = entries.1;
           },

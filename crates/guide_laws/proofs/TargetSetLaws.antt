@@ -9,11 +9,11 @@ use Rattle.lore_base.proofs.ListLaws.{AllPairs-unique}
 use Rattle.lore_base.proofs.MemberLaws.{Contains-none, Contains-cases, Contains-same}
 use Rattle.lore_base.proofs.TargetLaws.{ListsInOrder-same}
 use Rattle.lore_base.proofs.ToldLaws.{IsTold, told_oid, passing, members_passing}
-use Rattle.oem_changes.proofs.ClosureLaws.{Contains-mapped, mapped_from}
+use Rattle.list_laws.proofs.MemberLaws.{Contains-map, Contains-from_map}
 use Rattle.dataguide.specs.Types.{Oid, Label, Edge}
 use Rattle.dataguide.proofs.TargetSteps.{step-target}
 use Rattle.dataguide.proofs.StopLaws.{target-none}
-use Rattle.dataguide.proofs.DoneLaws.{some-member}
+use Rattle.set_steps.proofs.PairLaws.{some-member}
 use Rattle.guide_laws.specs.Laws.{TargetSetsExist}
 use Rattle.guide_laws.proofs.ListLaws.{told_list, told_some_in, sublists, some_once}
 use Rattle.guide_laws.proofs.ClosedLists.{IsClosed, some_closed}
@@ -71,7 +71,7 @@ module _ (names : List (List ℕ × Oid)) (edges : List Edge) where
 
   start_target : (set : List Oid) → Contains starts set → IsTarget set
   start_target set at =
-      let from = mapped_from (λ (named : List ℕ × Oid). named.1 ∷ []) names set at in
+      let from = Contains-from_map (λ (named : List ℕ × Oid). named.1 ∷ []) names set at in
       record {
         path = record { name = from.0.0; word = [] };
         start = from.0.1;
@@ -105,7 +105,7 @@ module _ (names : List (List ℕ × Oid)) (edges : List Edge) where
   arcs_keep (set ∷ sets) arc at target = elim
       (Contains-append_cases (map (arc_of set) edges) (arcs_of sets) arc at) [
         | inl here ↦ (
-            let from = mapped_from (arc_of set) edges arc here in
+            let from = Contains-from_map (arc_of set) edges arc here in
             let front : set ≡ arc.0 = ap (λ (a : List Oid × List Oid). a.0) from.2 in
             let end : step_of edges set from.0.label ≡ arc.1 = ap (λ (a : List Oid × List Oid). a.1) from.2 in
             subst IsTarget end (step_target set from.0.label (subst IsTarget (sym front) target)))
@@ -118,7 +118,7 @@ module _ (names : List (List ℕ × Oid)) (edges : List Edge) where
   arcs_have (first ∷ sets) set edge at there = elim (Contains-cases first sets set at) [
     | inl same ↦ subst (λ (s : List Oid). Contains (arcs_of (first ∷ sets)) (arc_of s edge)) same
         (Contains-append_left (map (arc_of first) edges) (arcs_of sets) (arc_of first edge)
-        (Contains-mapped (arc_of first) edges edge there))
+        (Contains-map (arc_of first) edges edge there))
     | inr later ↦ Contains-append_right (map (arc_of first) edges) (arcs_of sets) (arc_of set edge)
         (arcs_have sets set edge later there)
   ]
@@ -155,7 +155,7 @@ module _ (names : List (List ℕ × Oid)) (edges : List Edge) where
         let some = some-member set leads.some in
         walked_found led.0.word (leads.start ∷ []) set some.0
         (is.started (leads.start ∷ [])
-        (Contains-mapped (λ (named : List ℕ × Oid). named.1 ∷ []) names (led.0.name, leads.start)
+        (Contains-map (λ (named : List ℕ × Oid). named.1 ∷ []) names (led.0.name, leads.start)
         leads.named))
         some.1
         (ListsInOrder-same (Walk edges leads.start led.0.word)

@@ -4,7 +4,7 @@ use Rattle.lore_base.specs.Names.{IsNameTable}
 use Rattle.dataguide.specs.Types.{Oid, Edge}
 use Rattle.lore_base.specs.TargetSets.{AreTargetSets}
 use Rattle.lore_base.specs.PathOrder.{AreInPathOrder}
-use Rattle.lore_base.specs.GuideLimits.{KeepLimits, FitsGuide, PassesNodes, PassesCells}
+use Rattle.lore_base.specs.GuideLimits.{KeepLimits, FitsGuide, ExceedsNodes, ExceedsCells}
 use Rattle.dataguide.specs.Guides.{GuideGraph, StandsFor, IsOrderedGuide}
 
 -- there is a list of all sets that label paths lead to
@@ -29,19 +29,19 @@ FitsAreTold =
 abbrev pub GuidesFitOrPass : Type 0
 GuidesFitOrPass =
     (limit : ℕ) (names : List (List ℕ × Oid)) (edges : List Edge) → IsNameTable names
-    → FitsGuide limit names edges ⊎ (PassesNodes limit names edges ⊎ PassesCells limit names edges)
+    → FitsGuide limit names edges ⊎ (ExceedsNodes limit names edges ⊎ ExceedsCells limit names edges)
 
 -- a guide that fits passes none
 abbrev pub FittingPassesNone : Type 0
 FittingPassesNone =
     (limit : ℕ) (names : List (List ℕ × Oid)) (edges : List Edge) → FitsGuide limit names edges
-    → (PassesNodes limit names edges ⊎ PassesCells limit names edges) → ⊥
+    → (ExceedsNodes limit names edges ⊎ ExceedsCells limit names edges) → ⊥
 
 -- and no guide passes both
 abbrev pub OneLimitIsPassed : Type 0
 OneLimitIsPassed =
     (limit : ℕ) (names : List (List ℕ × Oid)) (edges : List Edge)
-    → PassesNodes limit names edges → PassesCells limit names edges → ⊥
+    → ExceedsNodes limit names edges → ExceedsCells limit names edges → ⊥
 
 -- some guide stands for each database
 abbrev pub GuidesExist : Type 0

@@ -10,13 +10,15 @@ use Rattle.lore_base.specs.Walks.{Walk, edge_of}
 use Rattle.lore_base.specs.TargetSets.{LabelPath, LeadsTo, IsTargetSet, IsStep}
 use Rattle.lore_base.proofs.MemberLaws.{Contains-none}
 use Rattle.lore_base.proofs.TargetLaws.{ListsInOrder-unique}
+use Rattle.list_laws.proofs.ZipLaws.{AllZip-place}
+use Rattle.list_laws.proofs.PlaceLaws.{Contains-from_place, place_of_member, pair_at}
 use Rattle.lore_base.specs.PathOrder.{ComesBefore}
 use Rattle.dataguide.specs.Guides.{GuideGraph, sets_of, edge_at, node_number, HasSet, HasItsSteps, IsEntry}
 use Rattle.dataguide.specs.inside.Trails.{start_path, longer}
 use Rattle.dataguide.proofs.TargetSteps.{walks-leave, longer_words_step}
-use Rattle.dataguide.proofs.PlaceLaws.{Contains-at, at-Contains, at-unmap, pair-at, one-place}
+use Rattle.set_steps.proofs.PlaceLaws.{at-unmap, one-place}
 use Rattle.dataguide.proofs.StopLaws.{keys-ascend, target-none}
-use Rattle.dataguide.proofs.DoneLaws.{some-member}
+use Rattle.set_steps.proofs.PairLaws.{some-member}
 use Rattle.guide_laws.proofs.StepLaws.{target_is}
 use Rattle.guide_query.specs.Types.{Oid, Label, Edge, Node, GuideNode}
 use Rattle.guide_query.specs.GuideLines.{IsLabelledGuide}
@@ -43,14 +45,6 @@ zip-at R (x ∷ xs) [] k y zip at = cc
 zip-at R (x ∷ xs) (first ∷ ys) zero y zip at = (x, refl, let same : first ≡ y = cc in subst (R x) same zip.0)
 zip-at R (x ∷ xs) (first ∷ ys) (suc k) y zip at = zip-at R xs ys k y zip.1 at
 
-zip-there : {X Y : Type 0} (R : X → Y → Type 0) (xs : List X) (ys : List Y) (k : ℕ) (x : X) → AllZip R xs ys
-    → slice_get xs k ≡ Some x → (y : Y) × (slice_get ys k ≡ Some y) × R x y
-zip-there R [] ys k x zip at = cc
-zip-there R (first ∷ xs) [] k x zip at = absurd zip
-zip-there R (first ∷ xs) (y ∷ ys) zero x zip at =
-    (y, refl, let same : first ≡ x = cc in subst (λ z. R z y) same zip.0)
-zip-there R (first ∷ xs) (y ∷ ys) (suc k) x zip at = zip-there R xs ys k x zip.1 at
-
 module _ (guide : GuideGraph) (labels : List (List ℕ)) (names : List (List ℕ × Oid)) (edges : List Edge)
     (is : IsLabelledGuide guide labels names edges) where
   -- the name that the entry at a place has
@@ -76,9 +70,9 @@ module _ (guide : GuideGraph) (labels : List (List ℕ)) (names : List (List ℕ
   pub name-all : (named : List ℕ × Oid) (k : ℕ) → Contains names named
       → HasSet guide.nodes (node_number k) (named.1 ∷ []) → IsPlaced named (node_number k)
   name-all named k there has =
-      let at = at-Contains names named there in
+      let at = place_of_member names named there in
       let entry =
-      zip-there (IsEntry guide.nodes) names guide.entries at.0 named is.ordered.stands.entries at.1 in
+      AllZip-place (IsEntry guide.nodes) names guide.entries at.0 named is.ordered.stands.entries at.1 in
       let number : entry.0.1.0 ≡ k =
       one-place (sets_of guide.nodes) is.ordered.stands.nodes.apart entry.0.1.0 k (named.1 ∷ []) entry.2.node has in
       let node : entry.0.1 ≡ node_number k = ap (λ (n : ℕ). node_number n) number in
@@ -95,7 +89,7 @@ module _ (guide : GuideGraph) (labels : List (List ℕ)) (names : List (List ℕ
   names-before p q a b less first second =
       inr (
         refl,
-        inl (pair-at (λ (s t : List ℕ × Oid). bytes_cmp s.0 t.0 ≡ Less) names p q a b
+        inl (pair_at (λ (s t : List ℕ × Oid). bytes_cmp s.0 t.0 ≡ Less) names p q a b
             (keys-ascend names is.table) less first second),
       )
 
@@ -103,11 +97,11 @@ module _ (guide : GuideGraph) (labels : List (List ℕ)) (names : List (List ℕ
       → HasItsSteps edges guide.nodes there
   steps-at m there at =
       All-contains (HasItsSteps edges guide.nodes) guide.nodes there is.ordered.stands.steps
-      (Contains-at guide.nodes m there at)
+      (Contains-from_place guide.nodes m there at)
 
   pub set-some : (k : ℕ) (set : List Oid) → slice_get (sets_of guide.nodes) k ≡ Some set → set ≢ []
   set-some k set at =
-      ((is.ordered.stands.nodes.exact set).0 (Contains-at (sets_of guide.nodes) k set at)).1.some
+      ((is.ordered.stands.nodes.exact set).0 (Contains-from_place (sets_of guide.nodes) k set at)).1.some
 
   -- the labels of a node's edges have texts
   pub label-below : (m : ℕ) (there : GuideNode) (label : Label) (next : Node) → slice_get guide.nodes m ≡ Some there
@@ -167,13 +161,13 @@ module _ (guide : GuideGraph) (labels : List (List ℕ)) (names : List (List ℕ
               (subst (λ (s : List Oid). Contains s leaves.from) none leaves.member);
         } in
         let there =
-        at-Contains (sets_of guide.nodes) before.0 ((is.ordered.stands.nodes.exact before.0).1 (shorter, led)) in
+        place_of_member (sets_of guide.nodes) before.0 ((is.ordered.stands.nodes.exact before.0).1 (shorter, led)) in
         let node = at-unmap (λ (n : GuideNode). n.set) guide.nodes there.0 before.0 there.1 in
         let step : IsStep edges before.0 last set =
         (longer_words_step edges leads.start front last before.0 set before.1).0 whole in
         let edge = ((steps-at there.0 node.0 node.1).exact last (node_number k)).1
         (set, at, subst (λ (s : List Oid). IsStep edges s last set) (sym node.2) step) in
-        let place = at-Contains node.0.edges (last, node_number k) edge in
+        let place = place_of_member node.0.edges (last, node_number k) edge in
         record {
           node = there.0;
           place = place.0;

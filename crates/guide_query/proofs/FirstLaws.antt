@@ -5,6 +5,7 @@ use Rattle.std.specs.List.{slice_get}
 use Rattle.std.proofs.lemmas.Bool.{cases_lt}
 use Rattle.std.proofs.lemmas.List.{length-map}
 use Rattle.std.proofs.lemmas.Option.{slice_get_within, slice_get-get_or}
+use Rattle.list_laws.proofs.PlaceLaws.{Contains-from_place, pair_at}
 use Rattle.lore_base.specs.TargetSets.{LabelPath, LeadsTo, IsStep}
 use Rattle.lore_base.specs.PathOrder.{IsLeastPath, ComesBefore}
 use Rattle.dataguide.specs.Guides.{GuideGraph, sets_of, edge_at, node_number}
@@ -12,7 +13,7 @@ use Rattle.dataguide.specs.inside.Trails.{start_path, longer, ComesUpTo}
 use Rattle.dataguide.proofs.OneGuide.{one-least}
 use Rattle.dataguide.proofs.PathOrder.{before-longer, before-label, before-end, before-itself, before-not_back}
 use Rattle.dataguide.proofs.PathOrder.{upto-longer, upto-trans}
-use Rattle.dataguide.proofs.PlaceLaws.{Contains-at, at-map, pair-at}
+use Rattle.set_steps.proofs.PlaceLaws.{at-map}
 use Rattle.dataguide.proofs.StopLaws.{leads-start, leads-step}
 use Rattle.guide_query.specs.Types.{Oid, Label, Edge, Node, GuideNode, Origin, Unmet, Named, Step}
 use Rattle.guide_query.specs.GuideLines.{IsLabelledGuide}
@@ -67,7 +68,7 @@ module _ (guide : GuideGraph) (labels : List (List ℕ)) (names : List (List ℕ
     first_unmet : IsUnnamed guide (length guide.entries) (node_number k)
         → IsUnled guide (length guide.nodes) 0 (node_number k) → ⊥
     first_unmet unnamed unled =
-        let led = (is.ordered.stands.nodes.exact set).0 (Contains-at (sets_of guide.nodes) k set at) in
+        let led = (is.ordered.stands.nodes.exact set).0 (Contains-from_place (sets_of guide.nodes) k set at) in
         elim (path-cases guide labels names edges is k set at led.0 led.1) [
           | inl by ↦ not_named unnamed led.0 by
           | inr by ↦ unled by.node by.place by.label (inl (node_within by.node by.from by.at)) by.edge
@@ -104,7 +105,7 @@ module _ (guide : GuideGraph) (labels : List (List ℕ)) (names : List (List ℕ
           let same : sound.named.1 ∷ [] ≡ set =
           one_at (sound.named.1 ∷ []) set (slice_get (sets_of guide.nodes) k) sound.set at in
           subst (λ (s : List Oid). LeadsTo names edges (start_path sound.named.0) s) same
-          (leads-start names edges sound.named (Contains-at names place sound.named sound.at))
+          (leads-start names edges sound.named (Contains-from_place names place sound.named sound.at))
 
       first_named : IsNameOf set place
       first_named = record {
@@ -129,7 +130,7 @@ module _ (guide : GuideGraph) (labels : List (List ℕ)) (names : List (List ℕ
       step_there : IsStep edges there.0.set label set
       step_there =
           let step = ((steps-at guide labels names edges is from.0 there.0 there.1).exact label (node_number k)).0
-          (Contains-at there.0.edges place (label, node_number k) there.2) in
+          (Contains-from_place there.0.edges place (label, node_number k) there.2) in
           subst (λ (s : List Oid). IsStep edges there.0.set label s)
           (one_at step.0 set (slice_get (sets_of guide.nodes) k) step.1 at) step.2
 
@@ -153,7 +154,7 @@ module _ (guide : GuideGraph) (labels : List (List ℕ)) (names : List (List ℕ
           subst (λ (n : GuideNode). slice_get n.edges i ≡ Some (by, node_number k)) node next.2 in
           elim (cases_lt place i) [
             | inl less ↦ inr (before-label front_path.0 label by
-                (pair-at (λ (a b : Label × Node). a.0.0 < b.0.0) there.0.edges place i (label, node_number k)
+                (pair_at (λ (a b : Label × Node). a.0.0 < b.0.0) there.0.edges place i (label, node_number k)
                 (by, node_number k) (steps-at guide labels names edges is from.0 there.0 there.1).ascending less
                 there.2 in_row))
             | inr most ↦ elim (cases_lt i place) [
@@ -180,7 +181,7 @@ module _ (guide : GuideGraph) (labels : List (List ℕ)) (names : List (List ℕ
           (upto-trans (longer front_path.0 label) (longer other.0 by.label) (longer by.front by.label)
           (elim (cases_lt from.0 by.node) [
             | inl less ↦ inr (before-longer front_path.0 other.0 label by.label
-                (pair-at ComesBefore is.ordered.order.paths from.0 by.node front_path.0 other.0
+                (pair_at ComesBefore is.ordered.order.paths from.0 by.node front_path.0 other.0
                 is.ordered.order.ascending less front_path.1 other.1))
             | inr most ↦ elim (cases_lt by.node from.0) [
               | inl early ↦ absurd (unled by.node by.place by.label (inl early) by.edge)
@@ -228,7 +229,7 @@ module _ (guide : GuideGraph) (labels : List (List ℕ)) (names : List (List ℕ
             | inl less ↦ less
             | inr most ↦ elim (cases_lt k from.0) [
               | inl back ↦ absurd (before-not_back front_path.0 own.0 before
-                  (pair-at ComesBefore is.ordered.order.paths k from.0 own.0 front_path.0
+                  (pair_at ComesBefore is.ordered.order.paths k from.0 own.0 front_path.0
                   is.ordered.order.ascending back own.1 front_path.1))
               | inr least ↦ (
                   let here : k ≡ from.0 = omega (arith, most, least) in
@@ -244,7 +245,7 @@ module _ (guide : GuideGraph) (labels : List (List ℕ)) (names : List (List ℕ
       first_step =
           let below : label.0 < length labels =
           label-below guide labels names edges is from.0 there.0 label (node_number k) there.1
-          (Contains-at there.0.edges place (label, node_number k) there.2) in
+          (Contains-from_place there.0.edges place (label, node_number k) there.2) in
           record {
             before = from_before;
             front = there.0.set;

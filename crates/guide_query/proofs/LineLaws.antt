@@ -6,7 +6,7 @@ use Rattle.std.proofs.lemmas.List.{append-nil, length-map, take_at}
 use Rattle.std.proofs.lemmas.Option.{slice_get_within, slice_get-get_or}
 use Rattle.dataguide.specs.Guides.{GuideGraph, sets_of}
 use Rattle.dataguide.specs.inside.Trails.{start_path, longer}
-use Rattle.dataguide.proofs.PlaceLaws.{AllZip-then}
+use Rattle.set_steps.proofs.PlaceLaws.{AllZip-then}
 use Rattle.guide_query.specs.Types.{Oid, Label, Edge, Node, GuideNode, Origin, Unmet, Named, Step}
 use Rattle.guide_query.specs.GuideLines.{label_text, path_text, size_text, count_line, IsSetLine, AreGuideLines}
 use Rattle.guide_query.specs.GuideLines.{IsLabelledGuide}

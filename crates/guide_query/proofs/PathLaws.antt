@@ -1,14 +1,12 @@
 -- The node that a label path leads to has the path's target set.
-use Rattle.std.proofs.Common.{◌≡◌, ◌↔◌, ℕ, inl, inr, List, [], ◌∷◌, length, Option, Some, None, true, Equal, Less, Greater}
-use Rattle.std.proofs.Common.{◌+◌, ◌<◌, drop, get_or, Contains, refl, sym, ap, ◌∙◌, subst, true≢false}
+use Rattle.std.proofs.Common.{◌≡◌, ◌↔◌, ℕ, inl, inr, List, [], ◌∷◌, Option, Some, None, true}
+use Rattle.std.proofs.Common.{Contains, refl, sym, subst, true≢false}
 use Rattle.std.specs.Prelude.{IfSome, IfNone, IsSome}
 use Rattle.std.specs.List.{slice_get}
 use Rattle.std.specs.Map.{keys_of, lookup}
 use Rattle.std.specs.BTreeMap.{is_at}
-use Rattle.std.specs.Ordering.{is_eq, eq_by_cmp}
+use Rattle.std.specs.Ordering.{eq_by_cmp}
 use Rattle.std.specs.Cmp.{IsEquivalence}
-use Rattle.std.specs.declared.cmp.Ordering.{Ordering}
-use Rattle.std.proofs.lemmas.List.{drop_more}
 use Rattle.std.proofs.lemmas.Cmp.{nat_list_cmp_total, eq_by_cmp_equiv}
 use Rattle.std.proofs.lemmas.Map.Lookups.{exact_bytes}
 use Rattle.std.proofs.lemmas.Map.Views.{Contains-from_lookup, IsSome-lookup_from_Contains}
@@ -16,8 +14,11 @@ use Rattle.lore_base.specs.Bytes.{bytes_cmp}
 use Rattle.lore_base.specs.TargetSets.{ListsInOrder, LeavesTo}
 use Rattle.lore_base.proofs.MemberLaws.{Contains-none, Contains-head, Contains-cases}
 use Rattle.lore_base.proofs.NameLaws.{bound_found}
+use Rattle.list_laws.proofs.OrderLaws.{Equal-from_test}
+use Rattle.list_laws.proofs.PlaceLaws.{Contains-from_place}
+use Rattle.list_laws.proofs.MemberLaws.{Contains-map}
 use Rattle.dataguide.specs.Guides.{GuideGraph, StandsFor, IsEntry, HasSet, HasEdge, sets_of, node_of}
-use Rattle.dataguide.proofs.PlaceLaws.{Contains-at, mapped, one-place, zip-left, zip-right}
+use Rattle.set_steps.proofs.PlaceLaws.{one-place, zip-left, zip-right}
 use Rattle.dataguide.proofs.StepLaws.{step_of, step_is}
 use Rattle.guide_query.specs.Types.{Oid, Label, Edge, Node}
 use Rattle.guide_query.specs.PathLines.{IsWalkedTo}
@@ -28,13 +29,8 @@ use Rattle.guide_query.proofs.TellsLaws.{edge-steps, step-edge, step-node}
 names_equiv : IsEquivalence (eq_by_cmp bytes_cmp)
 names_equiv = eq_by_cmp_equiv nat_list_cmp_total
 
-is_equal : (o : Ordering) → is_eq o ≡ true → o ≡ Equal
-is_equal Less h = absurd (true≢false (sym h))
-is_equal Equal h = refl
-is_equal Greater h = absurd (true≢false (sym h))
-
 same_name : (name other : List ℕ) → is_at (bytes_cmp name) other ≡ true → name ≡ other
-same_name name other h = exact_bytes name other (is_equal (bytes_cmp name other) h)
+same_name name other h = exact_bytes name other (Equal-from_test (bytes_cmp name other) h)
 
 -- a name among the keys is found
 found_key : (entries : List (List ℕ × Node)) (name : List ℕ) → node_of entries name ≡ None
@@ -42,12 +38,6 @@ found_key : (entries : List (List ℕ × Node)) (name : List ℕ) → node_of en
 found_key entries name none there =
     let some : IsSome (node_of entries name) = IsSome-lookup_from_Contains names_equiv name entries there in
     true≢false (sym (subst (λ (o : Option Node). IsSome o) none some))
-
--- the texts that are left from a place on
-pub drop_text : (texts : List (List ℕ)) (place : ℕ) (text : List ℕ) → place < length texts
-    → text ≡ get_or texts place text → drop place texts ≡ text ∷ drop (place + 1) texts
-drop_text texts place text less is =
-    drop_more texts place text less ∙ ap (λ (t : List ℕ). t ∷ drop (place + 1) texts) (sym is)
 
 module _ (guide : GuideGraph) (labels : List (List ℕ)) (names : List (List ℕ × Oid)) (edges : List Edge)
     (is : IsReadable guide labels names edges) where
@@ -85,7 +75,7 @@ module _ (guide : GuideGraph) (labels : List (List ℕ)) (names : List (List ℕ
         },
       )
   child_is node set label text None has labelled some none = λ oid by.
-      let led = (stands.nodes.exact set).0 (Contains-at (sets_of guide.nodes) node.0 set has) in
+      let led = (stands.nodes.exact set).0 (Contains-from_place (sets_of guide.nodes) node.0 set has) in
       let step = step_is edges set label in
       let there = (step.exact oid).1 (leaves_alike set by.0 label text oid by.1 labelled by.2) in
       let next =
@@ -144,7 +134,7 @@ module _ (guide : GuideGraph) (labels : List (List ℕ)) (names : List (List ℕ
     pub start_none : node_of guide.entries name ≡ None → (oid : Oid) → Walked oid → ⊥
     start_none at oid walked =
         let entry = zip-left (IsEntry guide.nodes) names guide.entries (name, walked.0) stands.entries walked.1 in
-        let key = mapped (λ (e : List ℕ × Node). e.0) guide.entries entry.0 entry.1 in
+        let key = Contains-map (λ (e : List ℕ × Node). e.0) guide.entries entry.0 entry.1 in
         found_key guide.entries name at
         (subst (λ (n : List ℕ). Contains (keys_of guide.entries) n) entry.2.name key)
 
@@ -212,7 +202,7 @@ module _ (guide : GuideGraph) (labels : List (List ℕ)) (names : List (List ℕ
     pub come_end : (node : Node) → HasComeTo guide.nodes names edges labels name texts [] node
         → IsNodeOf guide.nodes Walked (Some node)
     come_end node come =
-        let led = (stands.nodes.exact come.0).0 (Contains-at (sets_of guide.nodes) node.0 come.0 come.1) in (
+        let led = (stands.nodes.exact come.0).0 (Contains-from_place (sets_of guide.nodes) node.0 come.0 come.1) in (
           come.0,
           come.1,
           record {

@@ -9,10 +9,11 @@ use Rattle.std.proofs.lemmas.Option.{slice_get-get_or}
 use Rattle.lore_base.specs.Walks.{edge_of}
 use Rattle.lore_base.specs.TargetSets.{ListsInOrder, IsStep, LeavesTo, IsLedTo}
 use Rattle.lore_base.proofs.MemberLaws.{Contains-none, Contains-head, Contains-tail}
+use Rattle.list_laws.proofs.PlaceLaws.{Contains-from_place}
+use Rattle.list_laws.proofs.MemberLaws.{Contains-map, Contains-from_map}
 use Rattle.dataguide.specs.Guides.{GuideGraph, StandsFor, HasItsSteps, HasSet, sets_of}
-use Rattle.dataguide.proofs.PlaceLaws.{Contains-at, at-unmap, mapped, unmapped}
-use Rattle.dataguide.proofs.StopLaws.{AllPairs-map}
-use Rattle.dataguide.proofs.DoneLaws.{some-member}
+use Rattle.set_steps.proofs.PlaceLaws.{at-unmap}
+use Rattle.set_steps.proofs.PairLaws.{some-member, AllPairs-map}
 use Rattle.dataguide.proofs.StepLaws.{step_of, step_is}
 use Rattle.guide_query.specs.Types.{Oid, Label, Edge, Node, GuideNode, Value}
 use Rattle.guide_query.specs.GuideLines.{path_text, size_text}
@@ -44,7 +45,7 @@ module _ (guide : GuideGraph) (labels : List (List ℕ)) (names : List (List ℕ
   stands = is.labelled.ordered.stands
 
   led_to : (node : Node) (set : List Oid) → HasSet guide.nodes node set → IsLedTo names edges set
-  led_to node set has = (stands.nodes.exact set).0 (Contains-at (sets_of guide.nodes) node.0 set has)
+  led_to node set has = (stands.nodes.exact set).0 (Contains-from_place (sets_of guide.nodes) node.0 set has)
 
   set_is : (P : Oid → Type 0) (found : Option Node) → IsNodeOf guide.nodes P found
       → ListsInOrder P (set_at guide.nodes found)
@@ -66,7 +67,7 @@ module _ (guide : GuideGraph) (labels : List (List ℕ)) (names : List (List ℕ
     steps : HasItsSteps edges guide.nodes there.0
     steps =
         All-contains (HasItsSteps edges guide.nodes) guide.nodes there.0 stands.steps
-        (Contains-at guide.nodes node.0 there.0 there.1)
+        (Contains-from_place guide.nodes node.0 there.0 there.1)
 
     -- the set that an edge leads to
     edge_step : (edge : Label × Node) → Contains row edge
@@ -100,11 +101,11 @@ module _ (guide : GuideGraph) (labels : List (List ℕ)) (names : List (List ℕ
           (λ (a b : Label). a.0 < b.0) (λ a b less. less) row steps.ascending;
       exact = λ label. (
         λ among. (
-            let edge = unmapped (λ (e : Label × Node). e.0) row label among in
+            let edge = Contains-from_map (λ (e : Label × Node). e.0) row label among in
             subst (λ (l : Label). (oid : Oid) × LeavesTo edges set l oid) edge.2 (edge_leaves edge.0 edge.1)),
         λ leaves. (
             let edge = label_has_edge label leaves.0 leaves.1 in
-            mapped (λ (e : Label × Node). e.0) row (label, edge.0) edge.1),
+            Contains-map (λ (e : Label × Node). e.0) row (label, edge.0) edge.1),
       );
     }
 

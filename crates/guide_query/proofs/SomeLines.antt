@@ -6,7 +6,7 @@ use Rattle.std.proofs.lemmas.Option.{slice_get-get_or}
 use Rattle.lore_base.specs.Walks.{Walk, edge_of}
 use Rattle.lore_base.specs.TargetSets.{LabelPath, HasTexts}
 use Rattle.lore_base.specs.PathOrder.{IsLeastPath}
-use Rattle.dataguide.proofs.DoneLaws.{some-member}
+use Rattle.set_steps.proofs.PairLaws.{some-member}
 use Rattle.guide_laws.proofs.OrderedSets.{ordered_sets_exist}
 use Rattle.guide_query.specs.Types.{Oid, Label, Edge}
 use Rattle.guide_query.specs.GuideLines.{path_text, size_text, count_line, IsSetLine}

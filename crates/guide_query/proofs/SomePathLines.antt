@@ -1,11 +1,10 @@
 -- A label path of a database has a list of lines.
 use Rattle.std.proofs.Common.{◌≡◌, ℕ, ◌<◌, inl, inr, List, [], ◌∷◌, ◌++◌, length, map, take, get_or, Contains, All}
-use Rattle.std.proofs.Common.{Option, Some, None, ◌==◌, refl, sym, ap, ◌∙◌, subst, arith}
+use Rattle.std.proofs.Common.{Option, Some, None, refl, sym, ap, ◌∙◌, subst, arith}
 use Rattle.std.specs.Prelude.{codes, decimal}
 use Rattle.std.specs.List.{AllZip, slice_get}
 use Rattle.std.specs.Map.{lookup}
 use Rattle.std.specs.BTreeMap.{is_at}
-use Rattle.std.proofs.lemmas.Bool.Decides.{Decides-eqb}
 use Rattle.std.proofs.lemmas.List.Elements.{All-contains}
 use Rattle.std.proofs.lemmas.Option.{slice_get-get_or}
 use Rattle.lore_base.specs.Bytes.{bytes_cmp}
@@ -14,10 +13,11 @@ use Rattle.lore_base.specs.TargetSets.{ListsInOrder, HasTexts, LeavesTo}
 use Rattle.lore_base.specs.Walks.{Walk, edge_of}
 use Rattle.lore_base.proofs.MemberLaws.{Contains-none, Contains-head, Contains-tail, Contains-cases}
 use Rattle.lore_base.proofs.NameLaws.{bound_found}
-use Rattle.oem_changes.proofs.AscentLaws.{some_ordered}
-use Rattle.oem_changes.proofs.ClosureLaws.{Contains-mapped}
-use Rattle.lore_base.proofs.ToldLaws.{IsTold, told_same, told_both, told_some, told_oid, told_by, told_member, told_paired}
+use Rattle.lore_base.proofs.ToldLaws.{IsTold, told_same, told_both, told_some, told_oid, told_member, told_paired}
 use Rattle.lore_base.proofs.ToldLaws.{told_bytes, passing, members_passing, AllPairs-passing}
+use Rattle.list_laws.proofs.AscentLaws.{some_ordered}
+use Rattle.list_laws.proofs.MemberLaws.{Contains-map}
+use Rattle.index_traits.proofs.ObjectLaws.{told_label}
 use Rattle.dataguide.proofs.StepLaws.{numbers_ordered, step_of, step_is}
 use Rattle.guide_query.specs.Types.{Oid, Label, Edge}
 use Rattle.guide_query.specs.GuideLines.{label_text, path_text, size_text}
@@ -45,11 +45,6 @@ told_set P told among within =
       },
     )
 
-told_label : (a b : Label) → IsTold (a ≡ b)
-told_label a b =
-    told_same (λ (same : a.0 ≡ b.0). λ i. record { 0 = same i }) (ap (λ (label : Label). label.0))
-    (told_by (a.0 == b.0) (Decides-eqb a.0 b.0))
-
 told_at : (xs : List (List ℕ)) (place : ℕ) (text : List ℕ) → IsTold (slice_get xs place ≡ Some text)
 told_at xs place text = by (slice_get xs place) refl
   where
@@ -69,7 +64,7 @@ module _ (edges : List Edge) where
   walk_within (label ∷ word) from oid walked =
       let rest = walk_within word walked.0 oid walked.2 in
       let child =
-      Contains-mapped (λ (edge : Edge). edge.child) edges (edge_of from label walked.0) walked.1 in
+      Contains-map (λ (edge : Edge). edge.child) edges (edge_of from label walked.0) walked.1 in
       elim (Contains-cases walked.0 (map (λ edge. edge.child) edges) oid rest) [
         | inl same ↦ Contains-tail from (map (λ edge. edge.child) edges) oid
             (subst (λ (o : Oid). Contains (map (λ edge. edge.child) edges) o) same child)
@@ -186,7 +181,7 @@ module _ (edges : List Edge) where
                 let both = members_passing P (told_leaving set) whole.0 label in (
                   λ at. (both.0 at).1,
                   λ h. both.1 (
-                    whole.1.kept label (Contains-mapped (λ (edge : Edge). edge.label) edges
+                    whole.1.kept label (Contains-map (λ (edge : Edge). edge.label) edges
                         (edge_of h.1.from label h.0) h.1.edge),
                     h,
                   ),

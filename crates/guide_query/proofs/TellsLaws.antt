@@ -4,8 +4,9 @@ use Rattle.std.proofs.lemmas.List.Elements.{All-contains}
 use Rattle.lore_base.specs.Walks.{Walk}
 use Rattle.lore_base.specs.TargetSets.{LabelPath, IsTargetSet, IsStep, LeadsTo}
 use Rattle.lore_base.proofs.MemberLaws.{Contains-none, Contains-head, Contains-cases}
+use Rattle.list_laws.proofs.PlaceLaws.{Contains-from_place, place_of_member}
 use Rattle.dataguide.specs.Guides.{GuideGraph, StandsFor, HasItsSteps, IsEntry, HasSet, HasEdge, sets_of}
-use Rattle.dataguide.proofs.PlaceLaws.{Contains-at, at-Contains, at-map, at-unmap, zip-left}
+use Rattle.set_steps.proofs.PlaceLaws.{at-map, at-unmap, zip-left}
 use Rattle.dataguide.proofs.StopLaws.{target-none}
 use Rattle.dataguide.proofs.TargetSteps.{step-target}
 use Rattle.dataguide.proofs.StepLaws.{step_of, step_is}
@@ -22,7 +23,7 @@ module _ (names : List (List ℕ × Oid)) (edges : List Edge) (guide : GuideGrap
   edge-steps node next set label has edge =
       let steps =
       All-contains (HasItsSteps edges guide.nodes) guide.nodes edge.0 stands.steps
-      (Contains-at guide.nodes node.0 edge.0 edge.1) in
+      (Contains-from_place guide.nodes node.0 edge.0 edge.1) in
       let step = (steps.exact label next).0 edge.2 in
       let both : Some (edge.0).set ≡ Some set =
       sym (at-map (λ (n : GuideNode). n.set) guide.nodes node.0 edge.0 edge.1) ∙ has in
@@ -37,7 +38,7 @@ module _ (names : List (List ℕ × Oid)) (edges : List Edge) (guide : GuideGrap
       let from = at-unmap (λ (n : GuideNode). n.set) guide.nodes node.0 set has in
       let steps =
       All-contains (HasItsSteps edges guide.nodes) guide.nodes from.0 stands.steps
-      (Contains-at guide.nodes node.0 from.0 from.1) in
+      (Contains-from_place guide.nodes node.0 from.0 from.1) in
       let step_there = subst (λ (s : List Oid). IsStep edges s label to) (sym from.2) step in
       (from.0, from.1, (steps.exact label next).1 (to, there, step_there))
 
@@ -66,7 +67,7 @@ module _ (names : List (List ℕ × Oid)) (edges : List Edge) (guide : GuideGrap
           target = step-target edges named done label set to target (step_is edges set label);
           some = λ empty. Contains-none oid (subst (λ (l : List Oid). Contains l oid) empty there);
         } in
-        let at = at-Contains (sets_of guide.nodes) to ((stands.nodes.exact to).1 (path, leads)) in
+        let at = place_of_member (sets_of guide.nodes) to ((stands.nodes.exact to).1 (path, leads)) in
         (record { 0 = at.0 }, at.1)
 
     -- what is walked to from a member of a target set is led to

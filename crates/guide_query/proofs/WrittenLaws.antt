@@ -4,8 +4,8 @@ use Rattle.std.proofs.Common.{length-append}
 use Rattle.std.specs.List.{slice_get}
 use Rattle.std.proofs.lemmas.Bool.{cases_lt}
 use Rattle.std.proofs.lemmas.List.{take_at, take-append-le}
+use Rattle.list_laws.proofs.PlaceLaws.{slice_get-append_left, slice_get-push}
 use Rattle.dataguide.specs.Guides.{GuideGraph}
-use Rattle.dataguide.proofs.PlaceLaws.{at-append, at-push}
 use Rattle.guide_query.specs.Types.{Origin}
 use Rattle.guide_query.specs.inside.Written.{size_at, origin_at, node_line, AreWritten}
 
@@ -19,14 +19,14 @@ module _ (guide : GuideGraph) (labels : List (List ℕ)) (origins : List Origin)
       | inl early ↦ (
           let front : take k (lines ++ line ∷ []) ≡ take k lines =
           take-append-le k lines (line ∷ []) (omega (arith, early, before.long)) in
-          at-append lines (line ∷ []) k (node_line guide labels (take k lines) (origin_at origins k)
+          slice_get-append_left lines (line ∷ []) k (node_line guide labels (take k lines) (origin_at origins k)
           (size_at guide.nodes k)) (before.each k early)
           ∙ ap (λ (l : List (List ℕ)). Some (node_line guide labels l (origin_at origins k) (size_at guide.nodes k)))
           (sym front))
       | inr late ↦ (
           let here : k ≡ p = omega (arith, late, less) in
           let last : slice_get (lines ++ line ∷ []) p ≡ Some line =
-          subst (λ (n : ℕ). slice_get (lines ++ line ∷ []) n ≡ Some line) before.long (at-push lines line) in
+          subst (λ (n : ℕ). slice_get (lines ++ line ∷ []) n ≡ Some line) before.long (slice_get-push lines line) in
           let front : take p (lines ++ line ∷ []) ≡ lines = take_at lines (line ∷ []) p before.long in
           let whole : slice_get (lines ++ line ∷ []) p
           ≡ Some (node_line guide labels (take p (lines ++ line ∷ [])) (origin_at origins p) (size_at guide.nodes p)) =

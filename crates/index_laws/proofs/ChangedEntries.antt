@@ -1,6 +1,7 @@
 -- What one edge more or less and a changed value do to entries.
 use Rattle.std.proofs.Common.{◌≡◌, ◌≢◌, ◌==◌, ◌⊎◌, true, false, List, Contains, refl, sym, ap, subst, ◌∙◌, inl, inr, arith}
 use Rattle.std.proofs.lemmas.Bool.Decides.{nat_tests}
+use Rattle.index_traits.proofs.ObjectLaws.{same_oid, same_label}
 use Rattle.index_traits.specs.Types.{Oid, Label, Edge, Value, Complex}
 use Rattle.index_traits.specs.declared.entries.ValueEntry.{ValueEntry}
 use Rattle.index_laws.specs.EntryLaws.{IsEntryOf, HasChangedValue, LinksGainTheEdge, EntriesGainAtMostOne, LinksLoseTheEdge, EntriesLoseAtMostOne, EntriesStayWithAnotherParent, EntriesGoWithTheLastEdge, EntriesOfOthersStay, EntriesChangeTheirValue, EntriesAreOfTheNewValue, EntriesGoWithAComplexValue}
@@ -37,12 +38,6 @@ links_lose_the_edge edges after links links_after edge loses before then other =
   λ at. (let kept = (loses other).0 ((then.exact other).0 at) in ((before.exact other).1 kept.0, kept.1)),
   λ both. (then.exact other).1 ((loses other).1 ((before.exact other).0 both.0, both.1)),
 )
-
-same_oid : (a b : Oid) → (a.0 == b.0) ≡ true → a ≡ b
-same_oid a b h = let number : a.0 ≡ b.0 = grind (arith, nat_tests) in ap (λ n. record { 0 = n }) number
-
-same_label : (a b : Label) → (a.0 == b.0) ≡ true → a ≡ b
-same_label a b h = let number : a.0 ≡ b.0 = grind (arith, nat_tests) in ap (λ n. record { 0 = n }) number
 
 other_oid : (a b : Oid) → (a.0 == b.0) ≡ false → a ≢ b
 other_oid a b h same = let number : a.0 ≡ b.0 = ap (λ (o : Oid). o.0) same in grind (arith, nat_tests)

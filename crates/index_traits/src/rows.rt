@@ -1,10 +1,11 @@
 ghost use Rattle.std.specs.Prelude.{◌≡◌, ◌↔◌, ◌<◌, List, Some, length, replicate, slice_get, slice_set};
-ghost use Rattle.std.specs.Prelude.{IsTrue, IfOk};
+ghost use Rattle.std.specs.Prelude.{IsTrue, IfOk, IfSome};
 ghost use Rattle.lore_base.specs.Walks.{oid_of};
 ghost use Rattle.index_traits.specs.Types.{Oid as TheOid, RANGES as THE_RANGES};
+ghost use Rattle.index_traits.specs.PartRows.{NonePasses, AreAllThatFit};
 
 use lore_base::limits::RANGES;
-use lore_base::{NoMemory, Oid, Steps};
+use lore_base::{NoMemory, Oid, OidBuf, Steps};
 use smallvec::SmallVec;
 use std::alloc::Global;
 use std::marker::Model;
@@ -82,4 +83,36 @@ pub trait RowTest {
         steps: &mut Steps<L>,
     ) -> Result<bool, NoMemory>
         ensures { IfOk result (λ answer. IsTrue answer ↔ passes self.now row.now) };
+
+    /// Whether the objects in the known slots tell already that the condition holds of no row that
+    /// has them there. A test that doesn't look answers false.
+    fn rules_out<L: Ledger>(
+        &self,
+        alloc: Global,
+        known: &[bool; RANGES],
+        row: &Row,
+        steps: &mut Steps<L>,
+    ) -> Result<bool, NoMemory>
+        ensures { IfOk result (λ answer. IsTrue answer
+            → NonePasses (passes self.now) known.now row.now) }
+    {
+        Ok(false)
+    }
+
+    /// Objects, ascending, among which is the one in the slot of each row that has the row's
+    /// objects in the known slots and of which the condition holds; None where the test can't
+    /// list them.
+    fn fitting<L: Ledger>(
+        &self,
+        alloc: Global,
+        known: &[bool; RANGES],
+        slot: u32,
+        row: &Row,
+        steps: &mut Steps<L>,
+    ) -> Result<Option<OidBuf>, NoMemory>
+        ensures { IfOk result (λ found. IfSome found (λ oids.
+            AreAllThatFit (passes self.now) known.now slot row.now oids)) }
+    {
+        Ok(None)
+    }
 }

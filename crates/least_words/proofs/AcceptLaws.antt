@@ -5,6 +5,7 @@ use Rattle.std.specs.Option.{option_map}
 use Rattle.std.proofs.lemmas.List.Elements.{All-contains}
 use Rattle.std.proofs.lemmas.List.Sums.{sum_by-cons}
 use Rattle.std.proofs.lemmas.Option.{slice_get-get_or}
+use Rattle.list_laws.proofs.MemberLaws.{Contains-from_map}
 use Rattle.lore_base.specs.Walks.{Walk}
 use Rattle.graph_search.proofs.PriceLaws.{IsPriced, sum_by-places}
 use Rattle.path_expr.specs.Machines.{Machine, IsIn, Runs, reads_on}
@@ -16,7 +17,6 @@ use Rattle.least_words.specs.MachineWords.{IsLeastOfPath}
 use Rattle.least_words.specs.inside.Arcs.{LeadsBy, reads_at}
 use Rattle.least_words.specs.inside.Groups.{spot, Found, IsMetBy, AreEnds}
 use Rattle.least_words.specs.inside.Searches.{LeadsAlong, IsLedTo, AreFound}
-use Rattle.least_words.proofs.ListLaws.{unmapped}
 use Rattle.least_words.proofs.FollowLaws.{word_of_place}
 
 -- words that pass alike have the same least one
@@ -116,7 +116,7 @@ module _ (labels : List (List ℕ)) (machine : Machine) (edges : List Edge) wher
             spent,
             sum_spots found.places,
             sum_by-places IsIn (END + 1) (reads_out edges) cost (map spot found.places) done.orderly.apart priced all (λ there met.
-                let at = unmapped spot found.places (there.0, met.0) met.1 in
+                let at = Contains-from_map spot found.places (there.0, met.0) met.1 in
                 let place : Place = at.0 in
                 let own = word_of_place found place done.orderly at.1 in
                 let led = done.sound there own.0 (place.group, (place, at.1, ap (λ (p : Oid × States). p.0) at.2, subst (λ (s : States). IsIn s there.1) (sym (ap (λ (p : Oid × States). p.1) at.2)) met.2, refl), own.1) in

@@ -14,14 +14,16 @@ use Rattle.path_expr.specs.Machines.{IsIn}
 use Rattle.least_words.specs.Types.{Oid, Label, States, Arc, Place}
 use Rattle.lore_base.specs.LeastWords.{IsUpTo}
 use Rattle.least_words.specs.inside.Groups.{spot, Found, IsMetIn, IsMetBy, IsMetUpTo, IsOrderly, IsAhead, ComesBy, Follows}
-use Rattle.least_words.proofs.ListLaws.{in_list, one_at_place, get_pushed, Extends-refl, Extends-trans, kept_at, kept_in, length-extends, was_at, unmapped}
+use Rattle.least_words.proofs.ListLaws.{one_at_place, Extends-refl, kept_at, length-extends, was_at}
 use Rattle.least_words.proofs.GroupLaws.{OpensWord}
 use Rattle.lore_base.proofs.LeastWordLaws.{IsUpTo-refl, label_up_to}
+use Rattle.list_laws.proofs.PlaceLaws.{Contains-from_place, slice_get-push, Extends-trans, Contains-extends}
+use Rattle.list_laws.proofs.MemberLaws.{Contains-from_map}
 
 -- what is met stays met as more is found
 module _ (old new : Found) (places : Extends old.places new.places) (words : Extends old.words new.words) where
   pub IsMetIn-kept : (there : Oid × ℕ) (group : ℕ) → IsMetIn old there group → IsMetIn new there group
-  IsMetIn-kept there group met = (met.0, kept_in old.places new.places met.0 places met.1, met.2, met.3, met.4)
+  IsMetIn-kept there group met = (met.0, Contains-extends old.places new.places met.0 places met.1, met.2, met.3, met.4)
 
   pub IsMetBy-kept : (there : Oid × ℕ) (word : List Label) → IsMetBy old there word → IsMetBy new there word
   IsMetBy-kept there word met = (met.0, IsMetIn-kept there met.0 met.1, kept_at old.words new.words met.0 word words met.2)
@@ -39,12 +41,12 @@ word_of_place found place orderly among =
 pub met_already : (found : Found) (word : List Label) (label : Label) (there : Oid × ℕ) → IsOrderly found → IsAhead found.words word label
     → IsMet IsIn (map spot found.places) there → IsMetUpTo found there (word ++ label ∷ [])
 met_already found word label there orderly ahead met =
-    let at = unmapped spot found.places (there.0, met.0) met.1 in
+    let at = Contains-from_map spot found.places (there.0, met.0) met.1 in
     let place : Place = at.0 in
     let own = word_of_place found place orderly at.1 in (
       own.0,
       (place.group, (place, at.1, ap (λ (p : Oid × States). p.0) at.2, subst (λ (s : States). IsIn s there.1) (sym (ap (λ (p : Oid × States). p.1) at.2)) met.2, refl), own.1),
-      ahead own.0 (in_list found.words place.group own.0 own.1),
+      ahead own.0 (Contains-from_place found.words place.group own.0 own.1),
     )
 
 -- one arc alone
@@ -88,7 +90,7 @@ module _ (old : Found) (word : List Label) (arc : Arc) (orderly : IsOrderly old)
           come = λ k other behind at.
               let last : k ≡ length old.places = omega (arith, behind, slice_get_within new.places k other at, ap length pushed, length_push old.places place) in
               let same : place ≡ other = one_at_place new.places k place other
-              (ap (slice_get new.places) last ∙ ap (λ l. slice_get l (length old.places)) pushed ∙ get_pushed old.places place) at in
+              (ap (slice_get new.places) last ∙ ap (λ l. slice_get l (length old.places)) pushed ∙ slice_get-push old.places place) at in
               subst (λ (p : Place). ComesBy new.words word (arc ∷ []) p) same
               (arc, Contains-head arc [], sym at_oid, λ state h. among_arc state (subst (λ (s : States). IsIn s state) at_states h), opens.at);
           made = λ other among. elim (opens.made other among) [

@@ -12,8 +12,9 @@ use Rattle.lore_base.specs.Lists.{Extends}
 use Rattle.least_words.specs.Types.{Label, Origin}
 use Rattle.lore_base.specs.LeastWords.{shortlex_cmp}
 use Rattle.least_words.specs.inside.Groups.{words_on, words_of, AreBack, IsLast, Opens, IsAhead}
-use Rattle.least_words.proofs.ListLaws.{in_list, one_at_place, get_front, get_pushed, Extends-refl, Extends-trans, kept_at}
+use Rattle.least_words.proofs.ListLaws.{one_at_place, Extends-refl, kept_at}
 use Rattle.lore_base.proofs.LeastWordLaws.{before_itself, before_back, before_or_same}
+use Rattle.list_laws.proofs.PlaceLaws.{Contains-from_place, slice_get-append_left, slice_get-push, Extends-trans}
 
 pub words_on-push : (words : List (List Label)) (origins : List Origin) (origin : Origin)
     → words_on words (origins ++ origin ∷ []) ≡ words_on words origins ++ (get_or (words_on words origins) origin.group [] ++ origin.label ∷ []) ∷ []
@@ -49,9 +50,9 @@ word_on words (first ∷ origins) zero origin at back =
     same (
       word,
       kept_at (words ++ own ∷ []) (words_on words (first ∷ origins)) first.group word extends
-          (get_front words (own ∷ []) first.group word (slice_get-get_or words first.group [] below)),
+          (slice_get-append_left words (own ∷ []) first.group word (slice_get-get_or words first.group [] below)),
       ap (slice_get (words_on words (first ∷ origins))) (add-zero (length words))
-          ∙ kept_at (words ++ own ∷ []) (words_on words (first ∷ origins)) (length words) own extends (get_pushed words own),
+          ∙ kept_at (words ++ own ∷ []) (words_on words (first ∷ origins)) (length words) own extends (slice_get-push words own),
     )
 word_on words (first ∷ origins) (suc k) origin at back =
     let own = get_or words first.group [] ++ first.label ∷ [] in
@@ -101,7 +102,7 @@ module _ (origin : Origin) (old : List Origin) (word : List Label) (back : AreBa
     (at : slice_get (words_of old) origin.group ≡ Some word) (ahead : IsAhead (words_of old) word origin.label) where
   opens_again : IsLast old origin → OpensWord (words_of old) (words_of old) (word ++ origin.label ∷ []) (length old)
   opens_again last =
-      let stands : slice_get old (length last.0) ≡ Some origin = ap (λ l. slice_get l (length last.0)) last.1 ∙ get_pushed last.0 origin in
+      let stands : slice_get old (length last.0) ≡ Some origin = ap (λ l. slice_get l (length last.0)) last.1 ∙ slice_get-push last.0 origin in
       let long : length old ≡ suc (length last.0) = omega (arith, ap length last.1, length_push last.0 origin) in
       let found = word_of_group old (length last.0) origin back stands in
       let same : found.0 ≡ word = one_at_place (words_of old) origin.group found.0 word found.1 at in
@@ -121,7 +122,7 @@ module _ (origin : Origin) (old : List Origin) (word : List Label) (back : AreBa
         let next = get_or (words_of old) (k + 1) [] in
         let there = slice_get-get_or (words_of old) (k + 1) [] more in
         absurd (before_back own next (rising_at (words_of old) rising k (k + 1) own next (omega arith) here there)
-        (ahead next (in_list (words_of old) (k + 1) next there)))
+        (ahead next (Contains-from_place (words_of old) (k + 1) next there)))
     | inr all ↦ omega (arith, all, slice_get_within (words_of old) k (word ++ origin.label ∷ []) here)
   ]
 
@@ -155,7 +156,7 @@ module _ (origin : Origin) (old : List Origin) (word : List Label) (back : AreBa
         extends = (own ∷ [], is);
         at = ap (slice_get (words_of (old ++ origin ∷ []))) (omega (arith, length_push old origin, length-words_of old))
             ∙ ap (λ l. slice_get l (length (words_of old))) is
-            ∙ get_pushed (words_of old) own;
+            ∙ slice_get-push (words_of old) own;
         last = omega (arith, length-words_of (old ++ origin ∷ []));
         made = λ other among. elim (Contains-push_cases (words_of old) own other (subst (λ l. Contains l other) is among)) [
           | inl earlier ↦ inl earlier
@@ -181,10 +182,10 @@ AreBack-open origin old new back within opens = elim opens [
   | inl same ↦ subst AreBack (sym same.1) back
   | inr pushed ↦ subst AreBack (sym pushed.1) (λ k other at. elim (cases_lt k (length old)) [
     | inl earlier ↦ back k other (slice_get-get_or old k origin earlier ∙ ap Some (one_at_place (old ++ origin ∷ []) k (get_or old k origin) other
-        (get_front old (origin ∷ []) k (get_or old k origin) (slice_get-get_or old k origin earlier)) at))
+        (slice_get-append_left old (origin ∷ []) k (get_or old k origin) (slice_get-get_or old k origin earlier)) at))
     | inr last ↦
         let here : k ≡ length old = omega (arith, last, slice_get_within (old ++ origin ∷ []) k other at, length_push old origin) in
-        let same : origin ≡ other = one_at_place (old ++ origin ∷ []) (length old) origin other (get_pushed old origin) (subst (λ i. slice_get (old ++ origin ∷ []) i ≡ Some other) here at) in
+        let same : origin ≡ other = one_at_place (old ++ origin ∷ []) (length old) origin other (slice_get-push old origin) (subst (λ i. slice_get (old ++ origin ∷ []) i ≡ Some other) here at) in
         subst (λ (o : Origin). o.group ≤ k) same (omega (arith, within, here))
   ])
 ]

@@ -12,10 +12,11 @@ use Rattle.lore_base.specs.LeastWords.{shortlex_cmp, IsUpTo}
 use Rattle.least_words.specs.inside.Arcs.{LeadsFromSome, IsListed}
 use Rattle.least_words.specs.inside.Groups.{spot, Found, AreApartPlaces, IsMetIn, IsMetBy, IsMetUpTo, IsOrderly, Follows}
 use Rattle.least_words.specs.inside.Searches.{LeadsAlong, IsLedTo, IsSearched, AreFound}
-use Rattle.least_words.proofs.ListLaws.{in_list, at_place, one_at_place, kept_at, was_at, in_part, part_at}
+use Rattle.least_words.proofs.ListLaws.{one_at_place, kept_at, was_at, in_part, part_at}
 use Rattle.least_words.proofs.GroupLaws.{rising_at}
 use Rattle.least_words.proofs.FollowLaws.{IsMetBy-kept, IsMetUpTo-kept, word_of_place}
 use Rattle.lore_base.proofs.LeastWordLaws.{IsUpTo-refl, IsUpTo-trans, IsUpTo-push, before_up_to, before_push}
+use Rattle.list_laws.proofs.PlaceLaws.{Contains-from_place, place_of_member}
 
 module _ {X : Type 0} (leads : X → Label → X → Type 0) where
   along_push : (word : List Label) (x y z : X) (label : Label) → LeadsAlong leads x word y → leads y label z → LeadsAlong leads x (word ++ label ∷ []) z
@@ -65,7 +66,7 @@ module _ (leads : Oid × ℕ → Label → Oid × ℕ → Type 0) where
           subst (IsLedTo leads (λ (t : Oid × ℕ). (from ≡ t.0) × IsIn starts t.1) there) empty (there, (oid, state), refl);
       closed = λ k place word below. absurd (omega (arith, below));
       ahead = λ place word at here label other among.
-          let same = only_place place (in_list first_found.places 0 place at) in
+          let same = only_place place (Contains-from_place first_found.places 0 place at) in
           let empty : [] ≡ word = same_Some [] word (ap (slice_get first_found.words) (ap (λ (p : Place). p.group) same) ∙ here) in
           subst (λ w. IsUpTo w (word ++ label ∷ [])) (only_word other among)
           (subst (λ w. IsUpTo [] (w ++ label ∷ [])) empty (before_up_to [] (label ∷ []) refl));
@@ -88,16 +89,16 @@ module _ (leads : Oid × ℕ → Label → Oid × ℕ → Type 0) where
         let state : ℕ = from.2.0 in
         let group : place.group ≡ first.group = same part.0 place part.1 part.2 part.3 in
         IsLedTo-push leads Starts word (place.oid, state) there arc.label
-        (done.sound (place.oid, state) word (first.group, (place, in_list old.places part.0 place part.3, refl, from.2.1, group), has)) from.2.2
+        (done.sound (place.oid, state) word (first.group, (place, Contains-from_place old.places part.0 place part.3, refl, from.2.1, group), has)) from.2.2
 
     more_sound : (there : Oid × ℕ) (found : List Label) → IsMetBy new there found → IsLedTo leads Starts there found
     more_sound there found met =
         let place : Place = met.1.0 in
-        let at = at_place new.places place met.1.1 in
+        let at = place_of_member new.places place met.1.1 in
         let here : slice_get new.words place.group ≡ Some found = ap (slice_get new.words) met.1.4 ∙ met.2 in
         elim (cases_lt at.0 (length old.places)) [
           | inl earlier ↦
-              let among = in_list old.places at.0 place (was_at old.places new.places at.0 place follows.places earlier at.1) in
+              let among = Contains-from_place old.places at.0 place (was_at old.places new.places at.0 place follows.places earlier at.1) in
               let own = word_of_place old place done.orderly among in
               let is : own.0 ≡ found = one_at_place new.words place.group own.0 found (kept_at old.words new.words place.group own.0 follows.words own.1) here in
               subst (IsLedTo leads Starts there) is (done.sound there own.0 (place.group, (place, among, met.1.2, met.1.3, refl), own.1))
@@ -113,7 +114,7 @@ module _ (leads : Oid × ℕ → Label → Oid × ℕ → Type 0) where
         → (label : Label) (there : Oid × ℕ) → leads (place.oid, state) label there → IsMetUpTo new there (own ++ label ∷ [])
     more_closed k place own before at here state is_in label there step =
         let was : slice_get old.places k ≡ Some place = was_at old.places new.places k place follows.places (omega (arith, before, within)) at in
-        let among = in_list old.places k place was in
+        let among = Contains-from_place old.places k place was in
         let earlier = word_of_place old place done.orderly among in
         let is : earlier.0 ≡ own = one_at_place new.words place.group earlier.0 own (kept_at old.words new.words place.group earlier.0 follows.words earlier.1) here in
         elim (cases_lt k next) [
@@ -190,8 +191,8 @@ module _ (leads : Oid × ℕ → Label → Oid × ℕ → Type 0) where
   one_met found there g h apart first second =
       let a : Place = first.0 in
       let b : Place = second.0 in
-      let at_a = at_place found.places a first.1 in
-      let at_b = at_place found.places b second.1 in
+      let at_a = place_of_member found.places a first.1 in
+      let at_b = place_of_member found.places b second.1 in
       elim (cases_lt at_a.0 at_b.0) [
         | inl below ↦ absurd (spots_apart found.places at_a.0 at_b.0 a b there.1 apart below at_a.1 at_b.1 (first.2 ∙ sym second.2) first.3 second.3)
         | inr above ↦ elim (cases_lt at_b.0 at_a.0) [
@@ -214,7 +215,7 @@ module _ (leads : Oid × ℕ → Label → Oid × ℕ → Type 0) where
     goes_on there next word label met step =
         let own : List Label = met.0 in
         let place : Place = met.1.1.0 in
-        let at = at_place found.places place met.1.1.1 in
+        let at = place_of_member found.places place met.1.1.1 in
         let here : slice_get found.words place.group ≡ Some own = ap (slice_get found.words) met.1.1.4 ∙ met.1.2 in
         let then = done.closed at.0 place own (slice_get_within found.places at.0 place at.1) at.1 here there.1 met.1.1.3 label next
         (subst (λ o. leads (o, there.1) label next) (sym met.1.1.2) step) in

@@ -3,29 +3,22 @@ use Rattle.std.proofs.Common.{◌≡◌, ◌<◌, ◌↔◌, ◌==◌, ◌&&◌,
 use Rattle.std.proofs.lemmas.Bool.Decides.{nat_tests}
 use Rattle.std.proofs.lemmas.List.{get_or-map, length-map}
 use Rattle.std.proofs.lemmas.List.Elements.{All-contains, Contains-get_or}
+use Rattle.list_laws.proofs.MemberLaws.{Contains-map}
+use Rattle.index_traits.proofs.ObjectLaws.{same_oid, same_label}
 use Rattle.index_traits.specs.Entries.{AreLinks, AreAscendingLinks}
 use Rattle.sorted_list.specs.SortedLists.{Ascends, IsChange, IsLessWith}
-use Rattle.link_index.specs.Types.{Oid, Label, Edge}
+use Rattle.link_index.specs.Types.{Edge}
 use Rattle.link_index.specs.declared.link.Link.{Link}
 use Rattle.link_index.specs.inside.LinkEdges.{edge_at, link_at, edges_of, order, AreSortedLinks}
 
-mapped : {X Y : Type 0} (f : X → Y) (xs : List X) (x : X) → Contains xs x → Contains (map f xs) (f x)
-mapped f xs x at = (at.0, omega (arith, at.1, length-map xs f), get_or-map f xs at.0 x (f x) at.1 ∙ ap f at.2)
-
 -- an edge stands among edges where its link stands among their links
 pub at_edge : (links : List Link) (link : Link) → Contains links link → Contains (edges_of links) (edge_at link)
-at_edge links link at = mapped edge_at links link at
+at_edge links link at = Contains-map edge_at links link at
 
 pub at_link : (links : List Link) (edge : Edge) → Contains (edges_of links) edge → Contains links (link_at edge)
 at_link links edge at =
     let lt : at.0 < length links = omega (arith, at.1, length-map links edge_at) in
     (at.0, lt, ap link_at (sym (get_or-map edge_at links at.0 (link_at edge) edge lt) ∙ at.2))
-
-same_oid : (a b : Oid) → (a.0 == b.0) ≡ true → a ≡ b
-same_oid a b h = let number : a.0 ≡ b.0 = grind (arith, nat_tests) in ap (λ n. record { 0 = n }) number
-
-same_label : (a b : Label) → (a.0 == b.0) ≡ true → a ≡ b
-same_label a b h = let number : a.0 ≡ b.0 = grind (arith, nat_tests) in ap (λ n. record { 0 = n }) number
 
 -- links that compare equal are the same
 pub same_link : (a b : Link) → ((a.child.0 == b.child.0) && ((a.label.0 == b.label.0) && (a.parent.0 == b.parent.0))) ≡ true → a ≡ b
@@ -48,7 +41,7 @@ sorted-links edges found sorted is ascend members = record {
         let there = rw is at ((members link).0 at) in
         let lt : there.0 < length edges = omega (arith, there.1, length-map edges link_at) in
         (there.0, lt, ap edge_at (sym (get_or-map link_at edges there.0 (edge_at link) link lt) ∙ there.2))),
-    λ at. (members link).1 (rw is (mapped link_at edges (edge_at link) at)),
+    λ at. (members link).1 (rw is (Contains-map link_at edges (edge_at link) at)),
   );
 }
 

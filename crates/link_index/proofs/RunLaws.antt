@@ -1,15 +1,16 @@
 -- The run of links to one object, among ascending links.
-use Rattle.std.proofs.Common.{◌≡◌, ℕ, ◌+◌, ◌<◌, ◌≤◌, Bool, true, false, Less, Equal, Greater, Option, Some, None, IfSome, List, [], ◌∷◌, ◌++◌, length, get_or, take, drop, All, refl, sym, ap, subst, ◌∙◌, inl, inr, arith, length-take, length-drop}
+use Rattle.std.proofs.Common.{◌≡◌, ℕ, ◌<◌, ◌≤◌, Bool, true, false, Less, Equal, Greater, Option, Some, None, IfSome, List, [], ◌++◌, length, get_or, take, drop, All, refl, sym, ap, ◌∙◌, inl, inr, arith, length-take}
 use Rattle.std.specs.declared.cmp.Ordering.{Ordering}
 use Rattle.std.specs.Ordering.{is_lt, is_le, is_eq, ordering_index}
-use Rattle.std.specs.List.{filter, AllWithin}
+use Rattle.std.specs.List.{filter}
 use Rattle.std.specs.List.Sorted.{IsNonDecreasingBy, IsPartitionPoint, IsPartitionedBy}
 use Rattle.std.proofs.lemmas.Bool.{true≢false, cases_lt}
 use Rattle.std.proofs.lemmas.Bool.Decides.{nat_tests}
-use Rattle.std.proofs.lemmas.List.{append-nil, get_or-take, get_or-drop, get_or-map, length-map, take-append-drop}
-use Rattle.std.proofs.lemmas.List.Elements.{All-tail, filter-append, filter_passes}
+use Rattle.std.proofs.lemmas.List.{append-nil, get_or-take, get_or-map, length-map, take-append-drop}
+use Rattle.std.proofs.lemmas.List.Elements.{filter-append, filter_passes}
 use Rattle.std.proofs.lemmas.List.Kept.{AllPairs-filter}
 use Rattle.lore_base.proofs.MemberLaws.{Contains-filter, unfiltered}
+use Rattle.list_laws.proofs.PartLaws.{filter_all, filter_none, All-take_within, All-drop_within}
 use Rattle.lore_base.specs.Walks.{entering_cmp, ListsEntering}
 use Rattle.sorted_list.specs.SortedLists.{Ascends}
 use Rattle.link_index.specs.Types.{Oid, Label}
@@ -17,23 +18,6 @@ use Rattle.link_index.specs.declared.link.Link.{Link}
 use Rattle.link_index.specs.inside.LinkEdges.{edge_at, link_at, edges_of, order}
 use Rattle.link_index.specs.inside.LinkRuns.{compared, run_to}
 use Rattle.link_index.proofs.LinkLaws.{at_edge, at_link}
-
-filter-passed : {X : Type 0} (p : X → Bool) (xs : List X) → All (λ x. p x ≡ true) xs → filter p xs ≡ xs
-filter-passed p [] h = refl
-filter-passed p (x ∷ xs) h = rw (h 0 x (omega arith)) (ap (λ l. x ∷ l) (filter-passed p xs (All-tail (λ y. p y ≡ true) x xs h)))
-
-filter-failed : {X : Type 0} (p : X → Bool) (xs : List X) → All (λ x. p x ≡ false) xs → filter p xs ≡ []
-filter-failed p [] h = refl
-filter-failed p (x ∷ xs) h = rw (h 0 x (omega arith)) (filter-failed p xs (All-tail (λ y. p y ≡ false) x xs h))
-
-All-front : {X : Type 0} (P : X → Type 0) (xs : List X) (n : ℕ) → AllWithin P xs 0 n → All P (take n xs)
-All-front P xs n h k d lt =
-    let below : k < n = omega (arith, length-take n xs) in
-    subst P (sym (get_or-take n xs k d below)) (h k d (omega arith) below)
-
-All-back : {X : Type 0} (P : X → Type 0) (xs : List X) (n : ℕ) → AllWithin P xs n (length xs) → All P (drop n xs)
-All-back P xs n h k d lt =
-    subst P (sym (get_or-drop n xs k d)) (h (n + k) d (omega arith) (omega (arith, length-drop n xs)))
 
 not_before : (o : Ordering) → is_lt o ≡ true → is_eq o ≡ false
 not_before Less h = refl
@@ -82,14 +66,14 @@ module _ {X : Type 0} (place : X → Ordering) where
       let rest = drop start xs in
       let p : X → Bool = λ x. is_eq (place x) in
       let lower : filter p (take start xs) ≡ []
-      = filter-failed p (take start xs) (λ k d lt. not_before _ (All-front (λ x. is_lt (place x) ≡ true) xs start low.0 k d lt)) in
+      = filter_none p (take start xs) (λ k d lt. not_before _ (All-take_within (λ x. is_lt (place x) ≡ true) xs start low.0 k d lt)) in
       let higher : filter p (drop len rest) ≡ []
-      = filter-failed p (drop len rest) (λ k d lt. not_behind _ (All-back (λ x. is_le (place x) ≡ false) rest len high.1 k d lt)) in
-      let not_lower : All (λ x. is_lt (place x) ≡ false) rest = All-back (λ x. is_lt (place x) ≡ false) xs start low.1 in
+      = filter_none p (drop len rest) (λ k d lt. not_behind _ (All-drop_within (λ x. is_le (place x) ≡ false) rest len high.1 k d lt)) in
+      let not_lower : All (λ x. is_lt (place x) ≡ false) rest = All-drop_within (λ x. is_lt (place x) ≡ false) xs start low.1 in
       let run : filter p (take len rest) ≡ take len rest
-      = filter-passed p (take len rest) (λ k d lt.
+      = filter_all p (take len rest) (λ k d lt.
       let below : k < len = omega (arith, length-take len rest) in
-      among _ (rw (get_or-take len rest k d below) (not_lower k d (omega (arith, length-take len rest)))) (All-front (λ x. is_le (place x) ≡ true) rest len high.0 k d lt)) in
+      among _ (rw (get_or-take len rest k d below) (not_lower k d (omega (arith, length-take len rest)))) (All-take_within (λ x. is_le (place x) ≡ true) rest len high.0 k d lt)) in
       let parts : filter p xs ≡ filter p (take start xs) ++ filter p rest = ap (filter p) (sym (take-append-drop start xs)) ∙ filter-append p (take start xs) rest in
       let parts_rest : filter p rest ≡ filter p (take len rest) ++ filter p (drop len rest) = ap (filter p) (sym (take-append-drop len rest)) ∙ filter-append p (take len rest) (drop len rest) in
       sym (parts ∙ ap (λ l. l ++ filter p rest) lower ∙ parts_rest ∙ ap (λ l. filter p (take len rest) ++ l) higher ∙ append-nil _ ∙ run)

@@ -3,7 +3,7 @@ use Rattle.std.specs.Prelude.{◌≢◌, ℕ, ◌+◌, ◌<◌, List, length, Co
 use Rattle.lore_base.specs.Types.{Oid, Edge, Value, Complex, Changes, Refusal}
 use Rattle.lore_base.specs.Types.{NEXT_NUMBER, LABELS, NAMES, OBJECTS, EDGES}
 use Rattle.lore_base.specs.Types.refusals
-use Rattle.lore_base.specs.GuideLimits.{PassesNodes, PassesCells}
+use Rattle.lore_base.specs.GuideLimits.{ExceedsNodes, ExceedsCells}
 use Rattle.lore_base.specs.Databases.{OemGraph, Database}
 use Rattle.lore_base.specs.ChangeSets.{HasChildren, IsGraphAfter}
 
@@ -40,15 +40,16 @@ ChangeCause labels graph changes refusals.TooManyObjects =
 ChangeCause labels graph changes refusals.TooManyEdges = Outgrows graph changes (λ after. length after.edges) EDGES
 ChangeCause labels graph changes _ = ⊥
 
--- in the graph after the changes label paths lead to more sets than the limit
+-- in the graph after the changes, of the sets that label paths lead to, in the order of these, the first that doesn't fit
+-- is one more than the limit
 abbrev pub LeadsToMore : OemGraph → Changes → ℕ → Type 0
 LeadsToMore graph changes limit =
-    (after : OemGraph) × IsGraphAfter graph changes after × PassesNodes limit after.names after.edges
+    (after : OemGraph) × IsGraphAfter graph changes after × ExceedsNodes limit after.names after.edges
 
--- here they lead to sets that have too many members, before there are more sets than the limit
+-- here with the first that doesn't fit there are too many members, and no more sets than the limit
 abbrev pub LeadsToLarger : OemGraph → Changes → ℕ → Type 0
 LeadsToLarger graph changes limit =
-    (after : OemGraph) × IsGraphAfter graph changes after × PassesCells limit after.names after.edges
+    (after : OemGraph) × IsGraphAfter graph changes after × ExceedsCells limit after.names after.edges
 
 -- the cause of each refusal of changes of a database
 abbrev pub DatabaseCause : Database → Changes → Refusal → Type 0

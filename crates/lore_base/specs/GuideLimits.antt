@@ -29,7 +29,7 @@ pub record AreFirstSets (names : List (List ℕ × Oid)) (edges : List Edge) (se
       → Contains sets set ⊎ All (λ first. ComesBefore first path) paths
 
 -- the first sets keep the limits, and the next one is one more than the limit
-pub record PassesNodes (limit : ℕ) (names : List (List ℕ × Oid)) (edges : List Edge) : Type 0 where
+pub record ExceedsNodes (limit : ℕ) (names : List (List ℕ × Oid)) (edges : List Edge) : Type 0 where
   pub sets : List (List Oid)
   pub next : List Oid
   pub first : AreFirstSets names edges (sets ++ next ∷ [])
@@ -38,7 +38,7 @@ pub record PassesNodes (limit : ℕ) (names : List (List ℕ × Oid)) (edges : L
 
 -- the first sets keep the limits, and with the next one, for which there is room among the nodes, there are too many
 -- members
-pub record PassesCells (limit : ℕ) (names : List (List ℕ × Oid)) (edges : List Edge) : Type 0 where
+pub record ExceedsCells (limit : ℕ) (names : List (List ℕ × Oid)) (edges : List Edge) : Type 0 where
   pub sets : List (List Oid)
   pub next : List Oid
   pub first : AreFirstSets names edges (sets ++ next ∷ [])

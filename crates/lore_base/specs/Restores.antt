@@ -17,7 +17,7 @@ database_from restored = record {
   mode = restored.mode;
 }
 
--- what is restored is such a database, and nothing is changed or taken away
+-- what is restored is a restorable database, and nothing is changed or taken away
 pub record IsWhole (restored : Restored) : Type 0 where
   pub sound : IsRestorable (database_from restored)
   pub no_values : restored.changes.values ≡ []

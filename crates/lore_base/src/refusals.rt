@@ -47,7 +47,7 @@ pub enum Refusal {
     TooManyObjects,
     /// There would be too many edges.
     TooManyEdges,
-    /// The guide would have more nodes than its limit.
+    /// The guide doesn't fit: its first set that doesn't is one more than the limit on nodes.
     GuideNodes,
     /// A number in a statement is out of its range.
     LimitRange,
@@ -55,7 +55,7 @@ pub enum Refusal {
     NotFresh,
     /// A dump stands for no valid database.
     BadRestore,
-    /// The sets of the guide would have too many members in all.
+    /// The guide doesn't fit: with its first set that doesn't, the sets have too many members.
     GuideCells,
     /// The history would have too many moments, or too much weight.
     HistoryFull,

@@ -11,8 +11,8 @@ use Rattle.lore_base.specs.Walks.{edge_cmp, out_of}
 use Rattle.lore_base.specs.Databases.{OemGraph, IsLinked, IsWellFormed, AreAscendingObjects, AreAscendingEdges}
 use Rattle.lore_base.proofs.ListLaws.{AllPairs-append, AllPairs-head, AllPairs-tail}
 use Rattle.lore_base.proofs.MemberLaws.{Contains-none, Contains-head, Contains-tail, Contains-cases, Contains-filter, unfiltered}
+use Rattle.list_laws.proofs.PairLaws.{AllPairs-nil}
 use Rattle.index_traits.proofs.OutLaws.{ascend-out_of}
-use Rattle.oem_changes.proofs.AscentLaws.{AllPairs-nil}
 use Rattle.oem_changes.proofs.EdgeOrderLaws.{one_edge_list}
 use Rattle.lore_db.specs.Types.{Oid, Edge, Value, Complex}
 

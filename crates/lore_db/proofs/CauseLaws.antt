@@ -8,6 +8,8 @@ use Rattle.lore_base.specs.ChangeCauses.{DatabaseCause, AddsToAtom, HidesChildre
 use Rattle.lore_base.specs.Verdicts.{IsClear, IsToldBy}
 use Rattle.lore_base.proofs.MemberLaws.{Contains-none}
 use Rattle.lore_base.proofs.VerdictLaws.{clear_both}
+use Rattle.list_laws.proofs.MemberLaws.{Contains-from_map}
+use Rattle.oem_text.proofs.NumberedLaws.{length-objects_of}
 use Rattle.lorel_trees.specs.Trees as t
 use Rattle.lorel_trees.specs.Trees.{RootedTree, SelectTree, StatementTree, LiteralTree}
 use Rattle.lorel_bind.specs.Answers.{IsAnswer}
@@ -17,7 +19,6 @@ use Rattle.oem_text.specs.Literals.{bodies, arcs_of, labels_of, edge_at}
 use Rattle.oem_text.specs.Parts as text
 use Rattle.updates.specs.Effects.{Pair, changes_by}
 use Rattle.updates.specs.Causes.{IsUpdate}
-use Rattle.updates.proofs.RowLaws.{map_found}
 use Rattle.lore_db.specs.Types.{Oid, Edge, Value, Cell, Changes, Refusal, LABELS, NEXT_NUMBER}
 use Rattle.lore_db.specs.Types.refusals
 use Rattle.lore_db.specs.Forms.{IsUnbuilt, reads, path_select, MakesChanges}
@@ -25,7 +26,6 @@ use Rattle.lore_db.specs.Effects.{object_cells, pair_of, AreRowsOf, loading, nam
 use Rattle.lore_db.specs.Statements.{IsUnbound, IsOutOfRange, IsNotFresh, IsNoDump, ChangesCause, Cause, cause_order}
 use Rattle.lore_db.specs.inside.Stages.{bound_order, found_order, fit_order}
 use Rattle.lore_db.proofs.ObjectRowLaws.{one_lists}
-use Rattle.lore_db.proofs.LiteralLaws.{length-objects_of}
 use Rattle.lore_db.proofs.OrderLaws.{AreAlike, told_left, told_right, told_between, clear_between, clear_alike, told_alike}
 use Rattle.lore_db.proofs.ChangedCauseLaws.{cause_same}
 
@@ -138,7 +138,7 @@ module _ (db : Database) (valid : IsValid db) (name : List ℕ) (literal : Liter
   made_anew : AddsToAtom db.graph (loading db name literal) → ⊥
   made_anew adds =
       let table = db.labels ++ first_uses db.labels (labels_of literal) in
-      let arc = map_found (edge_at db.graph.next table (bodies literal)) (arcs_of literal) adds.edge adds.added in
+      let arc = Contains-from_map (edge_at db.graph.next table (bodies literal)) (arcs_of literal) adds.edge adds.added in
       let number : db.graph.next + arc.0.parent ≡ adds.edge.parent.0 = ap (λ (e : Edge). e.parent.0) arc.2 in
       let old = All-contains (λ (o : Oid × Value). (1 ≤ o.0.0) × (o.0.0 < db.graph.next)) db.graph.objects (adds.edge.parent, adds.value)
       valid.restorable.rooted.well_formed.ordered.objects_numbered adds.valued in

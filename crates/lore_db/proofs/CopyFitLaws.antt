@@ -1,41 +1,30 @@
 -- Copies of a literal fit the database whose objects they come to.
-use Rattle.std.proofs.Common.{◌≡◌, inl, inr, ℕ, ◌+◌, ◌<◌, List, [], ◌∷◌, ◌++◌, length, All, Contains, subst, arith}
+use Rattle.std.proofs.Common.{inl, inr, ℕ, ◌+◌, ◌<◌, List, [], ◌∷◌, ◌++◌, length, All, Contains, subst}
 use Rattle.std.proofs.lemmas.List.Elements.{All-nil, All-cons, All-append, All-weaker, All-head, All-tail, All-contains, Contains-append_left, Contains-append_right}
 use Rattle.lore_base.specs.Names.{IsName, IsLabel}
 use Rattle.lore_base.specs.Walks.{oid_of, edge_of}
 use Rattle.lore_base.specs.Databases.{Database, IsLive, IsComplex, IsSized, IsLinked, IsValid}
-use Rattle.lore_base.specs.ChangeSets.{AreNumberedFrom, IsAtHand, IsComplexThen, Fits}
+use Rattle.lore_base.specs.ChangeSets.{IsAtHand, IsComplexThen, Fits}
 use Rattle.lore_base.specs.ChangeCauses.{AddsToAtom}
 use Rattle.lore_base.proofs.MemberLaws.{Contains-none, Contains-head, Contains-tail, Contains-cases}
-use Rattle.oem_changes.proofs.RootedLaws.{All-of_members}
+use Rattle.list_laws.proofs.MemberLaws.{All-from_members}
+use Rattle.oem_labels.proofs.LabelLaws.{first_uses_cover}
+use Rattle.oem_labels.proofs.PlaceLaws.{place_in-below}
+use Rattle.updates.proofs.CopyLaws.{copies_numbered}
 use Rattle.lorel_trees.specs.Trees.{LiteralTree}
 use Rattle.lorel_trees.specs.Formed.{IsFormedLiteral}
 use Rattle.oem_labels.specs.Labels.{first_uses, place_in, label_in}
 use Rattle.oem_text.specs.Literals.{bodies, labels_of, HasUndefined, objects_of, edges_of}
 use Rattle.updates.specs.Effects.{copied_objects, copied_edges, copying}
 use Rattle.lore_db.specs.Types.{Oid, Label, Edge, Value, LABELS, NEXT_NUMBER}
-use Rattle.lore_db.proofs.LabelFitLaws.{labels_come_new, labels_come_once, labels_come_formed, place_below, labels_there}
-use Rattle.lore_db.proofs.LiteralLaws.{Within, values_of, numbered_on, length-objects_of, objects_sized, labels_formed, edges_linked, first_live}
+use Rattle.lore_db.proofs.LabelFitLaws.{labels_come_new, labels_come_once, labels_come_formed}
+use Rattle.lore_db.proofs.LiteralLaws.{Within, objects_sized, labels_formed, edges_linked, first_live}
 use Rattle.lore_db.proofs.FitLaws.{at_most, no_names, complex_parent, growing_fits, arcs_labelled}
 
 -- ---- numbers
-AreNumberedFrom-append : (n : ℕ) (xs ys : List (Oid × Value)) → AreNumberedFrom n xs → AreNumberedFrom (n + length xs) ys → AreNumberedFrom n (xs ++ ys)
-AreNumberedFrom-append n [] ys h k = let same : n + 0 ≡ n = omega arith in subst (λ m. AreNumberedFrom m ys) same k
-AreNumberedFrom-append n (x ∷ xs) ys h k =
-    let same : n + length (x ∷ xs) ≡ (n + 1) + length xs = omega arith in
-    (h.0, AreNumberedFrom-append (n + 1) xs ys h.1 (subst (λ m. AreNumberedFrom m ys) same k))
-
 module _ (literal : LiteralTree) where
   abbrev size : ℕ
   size = length (bodies literal)
-
-  copies_numbered : (next : ℕ) (parents : List Oid) → AreNumberedFrom next (copied_objects next literal parents)
-  copies_numbered next [] = tt
-  copies_numbered next (parent ∷ others) =
-      let count = length-objects_of next literal in
-      let same : next + size ≡ next + length (objects_of next literal) = omega (arith, count) in
-      AreNumberedFrom-append next (objects_of next literal) (copied_objects (next + size) literal others) (numbered_on next (values_of (bodies literal)))
-      (subst (λ n. AreNumberedFrom n (copied_objects (next + size) literal others)) same (copies_numbered (next + size) others))
 
   copies_sized : (next : ℕ) (parents : List Oid) → IsFormedLiteral literal → All (λ object. IsSized object.1) (copied_objects next literal parents)
   copies_sized next [] formed = All-nil (λ (object : Oid × Value). IsSized object.1)
@@ -108,16 +97,16 @@ module _ (db : Database) (valid : IsValid db) (literal : LiteralTree) where
       let added = copied_edges next table label literal parents in
       let changes = copying db.labels next text literal parents in
       let all_formed : All IsLabel texts = All-cons IsLabel text (labels_of literal) word (labels_formed literal formed) in
-      let there : All (Contains table) texts = labels_there db.labels texts in
-      let low : place_in table text < length table = place_below table text (All-head (Contains table) text (labels_of literal) there) in
+      let there : All (Contains table) texts = first_uses_cover db.labels texts in
+      let low : place_in table text < length table = place_in-below table text (All-head (Contains table) text (labels_of literal) there) in
       let complex : All (IsComplexThen db.graph.objects changes) parents =
-      All-of_members (IsComplexThen db.graph.objects changes) parents (λ parent at.
+      All-from_members (IsComplexThen db.graph.objects changes) parents (λ parent at.
       let root = root_there literal next table label parents parent at in
       inr (inr (
         complex_parent db.graph changes unatomic (edge_of parent label root.0) root.1 (All-contains (IsLive db.graph.objects) parents parent live at),
         λ valued. Contains-none (parent, valued.0) valued.1,
       ))) in
-      growing_fits db valid made added [] new (copies_numbered literal next parents) (at_most (next + length made) NEXT_NUMBER unspent) (copies_sized literal next parents formed)
+      growing_fits db valid made added [] new (copies_numbered next literal parents) (at_most (next + length made) NEXT_NUMBER unspent) (copies_sized literal next parents formed)
       no_names (All-nil (λ (entry : List ℕ × Oid). IsName entry.0 × IsAtHand db.graph changes entry.1))
       (All-weaker (λ (edge : Edge). IsComplexThen db.graph.objects changes edge.parent × IsLive made edge.child)
       (λ (edge : Edge). IsComplexThen db.graph.objects changes edge.parent × IsAtHand db.graph changes edge.child) (λ edge h. (h.0, inr h.1)) added

@@ -2,7 +2,7 @@
 use Rattle.std.proofs.Common.{◌≡◌, ◌⊎◌, inl, inr, ◌++◌, Some, None, Result, Ok, Err, IfOk, refl, sym, subst}
 use Rattle.std.specs.Prelude.{IfErr}
 use Rattle.lore_base.specs.Databases.{Database, IsRestorable, IsValid, new_database}
-use Rattle.lore_base.specs.GuideLimits.{PassesNodes, PassesCells}
+use Rattle.lore_base.specs.GuideLimits.{ExceedsNodes, ExceedsCells}
 use Rattle.lore_base.specs.Verdicts.{IsClear, IsToldBy}
 use Rattle.lore_base.proofs.VerdictLaws.{clear_both}
 use Rattle.lorel_trees.specs.declared.dump_trees.DumpTree.{DumpTree}
@@ -28,11 +28,11 @@ use Rattle.lore_db.proofs.QuietLaws.{nothing_before}
 -- ---- texts
 -- a text of a database whose guide passes a limit is the dump of no valid one
 pub crowded_no_dump : (text : DumpTree) (db : Database) → IsDumpOf text db → IsRestorable db
-    → PassesNodes db.nodes db.graph.names db.graph.edges ⊎ PassesCells db.nodes db.graph.names db.graph.edges → IsNoDump (t.restore text)
+    → ExceedsNodes db.nodes db.graph.names db.graph.edges ⊎ ExceedsCells db.nodes db.graph.names db.graph.edges → IsNoDump (t.restore text)
 crowded_no_dump text db dumped sound passed other too valid =
     let same = one_database text db other dumped too sound valid.restorable in
     fitting_passes_none other.nodes other.graph.names other.graph.edges valid.fits
-    (subst (λ (d : Database). PassesNodes d.nodes d.graph.names d.graph.edges ⊎ PassesCells d.nodes d.graph.names d.graph.edges) same passed)
+    (subst (λ (d : Database). ExceedsNodes d.nodes d.graph.names d.graph.edges ⊎ ExceedsCells d.nodes d.graph.names d.graph.edges) same passed)
 
 -- ---- what refuses them
 module _ (db : Database) where

@@ -7,6 +7,8 @@ use Rattle.lore_base.specs.Databases.{Database, IsValid}
 use Rattle.lore_base.specs.ChangeSets.{IsBound, Fits}
 use Rattle.lore_base.specs.Verdicts.{IsClear}
 use Rattle.lore_base.proofs.NameLaws.{found_bound, bound_found}
+use Rattle.list_laws.proofs.MemberLaws.{Contains-map}
+use Rattle.oem_text.proofs.NumberedLaws.{length-objects_of}
 use Rattle.lorel_trees.specs.Trees as t
 use Rattle.lorel_trees.specs.Trees.{StatementTree, RootedTree, TailTree}
 use Rattle.lorel_trees.specs.Formed.{IsFormedStatement}
@@ -15,13 +17,11 @@ use Rattle.lorel_bind.specs.Answers.{IsAnswer}
 use Rattle.lorel_bind.specs.Refusals.{HasUnknownName, HasUnknownVariable}
 use Rattle.updates.specs.Effects.{targets}
 use Rattle.updates.specs.Causes.{IsUpdate, HasTargets}
-use Rattle.updates.proofs.RowLaws.{map_holds}
 use Rattle.lore_db.specs.Types.{Oid, FEWEST_PERSONS, MOST_PERSONS}
 use Rattle.lore_db.specs.Forms.{MakesChanges}
 use Rattle.lore_db.specs.Effects.{object_cells, pair_of, AreRowsOf, effects}
 use Rattle.lore_db.specs.Statements.{Cause}
 use Rattle.lore_db.specs.inside.Stages.{found_order, fit_order}
-use Rattle.lore_db.proofs.LiteralLaws.{length-objects_of}
 use Rattle.lore_db.proofs.FitLaws.{nothing_fits, name_fits, unname_fits, assign_fits, link_fits, unlink_fits, load_fits}
 use Rattle.lore_db.proofs.CopyFitLaws.{copy_fits}
 use Rattle.lore_db.proofs.GeneratedFitLaws.{generated_fits}
@@ -46,14 +46,14 @@ module _ (db : Database) (valid : IsValid db) where
         → (HasUnknownVariable db.graph.names (target_select target tail) → ⊥) → (row : List Oid) → Contains rows row → IsOneCell db row
     one_celled answer known ranged row there =
         one_cell db valid target tail (starts_somewhere db.graph.names (target_select target tail) known ranged) row
-        ((answer.exact (object_cells row)).0 (map_holds object_cells rows row there))
+        ((answer.exact (object_cells row)).0 (Contains-map object_cells rows row there))
 
     two_celled : (right : RootedTree) → IsAnswer db (pair_select target right tail) (map object_cells rows)
         → (HasUnknownName db.graph.names (pair_select target right tail) → ⊥) → (HasUnknownVariable db.graph.names (pair_select target right tail) → ⊥)
         → (row : List Oid) → Contains rows row → AreTwoCells db row
     two_celled right answer known ranged row there =
         two_cells db valid target tail right (starts_somewhere db.graph.names (pair_select target right tail) known ranged) row
-        ((answer.exact (object_cells row)).0 (map_holds object_cells rows row there))
+        ((answer.exact (object_cells row)).0 (Contains-map object_cells rows row there))
 
   -- ---- each form
   pub effects_fit : (statement : StatementTree) → IsFormedStatement statement → (rows : List (List Oid)) → AreRowsOf db statement rows

@@ -3,9 +3,9 @@ use Rattle.std.proofs.Common.{◌≡◌, ℕ, inl, List, ◌∷◌, ◌++◌, le
 use Rattle.lore_base.specs.Databases.{Database}
 use Rattle.lore_base.specs.Verdicts.{IsClear}
 use Rattle.lore_base.proofs.VerdictLaws.{clear_both}
+use Rattle.list_laws.proofs.SumLaws.{distinct_as_long}
 use Rattle.lorel_trees.specs.Trees as t
 use Rattle.lorel_trees.specs.Trees.{SelectTree, StatementTree}
-use Rattle.oem_changes.proofs.CountLaws.{distinct_as_long}
 use Rattle.index_laws.proofs.SortedEntries.{entries_are_determined}
 use Rattle.lorel_bound.specs.Bound.{BoundTree}
 use Rattle.bind_laws.proofs.BindingLaws.{has_one_binding}

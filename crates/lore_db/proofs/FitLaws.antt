@@ -16,21 +16,21 @@ use Rattle.lore_base.specs.Databases.{OemGraph, Database, IsLive, IsComplex, IsS
 use Rattle.lore_base.specs.ChangeSets.{IsBound, HasChildren, AreNumberedFrom, IsAtHand, IsComplexThen, Fits}
 use Rattle.lore_base.specs.ChangeCauses.{AddsToAtom, HidesChildren}
 use Rattle.lore_base.proofs.MemberLaws.{Contains-none}
-use Rattle.oem_changes.proofs.RootedLaws.{All-of_members}
+use Rattle.list_laws.proofs.PairLaws.{AllPairs-nil}
+use Rattle.list_laws.proofs.MemberLaws.{All-from_members, Contains-map}
+use Rattle.oem_text.proofs.NumberedLaws.{length-objects_of, numbered_from}
+use Rattle.oem_labels.proofs.PlaceLaws.{place_in-below}
 use Rattle.lorel_trees.specs.Trees.{LiteralTree}
 use Rattle.lorel_trees.specs.Formed.{IsFormedLiteral}
 use Rattle.oem_labels.specs.Labels.{first_uses, place_in, label_in}
-use Rattle.oem_labels.proofs.LabelLaws.{known_text}
+use Rattle.oem_labels.proofs.LabelLaws.{known_text, first_uses_cover}
 use Rattle.oem_text.specs.Literals.{Arc, bodies, arcs_of, labels_of, HasUndefined, objects_of, edge_at, edges_of}
 use Rattle.updates.specs.Effects.{Pair, no_changes, is_atomic, takers, assigning, links, linking, unlinking}
-use Rattle.updates.proofs.RowLaws.{map_holds, link_found, link_holds}
+use Rattle.updates.proofs.RowLaws.{link_found, link_holds}
 use Rattle.lore_db.specs.Effects.{loading, naming, unnaming}
 use Rattle.lore_db.specs.Types.{Oid, Label, Edge, Value, Whole, Chars, Flag, Complex, Changes, LABELS, NEXT_NUMBER}
-use Rattle.lore_db.proofs.LabelFitLaws.{labels_come_new, labels_come_once, labels_come_formed, place_below, labels_there}
-use Rattle.lore_db.proofs.LiteralLaws.{values_of, numbered_on, length-objects_of, objects_sized, labels_formed, edges_linked, first_live}
-
-AllPairs-nil : {X : Type 0} (R : X → X → Type 0) → AllPairs R []
-AllPairs-nil R i j d low within = absurd (omega (arith, within))
+use Rattle.lore_db.proofs.LabelFitLaws.{labels_come_new, labels_come_once, labels_come_formed}
+use Rattle.lore_db.proofs.LiteralLaws.{values_of, objects_sized, labels_formed, edges_linked, first_live}
 
 pub no_names : IsNameTable []
 unfolding IsStrictlySortedBy
@@ -80,7 +80,7 @@ module _ (db : Database) (valid : IsValid db) where
         unnamed = All-nil (λ (name : List ℕ). IsBound db.graph.names name × (¬ IsBound named name));
         added = edges;
         removed = All-nil (λ (edge : Edge). IsAtHand db.graph growing edge.parent × IsAtHand db.graph growing edge.child);
-        apart = All-of_members (λ (edge : Edge). ¬ Contains [] edge) added (λ edge at. Contains-none edge);
+        apart = All-from_members (λ (edge : Edge). ¬ Contains [] edge) added (λ edge at. Contains-none edge);
       };
       labels_new = new;
       labels_distinct = once;
@@ -151,7 +151,7 @@ module _ (db : Database) (valid : IsValid db) where
     | inr atomic ↦ inr (λ parent. shown (record {
       oid = oid;
       value = value;
-      valued = map_holds (λ (o : Oid). (o, value)) (takers db.graph.objects value oids) oid at;
+      valued = Contains-map (λ (o : Oid). (o, value)) (takers db.graph.objects value oids) oid at;
       atomic = atomic;
       parent = parent;
     }))
@@ -189,12 +189,12 @@ module _ (db : Database) (valid : IsValid db) where
           room = omega (arith, next_low);
           made_sized = All-nil (λ (object : Oid × Value). IsSized object.1);
           values_sized = All-map (λ (object : Oid × Value). IsSized object.1) (λ (oid : Oid). (oid, value)) given
-              (All-of_members (λ (oid : Oid). IsSized value) given (λ oid at. sized));
+              (All-from_members (λ (oid : Oid). IsSized value) given (λ oid at. sized));
           values_once = paired_once value given (taken_once value oids once);
           values_live = All-map (λ (object : Oid × Value). IsLive db.graph.objects object.0) (λ (oid : Oid). (oid, value)) given
               (taken (IsLive db.graph.objects) value oids live);
           values_childless = All-map (λ (object : Oid × Value). (object.1 ≡ Complex) ⊎ (¬ HasChildren db.graph.edges object.0)) (λ (oid : Oid). (oid, value)) given
-              (All-of_members (λ (oid : Oid). (value ≡ Complex) ⊎ (¬ HasChildren db.graph.edges oid)) given (unhidden value oids shown));
+              (All-from_members (λ (oid : Oid). (value ≡ Complex) ⊎ (¬ HasChildren db.graph.edges oid)) given (unhidden value oids shown));
           named_ascend = no_names;
           named = All-nil (λ (entry : List ℕ × Oid). IsName entry.0 × IsAtHand db.graph changes entry.1);
           unnamed = All-nil (λ (name : List ℕ). IsBound db.graph.names name × (¬ IsBound [] name));
@@ -218,7 +218,7 @@ module _ (db : Database) (valid : IsValid db) where
   -- what holds of each edge of a row
   linked_rows : (P : Edge → Type 0) (label : Label) (rows : List Pair)
       → ((parent child : Oid) → Contains rows (parent, Some child) → P (edge_of parent label child)) → All P (links label rows)
-  linked_rows P label rows each = All-of_members P (links label rows) (λ edge at.
+  linked_rows P label rows each = All-from_members P (links label rows) (λ edge at.
       let found = link_found label rows edge at in
       subst P found.3 (each found.0 found.1 found.2))
 
@@ -239,7 +239,7 @@ module _ (db : Database) (valid : IsValid db) where
       let changes = linking db.labels text rows in
       let one : All IsLabel (text ∷ []) = All-cons IsLabel text [] formed (All-nil IsLabel) in
       let low : place_in table text < length table =
-      place_below table text (All-head (Contains table) text [] (labels_there db.labels (text ∷ []))) in
+      place_in-below table text (All-head (Contains table) text [] (first_uses_cover db.labels (text ∷ []))) in
       growing_fits [] (links label rows) [] new tt (omega (arith, next_low)) (All-nil (λ (object : Oid × Value). IsSized object.1)) no_names
       (All-nil (λ (entry : List ℕ × Oid). IsName entry.0 × IsAtHand db.graph changes entry.1))
       (linked_rows (λ (edge : Edge). IsComplexThen db.graph.objects changes edge.parent × IsAtHand db.graph changes edge.child) label rows (λ parent child at. (
@@ -294,7 +294,7 @@ module _ (db : Database) (valid : IsValid db) where
         few_labels = omega (arith, valid.restorable.few_labels);
         added_labelled = All-nil (λ (edge : Edge). edge.label.0 < length (db.labels ++ []));
         removed_labelled = unlinked_rows (λ (edge : Edge). edge.label.0 < length (db.labels ++ [])) text rows
-            (λ known parent child at. omega (arith, place_below db.labels text known, longer));
+            (λ known parent child at. omega (arith, place_in-below db.labels text known, longer));
       }
 
   -- ---- literals
@@ -303,8 +303,8 @@ module _ (db : Database) (valid : IsValid db) where
       → All (λ edge. edge.label.0 < length table) (edges_of next table literal)
   arcs_labelled next table literal there =
       All-map (λ (edge : Edge). edge.label.0 < length table) (edge_at next table (bodies literal)) (arcs_of literal)
-      (All-of_members (λ (arc : Arc). place_in table arc.label < length table) (arcs_of literal) (λ arc at.
-      place_below table arc.label (All-contains (Contains table) (labels_of literal) arc.label there (map_holds (λ (a : Arc). a.label) (arcs_of literal) arc at))))
+      (All-from_members (λ (arc : Arc). place_in table arc.label < length table) (arcs_of literal) (λ arc at.
+      place_in-below table arc.label (All-contains (Contains table) (labels_of literal) arc.label there (Contains-map (λ (a : Arc). a.label) (arcs_of literal) arc at))))
 
   pub load_fits : (name : List ℕ) (literal : LiteralTree) → IsName name → IsFormedLiteral literal → (HasUndefined literal → ⊥)
       → (NEXT_NUMBER < db.graph.next + length (bodies literal) → ⊥)
@@ -318,7 +318,7 @@ module _ (db : Database) (valid : IsValid db) where
       let named = (name, oid_of db.graph.next) ∷ [] in
       let count = length-objects_of db.graph.next literal in
       let low = at_most (db.graph.next + length (bodies literal)) NEXT_NUMBER unspent in
-      growing_fits made added named new (numbered_on db.graph.next (values_of (bodies literal))) (omega (arith, count, low)) (objects_sized db.graph.next literal formed)
+      growing_fits made added named new (numbered_from db.graph.next (values_of (bodies literal))) (omega (arith, count, low)) (objects_sized db.graph.next literal formed)
       (one_name name (oid_of db.graph.next))
       (All-cons (λ (entry : List ℕ × Oid). IsName entry.0 × IsAtHand db.graph changes entry.1) (name, oid_of db.graph.next) []
       (word, inr (first_live db.graph.next literal defined)) (All-nil (λ (entry : List ℕ × Oid). IsName entry.0 × IsAtHand db.graph changes entry.1)))
@@ -326,4 +326,4 @@ module _ (db : Database) (valid : IsValid db) where
       (λ edge linked. (inl linked.parent, inr linked.child)) added (edges_linked made db.graph.next table literal defined (λ object at. at)))
       (labels_come_new db.labels (labels_of literal) valid.restorable.labels_distinct) (labels_come_once db.labels (labels_of literal) valid.restorable.labels_distinct)
       (labels_come_formed db.labels (labels_of literal) (labels_formed literal formed)) (at_most (length db.labels + length new) LABELS few)
-      (arcs_labelled db.graph.next table literal (labels_there db.labels (labels_of literal)))
+      (arcs_labelled db.graph.next table literal (first_uses_cover db.labels (labels_of literal)))

@@ -7,6 +7,8 @@ use Rattle.lore_base.specs.ChangeCauses.{AddsToAtom, HidesChildren}
 use Rattle.lore_base.specs.Verdicts.{IsClear, IsToldBy}
 use Rattle.lore_base.proofs.MemberLaws.{Contains-none}
 use Rattle.lore_base.proofs.VerdictLaws.{clear_both}
+use Rattle.list_laws.proofs.MemberLaws.{Contains-from_map}
+use Rattle.oem_text.proofs.NumberedLaws.{length-numbered}
 use Rattle.lorel_trees.specs.Trees as t
 use Rattle.lorel_trees.specs.Trees.{StatementTree}
 use Rattle.oem_labels.specs.Labels.{first_uses}
@@ -14,7 +16,6 @@ use Rattle.oem_text.specs.Layouts.{edge_from, edges_from}
 use Rattle.oem_text.specs.Generated.{generated_values, generated_arcs, generated_labels, generated_layout, IsGenerated, GeneratedCause, generated_order}
 use Rattle.oem_text.specs.declared.parts.Part.{Part}
 use Rattle.oem_text.proofs.GeneratedPlaces.{generated_length}
-use Rattle.updates.proofs.RowLaws.{map_found}
 use Rattle.lore_db.specs.Types.{Oid, Edge, Value, Changes, Refusal, SEED, FEWEST_PERSONS, MOST_PERSONS}
 use Rattle.lore_db.specs.Types.refusals
 use Rattle.lore_db.specs.Forms.{AreGenerable}
@@ -22,7 +23,6 @@ use Rattle.lore_db.specs.Effects.{generating}
 use Rattle.lore_db.specs.Statements.{Cause, cause_order}
 use Rattle.lore_db.specs.inside.Listed.{ListsChanges}
 use Rattle.lore_db.specs.inside.Stages.{loading_part, bound_order, fit_order}
-use Rattle.lore_db.proofs.LiteralLaws.{length-numbered}
 use Rattle.lore_db.proofs.OrderLaws.{AreAlike, told_left, told_right, clear_alike, told_alike}
 use Rattle.lore_db.proofs.CauseLaws.{sizes, late}
 use Rattle.lore_db.proofs.RangeLaws.{generable}
@@ -38,7 +38,7 @@ module _ (db : Database) (valid : IsValid db) (seed count : ℕ) (within : AreGe
   made_anew : AddsToAtom db.graph (generating db seed count) → ⊥
   made_anew adds =
       let table = db.labels ++ first_uses db.labels generated_labels in
-      let arc = map_found (edge_from db.graph.next table) (generated_arcs count) adds.edge adds.added in
+      let arc = Contains-from_map (edge_from db.graph.next table) (generated_arcs count) adds.edge adds.added in
       let number : db.graph.next + arc.0.parent ≡ adds.edge.parent.0 = ap (λ (e : Edge). e.parent.0) arc.2 in
       let old = All-contains (λ (o : Oid × Value). (1 ≤ o.0.0) × (o.0.0 < db.graph.next)) db.graph.objects (adds.edge.parent, adds.value)
       valid.restorable.rooted.well_formed.ordered.objects_numbered adds.valued in

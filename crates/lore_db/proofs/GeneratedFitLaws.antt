@@ -3,6 +3,8 @@
 use Rattle.std.proofs.Common.{ℕ, ◌+◌, ◌<◌, ◌≤◌, List, [], ◌∷◌, ◌++◌, length, refl, arith, inl, inr}
 use Rattle.std.specs.Prelude.{codes}
 use Rattle.std.proofs.lemmas.List.Elements.{All-nil, All-cons, All-weaker}
+use Rattle.oem_text.proofs.NumberedLaws.{numbered_from}
+use Rattle.oem_labels.proofs.LabelLaws.{first_uses_cover}
 use Rattle.lore_base.specs.Names.{IsName}
 use Rattle.lore_base.specs.Walks.{oid_of}
 use Rattle.lore_base.specs.Databases.{Database, IsValid, IsLinked}
@@ -14,8 +16,7 @@ use Rattle.oem_text.specs.Generated.{generated_values, generated_labels, generat
 use Rattle.oem_text.proofs.GeneratedSound.{generated_sound, labels_formed, numbered_linked}
 use Rattle.lore_db.specs.Types.{Oid, Edge, LABELS, NEXT_NUMBER, FEWEST_PERSONS, MOST_PERSONS}
 use Rattle.lore_db.specs.Effects.{generating}
-use Rattle.lore_db.proofs.LabelFitLaws.{labels_come_new, labels_come_once, labels_come_formed, labels_there}
-use Rattle.lore_db.proofs.LiteralLaws.{numbered_on}
+use Rattle.lore_db.proofs.LabelFitLaws.{labels_come_new, labels_come_once, labels_come_formed}
 use Rattle.lore_db.proofs.FitLaws.{one_name, at_most, growing_fits}
 
 people_named : IsName (codes "People")
@@ -33,8 +34,8 @@ generated_fits db valid seed count least most unspent few =
     let added = edges_from db.graph.next table laid in
     let changes = generating db seed count in
     let root : List ℕ × Oid = (codes "People", oid_of db.graph.next) in
-    let sound = numbered_linked db.graph.next table laid (labels_there db.labels generated_labels) (generated_sound seed count least most) in
-    growing_fits db valid made added (root ∷ []) new (numbered_on db.graph.next values)
+    let sound = numbered_linked db.graph.next table laid (first_uses_cover db.labels generated_labels) (generated_sound seed count least most) in
+    growing_fits db valid made added (root ∷ []) new (numbered_from db.graph.next values)
     (at_most (db.graph.next + length made) NEXT_NUMBER unspent) sound.sized (one_name (codes "People") (oid_of db.graph.next))
     (All-cons (λ (entry : List ℕ × Oid). IsName entry.0 × IsAtHand db.graph changes entry.1) root [] (people_named, inr sound.root)
     (All-nil (λ (entry : List ℕ × Oid). IsName entry.0 × IsAtHand db.graph changes entry.1)))

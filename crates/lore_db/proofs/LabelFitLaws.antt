@@ -7,15 +7,12 @@ use Rattle.std.proofs.lemmas.Slice.Eq.{bytes_eq-Decides}
 use Rattle.lore_base.specs.Names.{IsLabel}
 use Rattle.lore_base.proofs.MemberLaws.{Contains-none, Contains-cases}
 use Rattle.lore_base.proofs.ListLaws.{AllPairs-head, AllPairs-tail}
-use Rattle.oem_changes.proofs.RootedLaws.{All-of_members}
+use Rattle.list_laws.proofs.PairLaws.{AllPairs-back}
+use Rattle.list_laws.proofs.MemberLaws.{All-from_members}
 use Rattle.oem_labels.specs.Labels.{first_uses, place_in}
-use Rattle.oem_labels.proofs.LabelLaws.{first_uses_distinct, first_uses_cover, All-first_uses}
+use Rattle.oem_labels.proofs.LabelLaws.{first_uses_distinct, All-first_uses}
 
 -- ---- lists apart
-apart_right : (known fresh : List (List ℕ)) → AllPairs (λ a b. a ≢ b) (known ++ fresh) → AllPairs (λ a b. a ≢ b) fresh
-apart_right [] fresh apart = apart
-apart_right (text ∷ known) fresh apart = apart_right known fresh (AllPairs-tail (λ a b. a ≢ b) text (known ++ fresh) apart)
-
 apart_across : (known fresh : List (List ℕ)) → AllPairs (λ a b. a ≢ b) (known ++ fresh) → (text : List ℕ) → Contains fresh text → Contains known text → ⊥
 apart_across [] fresh apart text at old = Contains-none text old
 apart_across (first ∷ known) fresh apart text at old = elim (Contains-cases first known text old) [
@@ -26,11 +23,11 @@ apart_across (first ∷ known) fresh apart text at old = elim (Contains-cases fi
 -- ---- texts that come
 module _ (table texts : List (List ℕ)) (distinct : AllPairs (λ a b. a ≢ b) table) where
   pub labels_come_new : All (λ text. ¬ Contains table text) (first_uses table texts)
-  labels_come_new = All-of_members (λ (text : List ℕ). ¬ Contains table text) (first_uses table texts)
+  labels_come_new = All-from_members (λ (text : List ℕ). ¬ Contains table text) (first_uses table texts)
       (λ text at old. apart_across table (first_uses table texts) (first_uses_distinct table texts distinct) text at old)
 
   pub labels_come_once : AllPairs (λ a b. a ≢ b) (first_uses table texts)
-  labels_come_once = apart_right table (first_uses table texts) (first_uses_distinct table texts distinct)
+  labels_come_once = AllPairs-back (λ (a b : List ℕ). a ≢ b) table (first_uses table texts) (first_uses_distinct table texts distinct)
 
 pub labels_come_formed : (table texts : List (List ℕ)) → All IsLabel texts → All IsLabel (first_uses table texts)
 labels_come_formed table texts formed = All-first_uses IsLabel table texts formed
@@ -46,16 +43,3 @@ place_from false first texts text is later =
 
 apart_tests : (first text : List ℕ) → bytes_eq first text ≡ false → first ≡ text → ⊥
 apart_tests first text is same = let passes : bytes_eq first text ≡ true = (bytes_eq-Decides first text).1 same in cc
-
-pub place_below : (texts : List (List ℕ)) (text : List ℕ) → Contains texts text → place_in texts text < length texts
-place_below [] text at = absurd (Contains-none text at)
-place_below (first ∷ texts) text at =
-    let later : bytes_eq first text ≡ false → place_in texts text < length texts = (λ is. elim (Contains-cases first texts text at) [
-      | inl same ↦ absurd (apart_tests first text is same)
-      | inr behind ↦ place_below texts text behind
-    ]) in
-    place_from (bytes_eq first text) first texts text refl later
-
--- each text of the list is in the table then
-pub labels_there : (table texts : List (List ℕ)) → All (Contains (table ++ first_uses table texts)) texts
-labels_there table texts = first_uses_cover table texts

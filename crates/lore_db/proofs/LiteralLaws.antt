@@ -8,14 +8,13 @@ use Rattle.std.proofs.lemmas.List.Elements.{All-nil, All-cons, All-append, All-w
 use Rattle.lore_base.specs.Names.{IsLabel}
 use Rattle.lore_base.specs.Walks.{oid_of}
 use Rattle.lore_base.specs.Databases.{IsLive, IsComplex, IsSized, IsLinked}
-use Rattle.lore_base.specs.ChangeSets.{AreNumberedFrom}
 use Rattle.lore_base.proofs.MemberLaws.{Contains-head, Contains-tail}
-use Rattle.oem_changes.proofs.RootedLaws.{All-of_members}
+use Rattle.list_laws.proofs.MemberLaws.{All-from_members, Contains-map}
+use Rattle.oem_text.proofs.NumberedLaws.{numbered-append, numbered_live, numbered_sized}
 use Rattle.lorel_trees.specs.Trees.{LiteralTree, local, atom, node, MemberTrees, none, more}
 use Rattle.lorel_trees.specs.Formed.{IsFormedLiteral, AreFormedMembers}
 use Rattle.lore_db.specs.Types.{Oid, Value, Complex}
 use Rattle.oem_text.specs.Literals.{Body, Target, placed, called, Arc, bodies, member_bodies, target, arcs, member_arcs, arcs_of, labels_of, IsMarkedAt, HasUndefined, is_mark, marked_place, place_of, numbered, objects_of, edge_at, edges_of}
-use Rattle.updates.proofs.RowLaws.{map_holds}
 
 -- each item of the one list is in the other
 abbrev pub Within : {X : Type 0} → List X → List X → Type 0
@@ -26,50 +25,6 @@ abbrev pub values_of : List Body → List Value
 values_of places = map (λ body. body.value) places
 
 -- ---- numbers
-pub length-numbered : (next : ℕ) (values : List Value) → length (numbered next values) ≡ length values
-length-numbered next [] = refl
-length-numbered next (value ∷ values) = omega (arith, length-numbered (next + 1) values)
-
-pub length-objects_of : (next : ℕ) (literal : LiteralTree) → length (objects_of next literal) ≡ length (bodies literal)
-length-objects_of next literal =
-    length-numbered next (values_of (bodies literal)) ∙ length-map (bodies literal) (λ (body : Body). body.value)
-
-pub numbered_on : (next : ℕ) (values : List Value) → AreNumberedFrom next (numbered next values)
-numbered_on next [] = tt
-numbered_on next (value ∷ values) = (refl, numbered_on (next + 1) values)
-
-numbered-append : (next : ℕ) (xs ys : List Value) → numbered next (xs ++ ys) ≡ numbered next xs ++ numbered (next + length xs) ys
-numbered-append next [] ys = let same : next ≡ next + 0 = omega arith in ap (λ n. numbered n ys) same
-numbered-append next (x ∷ xs) ys =
-    let same : (next + 1) + length xs ≡ next + length (x ∷ xs) = omega arith in
-    ap (λ l. (oid_of next, x) ∷ l) (numbered-append (next + 1) xs ys ∙ ap (λ n. numbered (next + 1) xs ++ numbered n ys) same)
-
--- each place has an object
-pub numbered_there : (next : ℕ) (values : List Value) (place : ℕ) → place < length values → IsLive (numbered next values) (oid_of (next + place))
-numbered_there next [] place low = absurd (omega (arith, low))
-numbered_there next (value ∷ values) zero low =
-    let same : next ≡ next + 0 = omega arith in
-    let all = numbered next (value ∷ values) in
-    (value, subst (λ n. Contains all (oid_of n, value)) same (Contains-head (oid_of next, value) (numbered (next + 1) values)))
-numbered_there next (value ∷ values) (suc place) low =
-    let inner : place < length values = omega (arith, low) in
-    let later = numbered_there (next + 1) values place inner in
-    let same : (next + 1) + place ≡ next + suc place = omega arith in
-    let all = numbered next (value ∷ values) in (
-      later.0,
-      subst (λ n. Contains all (oid_of n, later.0)) same
-          (Contains-tail (oid_of next, value) (numbered (next + 1) values) (oid_of ((next + 1) + place), later.0) later.1),
-    )
-
-numbered_sized : (next : ℕ) (values : List Value) → All IsSized values → All (λ object. IsSized object.1) (numbered next values)
-numbered_sized next values sized = go next values sized
-  where
-    go : (n : ℕ) (left : List Value) → All IsSized left → All (λ object. IsSized object.1) (numbered n left)
-    go n [] h = All-nil (λ (object : Oid × Value). IsSized object.1)
-    go n (value ∷ left) h =
-        All-cons (λ (object : Oid × Value). IsSized object.1) (oid_of n, value) (numbered (n + 1) left)
-        (h 0 value (omega arith)) (go (n + 1) left (λ k d low. h (suc k) d (omega (arith, low))))
-
 -- ---- forms
 mutual
   bodies_sized : (literal : LiteralTree) → IsFormedLiteral literal → All (λ body. IsSized body.value) (bodies literal)
@@ -239,7 +194,7 @@ child_below literal defined arc there = by arc.target refl
           | inr nowhere ↦ absurd (defined (record {
             number = number;
             used = Contains-tail (target 0 literal) (map (λ (a : Arc). a.target) (arcs_of literal)) (called number)
-                (subst (Contains (map (λ (a : Arc). a.target) (arcs_of literal))) is (map_holds (λ (a : Arc). a.target) (arcs_of literal) arc there));
+                (subst (Contains (map (λ (a : Arc). a.target) (arcs_of literal))) is (Contains-map (λ (a : Arc). a.target) (arcs_of literal) arc there));
             unmarked = nowhere;
           }))
         ]
@@ -252,10 +207,10 @@ edges_linked objects next table literal defined within =
     let same : next + 0 ≡ next = omega arith in
     let leave = arcs_leave objects next 0 literal (λ object at. within object (subst (λ n. Contains (numbered n (values_of (bodies literal))) object) same at)) in
     All-map (IsLinked objects) (edge_at next table (bodies literal)) (arcs_of literal)
-    (All-of_members (λ arc. IsLinked objects (edge_at next table (bodies literal) arc)) (arcs_of literal) (λ arc there.
+    (All-from_members (λ arc. IsLinked objects (edge_at next table (bodies literal) arc)) (arcs_of literal) (λ arc there.
     let low = child_below literal defined arc there in
     let count = length-map (bodies literal) (λ (body : Body). body.value) in
-    let live = numbered_there next (values_of (bodies literal)) (place_of (bodies literal) arc.target) (omega (arith, low, count)) in
+    let live = numbered_live next (values_of (bodies literal)) (place_of (bodies literal) arc.target) (omega (arith, low, count)) in
     record {
       parent = All-contains (LeavesComplex objects next) (arcs_of literal) arc leave there;
       child = (live.0, within (oid_of (next + place_of (bodies literal) arc.target), live.0) live.1);
@@ -266,4 +221,4 @@ first_live next literal defined =
     let count = length-map (bodies literal) (λ (body : Body). body.value) in
     let some = some_body literal defined in
     let same : next + 0 ≡ next = omega arith in
-    subst (λ n. IsLive (objects_of next literal) (oid_of n)) same (numbered_there next (values_of (bodies literal)) 0 (omega (arith, some, count)))
+    subst (λ n. IsLive (objects_of next literal) (oid_of n)) same (numbered_live next (values_of (bodies literal)) 0 (omega (arith, some, count)))

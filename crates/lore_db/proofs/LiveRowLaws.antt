@@ -3,8 +3,7 @@
 use Rattle.std.proofs.Common.{◌≡◌, ◌≢◌, inl, inr, ℕ, List, [], ◌∷◌, ◌++◌, map, All, AllPairs, sym, ap, subst, ◌∙◌, append_assoc, append-nil, arith}
 use Rattle.std.specs.List.{Contains}
 use Rattle.std.specs.Prelude.{IfSome}
-use Rattle.std.specs.Ordering.{ordering_reverse}
-use Rattle.std.specs.declared.cmp.Ordering.TheVariants.{Less, Greater}
+use Rattle.std.specs.declared.cmp.Ordering.TheVariants.{Less}
 use Rattle.std.proofs.lemmas.List.Elements.{All-head, All-tail, All-map, All-contains, Contains-push_cases}
 use Rattle.std.proofs.lemmas.List.Kept.{AllPairs-cons}
 use Rattle.lore_base.specs.Walks.{Walk, edge_of}
@@ -12,7 +11,6 @@ use Rattle.lore_base.specs.Databases.{OemGraph, Database, IsLive, IsLinked, IsWe
 use Rattle.lore_base.proofs.NameLaws.{found_bound}
 use Rattle.lore_base.proofs.MemberLaws.{Contains-none, Contains-head, Contains-tail}
 use Rattle.lore_base.proofs.ListLaws.{AllPairs-head, AllPairs-tail}
-use Rattle.oem_changes.proofs.RootedLaws.{All-of_members}
 use Rattle.lorel_trees.specs.Trees.{RootedTree, TailTree, SelectTree}
 use Rattle.lorel_trees.specs.UpdateRows.{target_select, pair_select}
 use Rattle.lorel_ranges.specs.Places.{Place, scope_of, place_of, cell_places}
@@ -25,8 +23,9 @@ use Rattle.lorel_ranges.specs.inside.Orders.{AreOrdered}
 use Rattle.lorel_ranges.proofs.PlainLaws.{plain_ordered}
 use Rattle.lorel_bind.proofs.RootLaws.{IsBoundName, IsKnown, known_found, names_bound, plain_roots, cells_known}
 use Rattle.lore_base.proofs.ToldLaws.{told_member, told_bytes}
+use Rattle.list_laws.proofs.AscentLaws.{never_less}
+use Rattle.list_laws.proofs.MemberLaws.{All-from_members, Contains-from_map, Contains-map}
 use Rattle.updates.specs.Effects.{Pair, targets}
-use Rattle.updates.proofs.RowLaws.{map_found, map_holds}
 use Rattle.lore_db.specs.Types.{Oid, Label, Cell}
 use Rattle.lore_db.specs.Effects.{object_cells, pair_of}
 use Rattle.lore_db.proofs.ObjectRowLaws.{one_list, shown_objects}
@@ -87,7 +86,7 @@ module _ (db : Database) (valid : IsValid db) (query : SelectTree) (somewhere : 
 
     -- each cell shows a live object
     pub cells_live : ArePlain query plain → All (λ place. IsLive db.graph.objects (at place)) (cell_places query)
-    cells_live gathered = All-of_members (λ (place : Place). IsLive db.graph.objects (at place)) (cell_places query) (λ place there.
+    cells_live gathered = All-from_members (λ (place : Place). IsLive db.graph.objects (at place)) (cell_places query) (λ place there.
         place_live (places plain)
         (ranges_live [] plain (plain_ordered query plain gathered) (plain_roots (IsBoundName db.graph.names) query plain gathered bound) valuation.reached
         (λ p none. absurd (Contains-none p none))) place (cells_known db.graph.names query plain gathered bound place there))
@@ -147,27 +146,20 @@ LiveRight db row = IfSome row.1 (IsLive db.graph.objects)
 
 module _ (db : Database) (rows : List (List Oid)) where
   pub one_targets : ((row : List Oid) → Contains rows row → IsOneCell db row) → All (LiveTarget db) (map pair_of rows)
-  one_targets each = All-map (LiveTarget db) pair_of rows (All-of_members (λ row. LiveTarget db (pair_of row)) rows (λ row there.
+  one_targets each = All-map (LiveTarget db) pair_of rows (All-from_members (λ row. LiveTarget db (pair_of row)) rows (λ row there.
       let cell = each row there in subst (λ (r : List Oid). LiveTarget db (pair_of r)) (sym cell.is) cell.live))
 
   pub two_targets : ((row : List Oid) → Contains rows row → AreTwoCells db row) → All (LiveTarget db) (map pair_of rows)
-  two_targets each = All-map (LiveTarget db) pair_of rows (All-of_members (λ row. LiveTarget db (pair_of row)) rows (λ row there.
+  two_targets each = All-map (LiveTarget db) pair_of rows (All-from_members (λ row. LiveTarget db (pair_of row)) rows (λ row there.
       let cells = each row there in subst (λ (r : List Oid). LiveTarget db (pair_of r)) (sym cells.is) cells.first_live))
 
   pub two_rights : ((row : List Oid) → Contains rows row → AreTwoCells db row) → All (LiveRight db) (map pair_of rows)
-  two_rights each = All-map (LiveRight db) pair_of rows (All-of_members (λ row. LiveRight db (pair_of row)) rows (λ row there.
+  two_rights each = All-map (LiveRight db) pair_of rows (All-from_members (λ row. LiveRight db (pair_of row)) rows (λ row there.
       let cells = each row there in subst (λ (r : List Oid). LiveRight db (pair_of r)) (sym cells.is) cells.second_live))
 
 -- the targets are live objects, as a list
 pub live_targets : (db : Database) (rows : List Pair) → All (LiveTarget db) rows → All (IsLive db.graph.objects) (targets rows)
 live_targets db rows live = All-map (IsLive db.graph.objects) (λ (row : Pair). row.0) rows live
-
--- no row comes before itself
-no_loop : (row : List Cell) → row_cmp row row ≡ Less → ⊥
-no_loop row below =
-    let flip = rows_total.antisymm row row in
-    let apart : Less ≡ Greater = sym below ∙ flip ∙ ap ordering_reverse below in
-    cc
 
 -- rows of one cell that ascend have distinct objects
 pub targets_once : (db : Database) (rows : List (List Oid)) → AllPairs (λ a b. row_cmp a b ≡ Less) (map object_cells rows)
@@ -175,20 +167,20 @@ pub targets_once : (db : Database) (rows : List (List Oid)) → AllPairs (λ a b
 targets_once db [] ascend each = λ i j d low within. absurd (omega (arith, within))
 targets_once db (row ∷ rows) ascend each =
     AllPairs-cons (λ (a b : Oid). a ≢ b) ((pair_of row).0) (targets (map pair_of rows))
-    (All-of_members (λ (oid : Oid). (pair_of row).0 ≢ oid) (targets (map pair_of rows)) (apart row rows ascend each))
+    (All-from_members (λ (oid : Oid). (pair_of row).0 ≢ oid) (targets (map pair_of rows)) (apart row rows ascend each))
     (targets_once db rows (AllPairs-tail (λ (a b : List Cell). row_cmp a b ≡ Less) (object_cells row) (map object_cells rows) ascend)
     (λ other there. each other (Contains-tail row rows other there)))
   where
     apart : (row : List Oid) (rows : List (List Oid)) → AllPairs (λ a b. row_cmp a b ≡ Less) (map object_cells (row ∷ rows))
         → ((r : List Oid) → Contains (row ∷ rows) r → IsOneCell db r) → (oid : Oid) → Contains (targets (map pair_of rows)) oid → (pair_of row).0 ≢ oid
     apart row rows ascend each oid there same =
-        let pair = map_found (λ (p : Pair). p.0) (map pair_of rows) oid there in
-        let other = map_found pair_of rows pair.0 pair.1 in
+        let pair = Contains-from_map (λ (p : Pair). p.0) (map pair_of rows) oid there in
+        let other = Contains-from_map pair_of rows pair.0 pair.1 in
         let below = AllPairs-head (λ (a b : List Cell). row_cmp a b ≡ Less) (object_cells row) (map object_cells rows) ascend (object_cells other.0)
-        (map_holds object_cells rows other.0 other.1) in
+        (Contains-map object_cells rows other.0 other.1) in
         let first = each row (Contains-head row rows) in
         let second = each other.0 (Contains-tail row rows other.0 other.1) in
         let left : (pair_of row).0 ≡ first.oid = ap (λ (r : List Oid). (pair_of r).0) first.is in
         let right : oid ≡ second.oid = sym pair.2 ∙ ap (λ (p : Pair). p.0) (sym other.2) ∙ ap (λ (r : List Oid). (pair_of r).0) second.is in
         let is : other.0 ≡ row = second.is ∙ ap (λ (o : Oid). o ∷ []) (sym (sym left ∙ same ∙ right)) ∙ sym first.is in
-        no_loop (object_cells row) (subst (λ (r : List Oid). row_cmp (object_cells row) (object_cells r) ≡ Less) is below)
+        never_less row_cmp rows_total (object_cells row) (subst (λ (r : List Oid). row_cmp (object_cells row) (object_cells r) ≡ Less) is below)

@@ -8,7 +8,7 @@ use Rattle.lore_base.specs.ChangeSets.{IsBound}
 use Rattle.lore_base.specs.Verdicts.{IsFirst, IsClear, IsToldBy}
 use Rattle.lore_base.proofs.VerdictLaws.{clear_left}
 use Rattle.lore_base.proofs.NameLaws.{found_bound, bound_found}
-use Rattle.oem_changes.proofs.RootedLaws.{All-of_members}
+use Rattle.list_laws.proofs.MemberLaws.{All-from_members}
 use Rattle.lorel_trees.specs.Trees.{RootedTree, SelectTree, StatementTree, bind, unname}
 use Rattle.lorel_ranges.specs.Places.{place_of}
 use Rattle.lorel_bind.specs.Answers.{IsAnswer}
@@ -74,7 +74,7 @@ module _ (db : Database) (valid : IsValid db) (name : List ℕ) (path : RootedTr
 
   -- its rows show one object each
   pub single_cells : (rows : List (List Cell)) → IsAnswer db query rows → All IsOneObject rows
-  single_cells rows answer = All-of_members IsOneObject rows (λ row there.
+  single_cells rows answer = All-from_members IsOneObject rows (λ row there.
       let is = (answer.exact row).0 there in
       let place = place_of [] path in
       (is.2.at place, shown_objects db is.0 is.2.at (place ∷ []) row is.2.shown))

@@ -5,13 +5,13 @@ use Rattle.std.proofs.lemmas.List.{length-map, get_or-map, get_or_default}
 use Rattle.std.proofs.lemmas.Option.{same_Some}
 use Rattle.lore_base.specs.Databases.{Database}
 use Rattle.lore_base.proofs.MemberLaws.{Contains-head, Contains-tail}
+use Rattle.list_laws.proofs.PartLaws.{map_more_read}
 use Rattle.lorel_trees.specs.Trees as t
 use Rattle.lorel_trees.specs.Trees.{SelectTree, StatementTree}
 use Rattle.lorel_trees.specs.UpdateRows.{target_select, pair_select}
 use Rattle.lorel_ranges.specs.Places.{Place, CellPlace, object, scope_of, place_of, cells_of}
 use Rattle.lorel_ranges.specs.Ranges.{Range}
 use Rattle.lorel_bind.specs.Answers.{ShowsCell, IsRow, IsAnswer}
-use Rattle.lorel_ranges.proofs.ListLaws.{map-take_read}
 use Rattle.updates.specs.Effects.{Pair}
 use Rattle.lore_db.specs.Types.{Oid, Cell}
 use Rattle.lore_db.specs.Types.cells
@@ -114,4 +114,4 @@ pairs_next items rows k row old new pair are within at own before pushed =
     let few : k < length rows = omega (arith, within, ap length are, length-map rows object_cells) in
     let here = get_or rows k [] in
     let shown : row ≡ object_cells here = at ∙ ap (λ (l : List (List Cell)). get_or l k row) are ∙ get_or-map object_cells rows k [] row few in
-    pushed ∙ (λ i. before i ++ own here shown i ∷ []) ∙ sym (map-take_read pair_of rows k here few (get_or_default rows k [] here few))
+    pushed ∙ (λ i. before i ++ own here shown i ∷ []) ∙ sym (map_more_read pair_of rows k here few (get_or_default rows k [] here few))

@@ -4,17 +4,16 @@ use Rattle.std.proofs.Common.{◌≡◌, ◌≢◌, ℕ, ◌≤◌, ◌<◌, inl
 use Rattle.std.specs.List.{AllZip, Contains}
 use Rattle.std.proofs.lemmas.List.{length-map}
 use Rattle.std.proofs.lemmas.List.Elements.{All-nil, All-cons, All-head, All-contains}
-use Rattle.graph_search.proofs.SumLaws.{length-within}
 use Rattle.lore_base.specs.Databases.{Database, IsLive, IsValid}
 use Rattle.lore_base.specs.Paths.{PathTree, Reaches}
 use Rattle.lore_base.specs.TargetSets.{ListsInOrder}
 use Rattle.lore_base.proofs.NameLaws.{found_bound}
 use Rattle.lore_base.proofs.TargetLaws.{ListsInOrder-same}
-use Rattle.oem_changes.proofs.AscentLaws.{AllPairs-within}
-use Rattle.oem_changes.proofs.ClosureLaws.{Contains-mapped}
-use Rattle.oem_changes.proofs.RootedLaws.{All-of_members}
+use Rattle.list_laws.proofs.AscentLaws.{AllPairs-within}
+use Rattle.list_laws.proofs.SumLaws.{length-within}
+use Rattle.list_laws.proofs.MemberLaws.{Contains-map, All-from_members}
+use Rattle.list_laws.proofs.PlaceLaws.{Contains-from_place}
 use Rattle.dataguide.specs.Guides.{GuideGraph, StandsFor, sets_of}
-use Rattle.dataguide.proofs.PlaceLaws.{Contains-at}
 use Rattle.guide_query.specs.GuideReaches.{GuideOver, TellsReached, TellsOf}
 use Rattle.lore_store.specs.Stores.{IsGuided}
 use Rattle.lorel_trees.specs.Trees.{SelectTree}
@@ -95,7 +94,7 @@ module _ (db : Database) (valid : IsValid db) (told : GuideOver) (stands : Stand
   told_live : (path : PathTree) (named oid : Oid) → TellsReached told path named oid → IsLive db.graph.objects oid
   told_live path named oid reached =
       let set = reached.member.0 in
-      let led = (stands.nodes.exact set).0 (Contains-at (sets_of told.guide.nodes) reached.last.0 set reached.member.1) in
+      let led = (stands.nodes.exact set).0 (Contains-from_place (sets_of told.guide.nodes) reached.last.0 set reached.member.1) in
       let walked = (led.1.target.exact oid).0 reached.member.2 in
       walk_live db.graph valid.restorable.rooted.well_formed led.1.start
       (All-contains (λ (e : List ℕ × Oid). IsLive db.graph.objects e.1) db.graph.names (led.0.name, led.1.start) valid.restorable.rooted.well_formed.names_live led.1.named)
@@ -106,9 +105,9 @@ module _ (db : Database) (valid : IsValid db) (told : GuideOver) (stands : Stand
       → length oids ≤ length db.graph.objects
   few_told path named oids lists =
       let live : All (Contains (map (λ (object : Oid × Value). object.0) db.graph.objects)) oids =
-      All-of_members (Contains (map (λ (object : Oid × Value). object.0) db.graph.objects)) oids (λ oid there.
+      All-from_members (Contains (map (λ (object : Oid × Value). object.0) db.graph.objects)) oids (λ oid there.
       let own = told_live path named oid ((lists.exact oid).0 there) in
-      Contains-mapped (λ (object : Oid × Value). object.0) db.graph.objects (oid, own.0) own.1) in
+      Contains-map (λ (object : Oid × Value). object.0) db.graph.objects (oid, own.0) own.1) in
       let fits = length-within oids (map (λ (object : Oid × Value). object.0) db.graph.objects)
       (AllPairs-within (λ (a b : Oid). a.0 < b.0) (λ (a b : Oid). a ≢ b) oids
       (λ a b first second less same. let number = ap (λ (o : Oid). o.0) same in omega (arith, less, number)) lists.ascending)

@@ -2,10 +2,10 @@
 use Rattle.std.proofs.Common.{◌≡◌, ◌≢◌, ◌↔◌, inl, inr, List, [], ◌∷◌, ◌++◌, Option, Some, None, AllPairs, All, sym, subst, arith}
 use Rattle.std.specs.Prelude.{MatchOption}
 use Rattle.std.specs.List.{Contains}
-use Rattle.graph_search.proofs.SumLaws.{sum_by-within, length-within}
 use Rattle.lore_base.specs.Databases.{Database}
 use Rattle.lore_base.specs.Verdicts.{IsClear, IsToldBy}
 use Rattle.lore_base.proofs.VerdictLaws.{clear_both}
+use Rattle.list_laws.proofs.SumLaws.{sum_by-within, length-within}
 use Rattle.lorel_trees.specs.Trees.{SelectTree, StatementTree}
 use Rattle.lorel_bind.specs.Answers.{IsAnswer}
 use Rattle.lorel_bind.specs.Refusals as binding

@@ -4,6 +4,8 @@ use Rattle.std.specs.List.{Contains, AllZip, slice_get}
 use Rattle.std.specs.Option.{MatchOption}
 use Rattle.std.proofs.lemmas.List.Elements.{All-head, All-tail, All-contains}
 use Rattle.std.proofs.lemmas.Option.{same_Some, slice_get_within}
+use Rattle.std.proofs.lemmas.Slice.Zip.{AllZip-long}
+use Rattle.plan_ops.proofs.DescribeLawsRows.{within_more}
 use Rattle.lore_base.specs.Walks.{oid_of}
 use Rattle.lore_base.specs.Comparisons.{Compares}
 use Rattle.lore_base.specs.Paths.{Reaches}
@@ -14,7 +16,6 @@ use Rattle.lorel_bound.specs.Conditions.{CondOf, paths_of, paths_in}
 use Rattle.lorel_bound.specs.Runnable.{IsWithin, IsCellWithin, AreInOrder, IsBoundWithin, IsRunnable}
 use Rattle.lorel_bound.specs.SlotRows.{StartsAt, BoundStartsAt, MeetsBy, HoldsOver, AreFilled, IsSlotWord, ShowsSlot}
 use Rattle.bind_laws.proofs.ConditionLaws.{ReachAlike, holds_like, like_itself}
-use Rattle.lorel_ranges.proofs.ListLaws.{AllZip-length}
 use Rattle.plan_ops.specs.Steps.{in_eight, IsSought}
 use Rattle.answers.specs.Asked.{ShowsRow, ShowsAsked}
 use Rattle.answers.specs.Types.{CellOf}
@@ -37,11 +38,6 @@ starts_in_front slots more count (starts.Named own) oid long within = (λ h. h, 
 starts_in_front slots more count (starts.Slot slot) oid long within =
     let same = slice_get-front slots more slot (omega (arith, within, long)) in
     (λ h. sym same ∙ h, λ h. same ∙ h)
-
--- each range starts at an object, or at a slot of a range
-within_more : (low high : ℕ) (start : Start) → low ≤ high → IsWithin low start → IsWithin high start
-within_more low high (starts.Named own) more within = tt
-within_more low high (starts.Slot slot) more within = omega (arith, more, within)
 
 starts_within : (count earlier : ℕ) (ranges : List RangeTree) (slot : ℕ) (range : RangeTree) → earlier + length ranges ≤ count
     → AreInOrder earlier ranges → slice_get ranges slot ≡ Some range → IsWithin count range.start
@@ -142,7 +138,7 @@ sought_rows labels edges objects bound passes runnable same row =
     let Holds : List Oid → Type 0 = λ slots. HoldsOver labels edges objects slots bound.cond in
     let behind : List Oid → List Oid = λ slots. replicate (RANGES - length slots) (oid_of 0) in
     let long = λ (slots : List Oid) (filled : AreFilled labels edges bound.ranges slots).
-    AllZip-length (λ range oid. (start : Oid) × StartsAt slots range.start start × Reaches labels edges range.path start oid) bound.ranges slots filled in
+    AllZip-long (λ range oid. (start : Oid) × StartsAt slots range.start start × Reaches labels edges range.path start oid) bound.ranges slots filled in
     let alike = λ (slots : List Oid) (filled : AreFilled labels edges bound.ranges slots).
     holds_in_front labels edges objects slots (behind slots) bound.cond
     (subst (λ (n : ℕ). All (λ path. IsBoundWithin n path.start) (paths_in bound.cond)) (sym (long slots filled)) runnable.condition_within) in

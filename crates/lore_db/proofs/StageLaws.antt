@@ -1,6 +1,7 @@
 -- Stages of a select: what the rows that its plan finds in a view show is its rows there, or they are too many.
 use Rattle.std.proofs.Common.{◌≡◌, ◌↔◌, ◌⊎◌, inl, inr, ℕ, List, ◌∷◌, Option, Some, None, option_map, Result, Ok, Err, IfOk, All}
 use Rattle.std.specs.Prelude.{OnOk, MatchOption}
+use Rattle.answers.proofs.RowLaws.{AreLeft, over_of}
 use Rattle.lore_base.specs.Paths.{PathTree}
 use Rattle.lorel_bound.specs.declared.conditions.BoundCond.{BoundCond}
 use Rattle.lorel_bound.specs.Bound.{BoundTree, bound_cond}
@@ -77,14 +78,6 @@ quiet_by labels edges links entries reaches P Q steps (inl guided) = inl guided
 quiet_by labels edges links entries reaches P Q steps (inr nothing) = inr (nothing_by labels edges links entries reaches P Q steps nothing)
 
 -- ---- rows that are left of a plan
-module _ {A K V P T : Type 0} (edges : A → List Edge) (links : K → List Edge) (entries : V → List ValueEntry)
-    (reaches : P → PathTree → Oid → Oid → Type 0) (passes : T → List Oid → Type 0) where
-  -- what the steps of the plan are taken over
-  abbrev pub over_of : RowsLeft A K V P T → StepsOver
-  over_of rows = steps_over rows.labels (edges rows.graph) (links rows.links) (entries rows.values) (reaches rows.paths) (passes rows.test)
-
-  abbrev pub AreLeft : RowsLeft A K V P T → List Oid → Type 0
-  AreLeft rows = IsToCome (over_of rows) (steps_of rows.plan) rows.partials
 
 -- ---- rows that are made of such parts, and keep them
 module _ {A K V P T : Type 0} (rows : RowsLeft A K V P T) (labels : List (List ℕ)) (graph : A) (links : K) (values : V) (paths : P) (test : T) (plan : Plan)

@@ -31,7 +31,7 @@ impl Db {
     }
 
     /// Shows the first objects that a label path leads to, at most so many. Refused are a start that
-    /// is no name, and a number that isn't from 1 to 100,000.
+    /// is no name, and a number that isn't from 1 to `SAMPLE`.
     pub(crate) fn sample(&self, path: &LabelPath, count: i64) -> Result<Reply, Stop>
         ensures ok { IfOk result (λ reply.
             Executes self.now (sample path.now.start path.now.labels count) reply self.now) }
@@ -51,7 +51,7 @@ impl Db {
     }
 }
 
-// The number of objects to show at most; None exactly where the number isn't from 1 to 100,000.
+// The number of objects to show at most; None exactly where the number isn't from 1 to `SAMPLE`.
 fn sample_size(count: i64) -> Option<u32>
     ensures some { IfSome result (λ size. (count ≡ pos size) × (1 ≤ size) × (size ≤ THE_SAMPLE)) }
     ensures none { IfNone result (¬ IsBetween 1 THE_SAMPLE count) }

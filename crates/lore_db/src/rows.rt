@@ -31,8 +31,8 @@ pub(crate) struct View<'a, G, K, V, P> {
     pub(crate) paths: &'a P,
 }
 
-/// The rows of a bound select by a plan of it. Refused are more than 100,000, and more than
-/// 16,777,216 labels in their words.
+/// The rows of a bound select by a plan of it. Refused are more than `ROWS`, and more than
+/// `PATH_LABELS` labels in their words.
 ///
 /// A plan that walks forward alone asks nothing of links, values and paths; else they are the
 /// graph's. No step is counted where the plan reads no edge, and either no cell shows a word or there

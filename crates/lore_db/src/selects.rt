@@ -50,8 +50,8 @@ pub(crate) fn select<L: Ledger>(
 }
 
 /// The rows of a select. Refused are one that can't be bound (`UnknownName`, `UnknownVariable`,
-/// `DuplicateVariable`, `TooManyRanges`), and one with more than 100,000 rows, or more than
-/// 16,777,216 labels in their words (`TooManyRows`).
+/// `DuplicateVariable`, `TooManyRanges`), and one with more rows than `ROWS`, or more labels
+/// in their words than `PATH_LABELS` (`TooManyRows`).
 pub(crate) fn rows_of<L: Ledger>(
     alloc: Global,
     store: &Store,
@@ -106,7 +106,7 @@ pub(crate) fn plan_of(alloc: Global, store: &Store, bound: &Bound) -> Result<Pla
     choose(alloc, bound, mode, values, &paths, labels, objects, nodes)
 }
 
-/// The rows of a bound select. Refused are more than 100,000, and more than 16,777,216 labels in
+/// The rows of a bound select. Refused are more than `ROWS`, and more than `PATH_LABELS` labels in
 /// their words.
 pub(crate) fn found<L: Ledger>(
     alloc: Global,

@@ -1,5 +1,5 @@
 -- What the indexes of a graph hold, before and after a prepared change.
-use Rattle.std.proofs.Common.{◌≡◌, ◌≢◌, ℕ, ◌<◌, ◌≤◌, ◌⊎◌, ◌↔◌, List, [], ◌∷◌, length, map, inl, inr, refl, ap, sym, subst, ◌∙◌, arith, Less}
+use Rattle.std.proofs.Common.{◌≡◌, ◌≢◌, ℕ, ◌≤◌, ◌⊎◌, ◌↔◌, List, [], ◌∷◌, length, map, inl, inr, refl, ap, sym, subst, ◌∙◌, arith, Less}
 use Rattle.std.specs.List.{All, AllPairs, Contains}
 use Rattle.std.proofs.lemmas.Bool.Decides.{nat_tests}
 use Rattle.std.proofs.lemmas.List.{length-map}
@@ -10,7 +10,7 @@ use Rattle.lore_base.specs.declared.edges.Oid.{Oid}
 use Rattle.lore_base.specs.declared.edges.Edge.{Edge}
 use Rattle.lore_base.specs.declared.values.Value.{Value}
 use Rattle.index_traits.specs.declared.entries.ValueEntry.{ValueEntry}
-use Rattle.lore_base.specs.Databases.{OemGraph, IsLive, IsLinked, IsRooted, AreAscendingObjects}
+use Rattle.lore_base.specs.Databases.{OemGraph, IsLive, IsLinked, IsRooted}
 use Rattle.lore_base.specs.ChangeSets.{IsGraphAfter}
 use Rattle.lore_base.specs.Deltas.{IsOnlyIn}
 use Rattle.index_traits.specs.Entries.{AreLinks, AreAscendingLinks, AreValueEntries, IsValueEntry, AreAscendingEntries, entry_cmp}
@@ -19,11 +19,12 @@ use Rattle.value_index.specs.Values.{FitsEntries}
 use Rattle.value_changes.specs.EntryChanges.{State, HasEntry, IsSettled, AreGraphChanges, TakesTo, AreEntryChanges}
 use Rattle.oem_graph.specs.Plans.{AreEdgeChanges}
 use Rattle.lore_base.proofs.ListLaws.{AllPairs-head, AllPairs-tail}
-use Rattle.oem_changes.proofs.AscentLaws.{AllPairs-nil, AllPairs-once}
-use Rattle.oem_changes.proofs.CountLaws.{distinct_no_longer}
 use Rattle.lore_base.proofs.ToldLaws.{told_member, told_edge}
-use Rattle.oem_changes.proofs.RootedLaws.{All-of_members, told_live}
-use Rattle.oem_graph.proofs.LeftLaws.{mapped, map-contains}
+use Rattle.list_laws.proofs.PairLaws.{AllPairs-nil}
+use Rattle.list_laws.proofs.SumLaws.{distinct_no_longer}
+use Rattle.list_laws.proofs.MemberLaws.{All-from_members, Contains-from_map, Contains-map}
+use Rattle.index_traits.proofs.ObjectLaws.{one_value_of}
+use Rattle.oem_changes.proofs.RootedLaws.{told_live}
 use Rattle.lore_store.specs.declared.indexes.Indexes.{Indexes}
 use Rattle.lore_store.specs.declared.indexes.IndexPlan.{IndexPlan}
 use Rattle.lore_store.specs.Indexes.{AreIndexes, AreIndexed, state_of}
@@ -34,8 +35,8 @@ module _ {T : Type 0} (Before After : T → Type 0) (kept gone come : List T) (s
     (takes : TakesTo Before After gone come) where
   pub is_change : IsChange kept gone come
   is_change = record {
-    kept_ones = All-of_members (Contains kept) gone (λ item at. (same item).1 (takes.gone_ones item at));
-    new_ones = All-of_members (λ item. (Contains kept item × (Contains gone item → ⊥)) → ⊥) come
+    kept_ones = All-from_members (Contains kept) gone (λ item at. (same item).1 (takes.gone_ones item at));
+    new_ones = All-from_members (λ item. (Contains kept item × (Contains gone item → ⊥)) → ⊥) come
         (λ item at both. both.1 ((takes.come_ones item at).1 ((same item).0 both.0)));
   }
 
@@ -97,22 +98,14 @@ links_same edges then links given stands exact edge = (
 pub gone_kept : (edges then links gone : List Edge) → AreLinks edges links
     → ((edge : Edge) → Contains gone edge ↔ IsOnlyIn edges then edge) → All (Contains links) gone
 gone_kept edges then links gone stands goes =
-    All-of_members (Contains links) gone (λ edge at. (stands.exact edge).1 ((goes edge).0 at).0)
+    All-from_members (Contains links) gone (λ edge at. (stands.exact edge).1 ((goes edge).0 at).0)
 
 pub come_new : (edges then links come : List Edge) → AreLinks edges links
     → ((edge : Edge) → Contains come edge ↔ IsOnlyIn then edges edge) → All (λ edge. Contains links edge → ⊥) come
 come_new edges then links come stands comes =
-    All-of_members (λ edge. Contains links edge → ⊥) come (λ edge at there. ((comes edge).0 at).1 ((stands.exact edge).0 there))
+    All-from_members (λ edge. Contains links edge → ⊥) come (λ edge at there. ((comes edge).0 at).1 ((stands.exact edge).0 there))
 
 -- ---- value entries
--- an object has one value among ascending ones
-pub one_object : (objects : List (Oid × Value)) → AreAscendingObjects objects → (oid : Oid) (value other : Value)
-    → Contains objects (oid, value) → Contains objects (oid, other) → value ≡ other
-one_object objects ascend oid value other at other_at =
-    ap (λ (object : Oid × Value). object.1)
-    (AllPairs-once (λ (a b : Oid × Value). a.0.0 < b.0.0) objects ascend (oid, value) (oid, other) at other_at
-    (λ less. omega (arith, less)) (λ less. omega (arith, less)))
-
 abbrev key_of : ValueEntry → ℕ × ℕ
 key_of entry = (entry.label.0, entry.object.0)
 
@@ -126,8 +119,8 @@ keys_apart : (list : List ValueEntry) → AreAscendingEntries list → AllPairs 
 keys_apart [] ascend = AllPairs-nil (λ (a b : ℕ × ℕ). a ≢ b)
 keys_apart (first ∷ others) ascend =
     AllPairs-cons (λ (a b : ℕ × ℕ). a ≢ b) (key_of first) (map key_of others)
-    (All-of_members (λ key. key_of first ≢ key) (map key_of others) (λ key at same.
-    let from = mapped key_of others key at in
+    (All-from_members (λ key. key_of first ≢ key) (map key_of others) (λ key at same.
+    let from = Contains-from_map key_of others key at in
     let is = same ∙ sym from.2 in
     less_apart first from.0 (AllPairs-head (λ (a b : ValueEntry). entry_cmp a b ≡ Less) first others ascend from.0 from.1)
     (ap (λ (k : ℕ × ℕ). k.0) is) (ap (λ (k : ℕ × ℕ). k.1) is)))
@@ -139,9 +132,9 @@ pub few_entries : (objects : List (Oid × Value)) (edges : List Edge) (list : Li
 few_entries objects edges list ascend each =
     let within = distinct_no_longer (map key_of list) (map edge_key edges) (keys_apart list ascend)
     (λ key at.
-    let from = mapped key_of list key at in
+    let from = Contains-from_map key_of list key at in
     let entered = (each from.0 from.1).entered in
-    subst (Contains (map edge_key edges)) from.2 (map-contains edge_key edges _ entered.1)) in
+    subst (Contains (map edge_key edges)) from.2 (Contains-map edge_key edges _ entered.1)) in
     omega (arith, within, length-map list key_of, length-map edges edge_key)
 
 module _ (before after : OemGraph) (rooted : IsRooted after) (few : length after.edges ≤ EDGES) (kept gone come : List ValueEntry)
@@ -155,9 +148,9 @@ module _ (before after : OemGraph) (rooted : IsRooted after) (few : length after
     gone_ascend = changes.gone_ascend;
     come_ascend = changes.come_ascend;
     change = is_change (HasEntry (state_of before)) (HasEntry (state_of after)) kept gone come stands.exact changes.takes;
-    atomic = All-of_members (λ entry. entry.value ≢ _) come (λ entry at. (changes.takes.come_ones entry at).0.atomic);
+    atomic = All-from_members (λ entry. entry.value ≢ _) come (λ entry at. (changes.takes.come_ones entry at).0.atomic);
     one_value = λ a b in_a in_b same.
-        one_object after.objects rooted.well_formed.ordered.objects_ascend b.object a.value b.value
+        one_value_of after.objects rooted.well_formed.ordered.objects_ascend b.object a.value b.value
         (subst (λ (oid : Oid). Contains after.objects (oid, a.value)) same (then_entry a in_a).live) (then_entry b in_b).live;
     few = λ list ascend less.
         let bound = few_entries after.objects after.edges list ascend (λ entry at. then_entry entry ((less entry).0 at)) in
@@ -169,7 +162,7 @@ module _ (before after : OemGraph) (rooted : IsRooted after) (few : length after
 pub settled : (graph : OemGraph) (edges : List Edge) → IsRooted graph → ((edge : Edge) → Contains edges edge → Contains graph.edges edge)
     → IsSettled (record { objects = graph.objects; edges = edges })
 settled graph edges rooted within = record {
-  one_value = one_object graph.objects rooted.well_formed.ordered.objects_ascend;
+  one_value = one_value_of graph.objects rooted.well_formed.ordered.objects_ascend;
   children = λ edge at. (All-contains (IsLinked graph.objects) graph.edges edge rooted.well_formed.edges_linked (within edge at)).child;
 }
 

@@ -9,6 +9,7 @@ use Rattle.lore_base.specs.GuideLimits.{KeepLimits}
 use Rattle.lore_base.specs.declared.edges.Oid.{Oid}
 use Rattle.lore_base.specs.Databases.{OemGraph, IsValid, new_database, new_graph}
 use Rattle.lore_base.proofs.MemberLaws.{Contains-none, Contains-head}
+use Rattle.list_laws.proofs.PairLaws.{AllPairs-nil}
 use Rattle.dataguide.specs.declared.nodes.GuideNode.{GuideNode}
 use Rattle.dataguide.specs.Guides.{GuideGraph, StandsFor, sets_of}
 use Rattle.lore_base.specs.PathOrder.{AreInPathOrder, ComesBefore}
@@ -24,9 +25,6 @@ pub new_fits : (limit : ℕ) (edges : List Edge) (sets : List (List Oid)) → Al
 new_fits limit edges [] apart led = record { few = omega arith; small = omega arith }
 new_fits limit edges (set ∷ sets) apart led =
     absurd (Contains-none _ (All-contains (IsLedTo [] edges) (set ∷ sets) set led (Contains-head set sets)).1.named)
-
-none_below : {X : Type 0} (R : X → X → Type 0) → AllPairs R []
-none_below R = λ i j d low within. absurd (omega (arith, within))
 
 -- the new database is valid
 pub new_valid : IsValid new_database
@@ -62,7 +60,7 @@ new_valid = record {
 }
 
 new_order : (nodes : List GuideNode) → nodes ≡ [] → AreInPathOrder [] [] (sets_of nodes)
-new_order nodes none = rw none (record { paths = []; least = tt; ascending = none_below ComesBefore })
+new_order nodes none = rw none (record { paths = []; least = tt; ascending = AllPairs-nil ComesBefore })
 
 new_links : (links : List Edge) → links ≡ [] → AreLinks [] links
 new_links links none = rw none (record { ascend = λ i j d low within. absurd (omega (arith, within)); exact = λ edge. (λ at. at, λ at. at) })

@@ -12,6 +12,7 @@ use Rattle.lore_base.specs.GuideLimits.{FitsGuide}
 use Rattle.lore_base.specs.Verdicts.{IsClear}
 use Rattle.lore_base.proofs.MemberLaws.{Contains-none}
 use Rattle.lore_base.proofs.ListLaws.{AllPairs-append}
+use Rattle.list_laws.proofs.MemberLaws.{none_in}
 use Rattle.oem_labels.specs.Labels.{first_uses}
 use Rattle.oem_labels.proofs.TextSetLaws.{first_uses-apart}
 use Rattle.oem_changes.proofs.ValidLaws.{valid_after, rooted_graph}
@@ -27,24 +28,20 @@ use Rattle.lore_store.specs.Stores.{PlannedDatabase, database_then, order, IsGui
 use Rattle.lore_store.specs.inside.Sizes.{SizeCause}
 use Rattle.lore_store.specs.inside.Unlinked.{LinkNothing}
 
--- nothing stands in a list without items
-none_of : {X : Type 0} (xs : List X) (x : X) → xs ≡ [] → Contains xs x → ⊥
-none_of {X} xs x none there = Contains-none x (subst (λ (l : List X). Contains l x) none there)
-
 module _ (graph : OemGraph) (changes : Changes) (rooted : IsRooted graph) (fits : FitsGraph graph changes) (nothing : LinkNothing changes) where
   same_edges : (edge : Edge) → Contains graph.edges edge ↔ EdgesThen graph.edges changes edge
   same_edges edge = (
-    λ there. inr (there, none_of changes.removed edge nothing.removed),
+    λ there. inr (there, none_in changes.removed edge nothing.removed),
     λ then_there. elim then_there [
-      | inl added ↦ absurd (none_of changes.added edge nothing.added added)
+      | inl added ↦ absurd (none_in changes.added edge nothing.added added)
       | inr (there, stays) ↦ there
     ],
   )
 
   -- no name is renamed
   not_renamed : (name : List ℕ) → IsRenamed changes name → ⊥
-  not_renamed name (inl bound) = none_of changes.named (name, bound.0) nothing.named bound.1
-  not_renamed name (inr unnamed) = none_of changes.unnamed name nothing.unnamed unnamed
+  not_renamed name (inl bound) = none_in changes.named (name, bound.0) nothing.named bound.1
+  not_renamed name (inr unnamed) = none_in changes.unnamed name nothing.unnamed unnamed
 
   reached_then : (oid : Oid) → IsReached graph.names graph.edges oid → IsReachedThen graph.names changes graph.edges oid
   reached_then oid reached = record {
@@ -60,7 +57,7 @@ module _ (graph : OemGraph) (changes : Changes) (rooted : IsRooted graph) (fits 
       reached_then oid (All-contains (λ (object : Oid × Value). IsReached graph.names graph.edges object.0) graph.objects (oid, live.0) rooted.reached live.1)
 
   then_reached : (oid : Oid) → IsLiveThen graph.objects changes oid → IsReachedThen graph.names changes graph.edges oid
-  then_reached oid (value, inl made) = absurd (none_of changes.made (oid, value) nothing.made made)
+  then_reached oid (value, inl made) = absurd (none_in changes.made (oid, value) nothing.made made)
   then_reached oid (value, inr (inl given)) =
       live_reached oid (All-contains (λ (object : Oid × Value). IsLive graph.objects object.0) changes.values (oid, value) fits.values_live given)
   then_reached oid (value, inr (inr (kept, same))) = live_reached oid (value, kept)
@@ -80,7 +77,7 @@ module _ (graph : OemGraph) (changes : Changes) (rooted : IsRooted graph) (fits 
   same_names entry = (
     λ there. inr (there, not_renamed entry.0),
     λ then_there. elim then_there [
-      | inl named ↦ absurd (none_of changes.named entry nothing.named named)
+      | inl named ↦ absurd (none_in changes.named entry nothing.named named)
       | inr (there, stays) ↦ there
     ],
   )

@@ -2,7 +2,7 @@
 use Rattle.std.proofs.Common.{◌<◌, ℕ, length, Option, Some, None, refl, subst, inl, inr}
 use Rattle.lore_store.specs.Types.{Refusal, Changes, NAMES, OBJECTS, EDGES}
 use Rattle.lore_store.specs.Types.refusals
-use Rattle.lore_base.specs.GuideLimits.{FitsGuide, PassesNodes, PassesCells}
+use Rattle.lore_base.specs.GuideLimits.{FitsGuide, ExceedsNodes, ExceedsCells}
 use Rattle.lore_base.specs.Databases.{OemGraph, Database}
 use Rattle.lore_base.specs.ChangeSets.{IsGraphAfter}
 use Rattle.lore_base.specs.ChangeCauses.{DatabaseCause}
@@ -35,11 +35,11 @@ module _ (db : Database) (changes : Changes) (after : OemGraph) (h : IsGraphAfte
   few_edges : DatabaseCause db changes refusals.TooManyEdges → SizeCause after refusals.TooManyEdges
   few_edges many = subst (λ (g : OemGraph). EDGES < length g.edges) (one_after db.graph changes many.0 after many.1 h) many.2
 
-  few_sets : DatabaseCause db changes refusals.GuideNodes → PassesNodes db.nodes after.names after.edges
-  few_sets many = subst (λ (g : OemGraph). PassesNodes db.nodes g.names g.edges) (one_after db.graph changes many.0 after many.1 h) many.2
+  few_sets : DatabaseCause db changes refusals.GuideNodes → ExceedsNodes db.nodes after.names after.edges
+  few_sets many = subst (λ (g : OemGraph). ExceedsNodes db.nodes g.names g.edges) (one_after db.graph changes many.0 after many.1 h) many.2
 
-  few_cells : DatabaseCause db changes refusals.GuideCells → PassesCells db.nodes after.names after.edges
-  few_cells many = subst (λ (g : OemGraph). PassesCells db.nodes g.names g.edges) (one_after db.graph changes many.0 after many.1 h) many.2
+  few_cells : DatabaseCause db changes refusals.GuideCells → ExceedsCells db.nodes after.names after.edges
+  few_cells many = subst (λ (g : OemGraph). ExceedsCells db.nodes g.names g.edges) (one_after db.graph changes many.0 after many.1 h) many.2
 
   -- where nothing is too large, nothing is refused
   pub sized_clear : IsClear (SizeCause after) order → FitsGuide db.nodes after.names after.edges → IsClear (DatabaseCause db changes) order

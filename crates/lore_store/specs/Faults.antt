@@ -1,6 +1,6 @@
 -- What a fault of a change, or of a database that is restored, is answered with.
 use Rattle.std.specs.Prelude.{Option, Some, None}
-use Rattle.lore_base.specs.GuideLimits.{PassesNodes, PassesCells}
+use Rattle.lore_base.specs.GuideLimits.{ExceedsNodes, ExceedsCells}
 use Rattle.lore_base.specs.Databases.{Database}
 use Rattle.lore_store.specs.Types.refusals
 use Rattle.lore_store.specs.Types.{Refusal}
@@ -40,6 +40,6 @@ guide_restore_fault guide.NoMemory = restore.NoMemory
 
 -- the cause of each fault of a database that is restored
 abbrev pub RestoreCause : Database → RestoreFault → Type 0
-RestoreCause db restore.GuideNodes = PassesNodes db.nodes db.graph.names db.graph.edges
-RestoreCause db restore.GuideCells = PassesCells db.nodes db.graph.names db.graph.edges
+RestoreCause db restore.GuideNodes = ExceedsNodes db.nodes db.graph.names db.graph.edges
+RestoreCause db restore.GuideCells = ExceedsCells db.nodes db.graph.names db.graph.edges
 RestoreCause db restore.NoMemory = Unit {0}

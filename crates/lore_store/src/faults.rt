@@ -21,10 +21,11 @@ pub enum StoreFault {
     /// There would be more edges than `EDGES`.
     #[error("too many edges")]
     TooManyEdges,
-    /// Label paths would lead to more sets of objects than the guide may have nodes.
+    /// The guide wouldn't fit: its first set that doesn't is one more than the limit on nodes.
     #[error("too many nodes of the guide")]
     GuideNodes,
-    /// The sets that label paths would lead to would have more members than `CELLS`.
+    /// The guide wouldn't fit: with its first set that doesn't, the sets have more members than
+    /// `CELLS`.
     #[error("too many members of the guide's sets")]
     GuideCells,
     /// Memory was refused.
@@ -86,10 +87,10 @@ impl<T: Drop> From<AllocFailed<T>> for StoreFault {
 /// Why a database can't be restored.
 #[derive(Clone, Copy, Debug, PartialEq, Eq, Error)]
 pub enum RestoreFault {
-    /// Label paths lead to more sets of objects than the guide may have nodes.
+    /// The guide doesn't fit: its first set that doesn't is one more than the limit on nodes.
     #[error("too many nodes of the guide")]
     GuideNodes,
-    /// The sets that label paths lead to have more members than `CELLS`.
+    /// The guide doesn't fit: with its first set that doesn't, the sets have more members than `CELLS`.
     #[error("too many members of the guide's sets")]
     GuideCells,
     /// Memory was refused.

@@ -22,8 +22,9 @@ use Rattle.lorel_bind.specs.declared.faults.BindFault.TheVariants.{TooManyRanges
 use Rattle.lorel_ranges.specs.inside.Orders.{IsFound, AreOrdered}
 use Rattle.lorel_bind.specs.inside.Slots.{CanStart, CanStartAny, CanShow, CanBind, BindsRange, BindsCell, BindsPath}
 use Rattle.lorel_bind.specs.inside.Causes.{PassesText}
-use Rattle.lorel_ranges.proofs.ListLaws.{All-parts, All-from_members}
+use Rattle.lorel_ranges.proofs.ListLaws.{All-parts}
 use Rattle.lore_base.proofs.ToldLaws.{told_member, told_bytes}
+use Rattle.list_laws.proofs.MemberLaws.{All-from_members}
 use Rattle.lorel_ranges.proofs.OrderLaws.{IsFound-wider}
 use Rattle.lorel_ranges.proofs.GatherLaws.{has_one_plain}
 use Rattle.lorel_ranges.proofs.PlainLaws.{plain_ordered}

@@ -5,6 +5,7 @@ use Rattle.std.specs.Option.{option_map}
 use Rattle.std.specs.Str.{bytes_eq}
 use Rattle.std.proofs.lemmas.Bool.{cond_both}
 use Rattle.std.proofs.lemmas.List.Elements.{All-nil, All-cons, All-head, All-tail, All-append, All-push, All-contains, Contains-append_left, Contains-append_right}
+use Rattle.list_laws.proofs.MemberLaws.{All-from_members}
 use Rattle.lore_base.specs.Names.{object_of}
 use Rattle.lore_base.specs.Paths.{PathTree}
 use Rattle.lorel_trees.specs.Trees.{FromTree, OperandTree, CondTree, CondTrees, RootedTree, SelectTree}
@@ -17,7 +18,7 @@ use Rattle.lorel_ranges.specs.Ranges.{Range, prefix_ranges, path_ranges, from_it
 use Rattle.lorel_ranges.specs.Texts.{from_places, text_places}
 use Rattle.lorel_bind.specs.Refusals.{StartsNowhere}
 use Rattle.lorel_ranges.specs.inside.Orders.{IsFound}
-use Rattle.lorel_ranges.proofs.ListLaws.{All-parts, All-from_members}
+use Rattle.lorel_ranges.proofs.ListLaws.{All-parts}
 use Rattle.lorel_ranges.proofs.PlainLaws.{scope_found, cell_found}
 
 -- a quantifier, or a root whose place is found

@@ -6,6 +6,7 @@ use Rattle.std.proofs.lemmas.List.{length-map, get_or-append_right}
 use Rattle.std.proofs.lemmas.List.Elements.{All-nil, All-cons, All-contains, All-map}
 use Rattle.std.proofs.lemmas.List.Sums.{sum_by-cons}
 use Rattle.std.proofs.lemmas.Option.{slice_get_within, get_or_from_slice_get}
+use Rattle.std.proofs.lemmas.Slice.Zip.{AllZip-long}
 use Rattle.lore_base.specs.Paths.{trees_of, leaves, leaves_of}
 use Rattle.lorel_trees.specs.Trees.{SelectTree}
 use Rattle.lorel_bind.specs.Types.{Oid, Start, BoundStart, CellOf, RANGES, LEAVES}
@@ -22,7 +23,7 @@ use Rattle.lorel_bound.specs.Bound.{RangeTree, BoundPathTree, BoundTree}
 use Rattle.lorel_bind.specs.Bindings.{StandsFor, StandsForAny, IsBoundRange, IsBoundCell, IsBoundPath, CorrespondOperands, Correspond, CorrespondEach, CorrespondIf, IsBinding}
 use Rattle.lorel_bound.specs.Runnable.{IsWithin, IsCellWithin, IsBoundWithin, AreInOrder, IsRunnable}
 use Rattle.lorel_ranges.specs.inside.Orders.{IsOpen, IsFound, AreOrdered}
-use Rattle.lorel_ranges.proofs.ListLaws.{AllZip-length, AllZip-append}
+use Rattle.lorel_ranges.proofs.ListLaws.{AllZip-append}
 use Rattle.lorel_ranges.proofs.OrderLaws.{new_places, open_places}
 use Rattle.lorel_ranges.proofs.PlainLaws.{plain_ordered}
 use Rattle.lorel_ranges.proofs.FuseLaws.{fused_ordered}
@@ -164,7 +165,7 @@ pub runs : (names : List (List ℕ × Oid)) (query : SelectTree) (bound : BoundT
 runs names query bound accepted b =
     let few : HasTooMany query → ⊥ = accepted.1.1.1.0 in
     let ordered = fused_ordered (IsUsed query b.plain) b.plain b.fused (plain_ordered query b.plain b.made) b.fuses in
-    let long : length b.fused ≡ length bound.ranges = sym (AllZip-length (IsBoundRange names b.fused) b.fused bound.ranges b.ranges) in
+    let long : length b.fused ≡ length bound.ranges = sym (AllZip-long (IsBoundRange names b.fused) b.fused bound.ranges b.ranges) in
     let IsBoundCond = IsBoundPath names b.plain b.fused in
     let pairs = cond_pairs IsBoundCond (cond_of query) bound.cond b.condition in
     let of_ranges = bound_leaves names b.fused b.fused bound.ranges b.ranges in

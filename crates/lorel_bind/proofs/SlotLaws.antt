@@ -49,13 +49,6 @@ pairs_made R f g [] (y ∷ ys) pairs = absurd pairs
 pairs_made R f g (x ∷ xs) [] pairs = absurd pairs
 pairs_made R f g (x ∷ xs) (y ∷ ys) pairs = (pairs.0, pairs_made R f g xs ys pairs.1)
 
-pub pairs_of_first : {X P Q : Type 0} (R : P → Q → Type 0) (f : X → P) (xs : List X) (ys : List Q)
-    → AllZip (λ x y. R (f x) y) xs ys → AllZip R (map f xs) ys
-pairs_of_first R f [] [] pairs = tt
-pairs_of_first R f [] (y ∷ ys) pairs = absurd pairs
-pairs_of_first R f (x ∷ xs) [] pairs = absurd pairs
-pairs_of_first R f (x ∷ xs) (y ∷ ys) pairs = (pairs.0, pairs_of_first R f xs ys pairs.1)
-
 -- what holds of the item that is read next, and of those before it
 pub All-read : {X : Type 0} (Passes : X → Type 0) (xs : List X) (i : ℕ) (x : X) → i < length xs → x ≡ get_or xs i x
     → All Passes (take i xs) → Passes x → All Passes (take (i + 1) xs)

@@ -12,6 +12,7 @@ use Rattle.std.proofs.lemmas.Slice.Eq.{bytes_eq-Decides}
 use Rattle.indexmap.proofs.CallerLemmas.{Contains-list_any}
 use Rattle.lore_base.specs.Names.{object_of}
 use Rattle.lore_base.proofs.MemberLaws.{Contains-none, Contains-same}
+use Rattle.list_laws.proofs.PairLaws.{AllPairs-front}
 use Rattle.lorel_trees.specs.Trees.{SelectTree}
 use Rattle.lorel_bind.specs.Types.{Oid, ITEMS, LEAVES}
 use Rattle.lorel_ranges.specs.Places as p
@@ -37,13 +38,6 @@ found_text keys text found = Contains-list_any bytes_eq (λ a b. (bytes_eq-Decid
 pub missed_text : (keys : List (Bor (List ℕ))) (text : List ℕ) → list_any (λ (key : Bor (List ℕ)). bytes_eq text key.now) keys ≡ false → Contains (texts keys) text → ⊥
 missed_text keys text missed there =
     true≢false (sym (any_text keys text ∙ list_any-from_Contains nat_list_eq_equiv text (texts keys) there) ∙ missed)
-
--- a text more: each stands once where it did before, and the new one isn't among them
-apart_front : (xs : List (List ℕ)) (x : List ℕ) → AllPairs (λ a b. a ≢ b) (xs ++ x ∷ []) → AllPairs (λ a b. a ≢ b) xs
-apart_front xs x apart i j d before within =
-    let early : i < length xs = omega arith in
-    let longer : j < length (xs ++ x ∷ []) = omega (arith, length-append xs (x ∷ [])) in
-    λ same. apart i j d before longer (get_or_append_left xs (x ∷ []) d i early ∙ same ∙ sym (get_or_append_left xs (x ∷ []) d j within))
 
 apart_last : (xs : List (List ℕ)) (x : List ℕ) → AllPairs (λ a b. a ≢ b) (xs ++ x ∷ []) → Contains xs x → ⊥
 apart_last xs x apart there =
@@ -106,7 +100,7 @@ HasNoted-push earlier old new key first is keys doubled noted = by (list_any (λ
             ])),
           );
           doubled = (
-            (λ twice apart. noted.doubled.0 (sym same ∙ twice) (apart_front earlier key.now apart)),
+            (λ twice apart. noted.doubled.0 (sym same ∙ twice) (AllPairs-front (λ (a b : List ℕ). a ≢ b) earlier (key.now ∷ []) apart)),
             (λ never. same ∙ noted.doubled.1 (λ apart. never (apart_more earlier key.now apart absent))),
           );
         }

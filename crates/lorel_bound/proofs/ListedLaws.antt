@@ -3,7 +3,7 @@ use Rattle.std.proofs.Common.{◌≡◌, ◌⊎◌, inl, inr, ◌↔◌, List, [
 use Rattle.std.specs.List.{Contains, AllZip}
 use Rattle.std.proofs.lemmas.List.Elements.{Contains-append_left, Contains-append_right, Contains-append_cases}
 use Rattle.lore_base.proofs.MemberLaws.{Contains-none, Contains-tail, Contains-head, Contains-cases, Contains-same}
-use Rattle.lore_base.proofs.ToldLaws.{IsTold, told_not, told_same, told_member}
+use Rattle.lore_base.proofs.ToldLaws.{told_some as some_member, IsTold, told_not, told_same, told_member}
 
 -- the list has what passes, and nothing else
 abbrev pub Lists : {X : Type 0} → (X → Type 0) → List X → Type 0
@@ -120,19 +120,6 @@ module _ {X Y : Type 0} (R : X → Y → Type 0) where
       (λ first. listed_over (AllZip R xs) (λ rest ys. first ∷ rest ≡ ys) (listed_pairs each xs) (λ rest. listed_one (first ∷ rest))))
 
 -- ---- what is told over what is listed
-some_member : {X : Type 0} (Q : X → Type 0) → ((x : X) → IsTold (Q x)) → (xs : List X) → IsTold ((x : X) × Contains xs x × Q x)
-some_member Q told [] = inr (λ h. Contains-none h.0 h.1)
-some_member Q told (first ∷ others) = elim (told first) [
-  | inl passes ↦ inl (first, Contains-head first others, passes)
-  | inr fails ↦ elim (some_member Q told others) [
-    | inl later ↦ inl (later.0, Contains-tail first others later.0 later.1, later.2)
-    | inr none ↦ inr (λ h. elim (Contains-cases first others h.0 h.1) [
-      | inl same ↦ fails (subst Q (sym same) h.2)
-      | inr later ↦ none (h.0, later, h.2)
-    ])
-  ]
-]
-
 pub told_some : {X : Type 0} (P Q : X → Type 0) → IsListed P → ((x : X) → IsTold (Q x)) → IsTold ((x : X) × P x × Q x)
 told_some P Q (xs, lists) told =
     told_same (λ h. (h.0, (lists h.0).0 h.1, h.2)) (λ h. (h.0, (lists h.0).1 h.1, h.2)) (some_member Q told xs)

@@ -17,7 +17,7 @@ pub enum LexFault {
     /// A number beyond 64 bits, or a local beyond 32.
     #[error("a number is out of range")]
     NumberRange,
-    /// A text beyond 4,096 bytes, or an identifier, a pattern or a quoted label beyond 255.
+    /// A text beyond `TEXT_BYTES`, or an identifier, a pattern or a quoted label beyond `WORD_BYTES`.
     #[error("a text, a word or a label is too long")]
     TextTooLong,
     #[error("out of memory")]

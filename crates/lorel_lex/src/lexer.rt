@@ -51,8 +51,8 @@ fn first_token(alloc: Global, bytes: &[u8]) -> Result<(Kind, usize), LexFault>
 /// taken. A chunk that isn't UTF-8 is BadToken. Of several faults that at the earliest place
 /// counts, and at one place the first of these: BadToken where no token starts there, RealRefused
 /// where a `.` and a digit follow a number, NumberRange where a number lies outside 64 bits or a
-/// local outside 32, TextTooLong where a text has more than 4,096 bytes, or an identifier, a
-/// pattern or a quoted label more than 255.
+/// local outside 32, TextTooLong where a text has more than `TEXT_BYTES` bytes, or an identifier,
+/// a pattern or a quoted label more than `WORD_BYTES`.
 pub fn tokens(alloc: Global, chunk: &[u8]) -> Result<TokenList, LexFault>
     requires { length chunk.now ≤ CHUNK_BYTES }
     ensures found { IfOk result (AreTokens chunk.now) }

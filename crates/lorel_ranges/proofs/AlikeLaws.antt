@@ -4,9 +4,9 @@ use Rattle.std.specs.List.{Contains}
 use Rattle.std.proofs.lemmas.List.{map-append}
 use Rattle.std.proofs.lemmas.List.Elements.{All-contains, Contains-append_left, Contains-append_right, Contains-append_cases}
 use Rattle.lore_base.proofs.MemberLaws.{Contains-head, Contains-tail}
+use Rattle.list_laws.proofs.MemberLaws.{Contains-map, All-from_members}
 use Rattle.lorel_ranges.specs.Places.{Place}
 use Rattle.lorel_ranges.specs.Ranges.{Range, places, joined, IsFusable, Fuses, FusesTimes, AreFused}
-use Rattle.lorel_ranges.proofs.ListLaws.{All-from_members, Contains-mapped}
 
 abbrev AreAlike : (Place → Type 0) → (Place → Type 0) → List Range → Type 0
 AreAlike Used Other ranges = (place : Place) → Contains (places ranges) place → Used place ↔ Other place
@@ -25,7 +25,7 @@ none_alike Used Other all ranges to none =
 
 Fuses-alike : (Used Other : Place → Type 0) (old new : List Range) → AreAlike Used Other old → Fuses Used old new → Fuses Other old new
 Fuses-alike Used Other old new alike f =
-    let agree = λ (range : Range) (there : Contains old range). alike range.place (Contains-mapped (λ (r : Range). r.place) old range there) in
+    let agree = λ (range : Range) (there : Contains old range). alike range.place (Contains-map (λ (r : Range). r.place) old range there) in
     let behind = f.middle ++ f.other ∷ f.back in
     let range_there : Contains old f.range =
     subst (λ (rs : List Range). Contains rs f.range) (sym f.was) (Contains-append_right f.front (f.range ∷ behind) f.range (Contains-head f.range behind)) in
@@ -79,5 +79,5 @@ fused_alike Used Other plain fused alike are =
       times = are.times;
       steps = steps.0;
       none = none_alike Used Other fused fused
-          (λ range there. (steps.1 range.place (Contains-mapped (λ (r : Range). r.place) fused range there)).0) are.none;
+          (λ range there. (steps.1 range.place (Contains-map (λ (r : Range). r.place) fused range there)).0) are.none;
     }

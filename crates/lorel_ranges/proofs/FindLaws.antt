@@ -4,6 +4,7 @@ use Rattle.std.specs.List.{Contains, slice_get}
 use Rattle.std.proofs.lemmas.List.{length-take-le, length-map, get_or-map, nil_from_length}
 use Rattle.std.proofs.lemmas.List.Elements.{All-contains}
 use Rattle.std.proofs.lemmas.Option.{same_Some, slice_get_within, get_or_from_slice_get}
+use Rattle.list_laws.proofs.PlaceLaws.{Contains-from_place}
 use denote.Ref.{Bor}
 use Rattle.lore_base.specs.Paths.{PathTree, path_tree}
 use Rattle.lorel_ranges.specs.Places.{ranged, Place, at_root}
@@ -12,7 +13,6 @@ use Rattle.lorel_ranges.specs.Views.{root_tree, place_tree, place_trees, prefix_
 use Rattle.lorel_ranges.specs.inside.Indexes.{IsVariable, IsPrefix, IsIndexed}
 use Rattle.lorel_ranges.specs.declared.places.Place as declared
 use Rattle.lorel_ranges.specs.declared.places.Root.TheVariants.{Ranged}
-use Rattle.lorel_ranges.proofs.ListLaws.{Contains-slot}
 use Rattle.lorel_ranges.proofs.PlaceLaws.{place_from}
 
 -- ---- answers of a search
@@ -95,5 +95,5 @@ pub absent_unlinked : (all : List Place) (prefixes : List ℕ) (variables : List
     → (Contains all (at_root (ranged variable)) → ⊥) → linked variables variable ≡ None
 absent_unlinked all prefixes variables variable indexed absent = elim (cases_Option (linked variables variable)) [
   | inl none ↦ none
-  | inr some ↦ absurd (absent (Contains-slot all some.0 (at_root (ranged variable)) (indexed.named variable some.0 some.1)))
+  | inr some ↦ absurd (absent (Contains-from_place all some.0 (at_root (ranged variable)) (indexed.named variable some.0 some.1)))
 ]

@@ -4,6 +4,7 @@ use Rattle.std.specs.List.{Contains, AllZip, slice_get}
 use Rattle.std.proofs.lemmas.List.{map-append, length-map, get_or_read}
 use Rattle.std.proofs.lemmas.List.Elements.{All-cons, All-head, All-tail}
 use Rattle.std.proofs.lemmas.Option.{slice_get_within, slice_get_read, same_Some}
+use Rattle.list_laws.proofs.PlaceLaws.{slice_get-append_left, slice_get-push, Contains-from_place}
 use Rattle.lorel_ranges.specs.Places.{Place}
 use Rattle.lorel_ranges.specs.Ranges.{Range, places}
 use Rattle.lorel_ranges.specs.Views.{place_tree, range_of, ranges_of}
@@ -11,20 +12,10 @@ use Rattle.lorel_ranges.specs.inside.SelectRanges.{IsOnce, IsFollowed, AreFollow
 use Rattle.lorel_ranges.specs.declared.select_ranges.TextRange.{TextRange}
 use Rattle.lorel_ranges.specs.declared.select_ranges.Followers.{Followers}
 use Rattle.lorel_ranges.specs.declared.select_ranges.Followers.TheVariants.{None, One, Several}
-use Rattle.lorel_ranges.proofs.ListLaws.{Contains-slot}
 use Rattle.lorel_ranges.proofs.PlaceLaws.{told_place}
 use Rattle.lorel_ranges.proofs.FuseLaws.{count_one, count_none, count_append}
 
 -- ---- items at places
-pub slice_get-append_left : {X : Type 0} (xs ys : List X) (i : ℕ) (x : X) → slice_get xs i ≡ Some x → slice_get (xs ++ ys) i ≡ Some x
-slice_get-append_left [] ys i x is = cc
-slice_get-append_left (first ∷ xs) ys zero x is = is
-slice_get-append_left (first ∷ xs) ys (suc i) x is = slice_get-append_left xs ys i x is
-
-pub slice_get-last : {X : Type 0} (xs : List X) (x : X) → slice_get (xs ++ x ∷ []) (length xs) ≡ Some x
-slice_get-last [] x = refl
-slice_get-last (first ∷ xs) x = slice_get-last xs x
-
 -- the place of the range with a number
 pub place_at : (links : List TextRange) (number : ℕ) (link : TextRange) → slice_get links number ≡ Some link
     → slice_get (places (ranges_of links)) number ≡ Some (place_tree link.place)
@@ -66,7 +57,7 @@ gains_none place number (link ∷ links) apart = (
 pub gains_nowhere : (place : Place) (number : ℕ) (links : List TextRange) → (Contains (places (ranges_of links)) place → ⊥)
     → AllZip (GainsFollower place number) links links
 gains_nowhere place number links absent = gains_none place number links
-    (λ k link is same. absent (Contains-slot (places (ranges_of links)) k place (place_at links k link is ∙ ap Some same)))
+    (λ k link is same. absent (Contains-from_place (places (ranges_of links)) k place (place_at links k link is ∙ ap Some same)))
 
 gains_once : (place : Place) (number : ℕ) (links : List TextRange) (earlier : ℕ) (link new : TextRange) → link ≡ get_or links earlier link
     → earlier < length links → ((k : ℕ) (other : TextRange) → slice_get links k ≡ Some other → place_tree other.place ≡ place → k ≡ earlier)
@@ -115,7 +106,7 @@ followed_here : (first : ℕ) (behind : List Range) (range : Range) (place : Pla
 followed_here first behind range place None number is followed starts =
     let sum = count_append place behind (range ∷ []) in
     let one = count_one place range [] starts in
-    (omega arith, (length behind, is, (range, slice_get-last behind range, starts)))
+    (omega arith, (length behind, is, (range, slice_get-push behind range, starts)))
 followed_here first behind range place (One other) number is followed starts =
     let sum = count_append place behind (range ∷ []) in
     let one = count_one place range [] starts in

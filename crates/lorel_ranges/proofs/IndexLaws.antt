@@ -7,12 +7,12 @@ use Rattle.std.proofs.lemmas.List.Elements.{All-push, All-weaker, Contains-appen
 use Rattle.std.proofs.lemmas.List.{map-append, length-map}
 use Rattle.std.proofs.lemmas.Option.{same_Some}
 use Rattle.std.proofs.lemmas.Slice.Eq.{bytes_eq-Decides}
+use Rattle.list_laws.proofs.PlaceLaws.{slice_get-append_left, slice_get-push}
 use Rattle.lorel_ranges.specs.Places.{ranged, Place, at_root}
 use Rattle.lorel_ranges.specs.Scopes.{linked}
 use Rattle.lorel_ranges.specs.Views.{place_tree, place_trees}
 use Rattle.lorel_ranges.specs.inside.Indexes.{IsPrefix, IsIndexed}
 use Rattle.lorel_ranges.specs.declared.places.Place as declared
-use Rattle.lorel_ranges.proofs.FollowLaws.{slice_get-append_left, slice_get-last}
 
 -- ---- one more variable
 linked-push_cases : (variables : List (List ℕ × ℕ)) (variable : List ℕ) (number : ℕ) (other : List ℕ) (found : ℕ)
@@ -58,7 +58,7 @@ pub indexed_variable : (all : List Place) (prefixes : List ℕ) (variables : Lis
 indexed_variable all prefixes variables variable number indexed counted none = record {
   named = λ other found is. elim (linked-push_cases variables variable number other found is) [
     | inl before ↦ slice_get-append_left all (here ∷ []) found (at_root (ranged other)) (indexed.named other found before)
-    | inr last ↦ ap (λ n. slice_get (all ++ here ∷ []) n) (sym last.1 ∙ counted) ∙ slice_get-last all here
+    | inr last ↦ ap (λ n. slice_get (all ++ here ∷ []) n) (sym last.1 ∙ counted) ∙ slice_get-push all here
         ∙ ap (λ v. Some (at_root (ranged v))) last.0
   ];
   kept = All-weaker (IsPrefix all) (IsPrefix (all ++ here ∷ [])) (IsPrefix-more all (here ∷ [])) prefixes indexed.kept;
@@ -91,7 +91,7 @@ indexed_prefix all prefixes variables place number indexed counted has_parts = r
 }
   where
     last : slice_get (all ++ place ∷ []) number ≡ Some place
-    last = ap (λ n. slice_get (all ++ place ∷ []) n) counted ∙ slice_get-last all place
+    last = ap (λ n. slice_get (all ++ place ∷ []) n) counted ∙ slice_get-push all place
 
     kept : (other : Place) → IsFoundIn all prefixes variables other → IsFoundIn (all ++ place ∷ []) (prefixes ++ number ∷ []) variables other
     kept other (inl named) = inl named

@@ -1,25 +1,11 @@
 -- Lists: where the item stands that passes, two ways to part a list, and lists of what agrees.
-use Rattle.std.proofs.Common.{◌≡◌, ◌⊎◌, inl, inr, ℕ, suc, ◌+◌, ◌<◌, List, [], ◌∷◌, ◌++◌, length, get_or, take, map, Some, All, subst, refl, sym, ap, ◌∙◌}
-use Rattle.std.proofs.lemmas.List.{take_more, map-append}
-use Rattle.std.specs.List.{Contains, AllZip, slice_get}
-use Rattle.std.proofs.lemmas.Option.{slice_get_within, get_or_from_slice_get}
+use Rattle.std.proofs.Common.{◌≡◌, ◌⊎◌, inl, inr, List, [], ◌∷◌, ◌++◌, map, All, subst, refl, sym}
+use Rattle.std.specs.List.{Contains, AllZip}
 use Rattle.std.proofs.lemmas.List.Elements.{All-nil, All-cons, All-head, All-tail, All-contains, Contains-append_right}
-use Rattle.lore_base.proofs.MemberLaws.{Contains-none, Contains-head, Contains-tail, Contains-cases, Contains-same}
+use Rattle.lore_base.proofs.MemberLaws.{Contains-head}
 
 pub Contains-between : {X : Type 0} (xs : List X) (x : X) (ys : List X) → Contains (xs ++ x ∷ ys) x
 Contains-between xs x ys = Contains-append_right xs (x ∷ ys) x (Contains-head x ys)
-
--- what stands at a place is contained
-pub Contains-slot : {X : Type 0} (xs : List X) (slot : ℕ) (x : X) → slice_get xs slot ≡ Some x → Contains xs x
-Contains-slot xs slot x is =
-    (slot, slice_get_within xs slot x is, get_or_from_slice_get xs slot x x is)
-
-pub Contains-mapped : {X Y : Type 0} (f : X → Y) (xs : List X) (x : X) → Contains xs x → Contains (map f xs) (f x)
-Contains-mapped f [] x here = absurd (Contains-none x here)
-Contains-mapped f (first ∷ xs) x here = elim (Contains-cases first xs x here) [
-  | inl same ↦ Contains-same (f first ∷ map f xs) (f first) (f x) (ap f same) (Contains-head (f first) (map f xs))
-  | inr later ↦ Contains-tail (f first) (map f xs) (f x) (Contains-mapped f xs x later)
-]
 
 -- what holds of a joined list holds of both parts
 pub All-parts : {X : Type 0} (P : X → Type 0) (xs ys : List X) → All P (xs ++ ys) → All P xs × All P ys
@@ -28,32 +14,12 @@ All-parts P (x ∷ xs) ys h =
     let later = All-parts P xs ys (All-tail P x (xs ++ ys) h) in
     (All-cons P x xs (All-head P x (xs ++ ys) h) later.0, later.1)
 
--- what holds of each item that the list contains holds of all
-pub All-from_members : {X : Type 0} (P : X → Type 0) (xs : List X) → ((x : X) → Contains xs x → P x) → All P xs
-All-from_members P [] h = All-nil P
-All-from_members P (x ∷ xs) h =
-    All-cons P x xs (h x (Contains-head x xs)) (All-from_members P xs (λ y at. h y (Contains-tail x xs y at)))
-
--- what is made of a front of a list, and of the item behind it
-pub map-take_read : {X Y : Type 0} (f : X → Y) (xs : List X) (i : ℕ) (x : X) → i < length xs → x ≡ get_or xs i x
-    → map f (take (i + 1) xs) ≡ map f (take i xs) ++ f x ∷ []
-map-take_read f xs i x low is =
-    ap (map f) (take_more xs i x low) ∙ map-append f (take i xs) (get_or xs i x ∷ [])
-    ∙ ap (λ y. map f (take i xs) ++ f y ∷ []) (sym is)
-
 pub map-same : {X Y : Type 0} (f g : X → Y) (xs : List X) → All (λ x. f x ≡ g x) xs → map f xs ≡ map g xs
 map-same f g [] h = refl
 map-same f g (x ∷ xs) h =
     let first : f x ≡ g x = All-head (λ y. f y ≡ g y) x xs h in
     let others = map-same f g xs (All-tail (λ y. f y ≡ g y) x xs h) in
     cc
-
--- lists that go in pairs have one length
-pub AllZip-length : {X Y : Type 0} (R : X → Y → Type 0) (xs : List X) (ys : List Y) → AllZip R xs ys → length ys ≡ length xs
-AllZip-length R [] [] h = refl
-AllZip-length R [] (y ∷ ys) h = absurd h
-AllZip-length R (x ∷ xs) [] h = absurd h
-AllZip-length R (x ∷ xs) (y ∷ ys) h = ap suc (AllZip-length R xs ys h.1)
 
 -- lists that go in pairs, one behind another
 pub AllZip-append : {P Q : Type 0} (R : P → Q → Type 0) (xs more : List P) (ys others : List Q) → AllZip R xs ys → AllZip R more others

@@ -1,9 +1,9 @@
 -- Ranges in the making: a range is put behind those that are there, and its place behind theirs.
-use Rattle.std.proofs.Common.{◌≡◌, ℕ, zero, suc, ◌+◌, ◌-◌, ◌<◌, ◌≤◌, ◌⊎◌, inl, inr, false, List, [], ◌∷◌, ◌++◌, length, get_or, take, drop, map, Some, None, All, subst, refl, sym, ap, ◌∙◌, arith}
-use Rattle.std.specs.List.{Contains, AllZip, slice_get, flat_map}
+use Rattle.std.proofs.Common.{◌≡◌, ℕ, zero, suc, ◌+◌, ◌-◌, ◌<◌, ◌≤◌, inl, inr, false, List, [], ◌∷◌, ◌++◌, length, get_or, take, drop, map, Some, None, All, subst, refl, sym, ap, ◌∙◌, arith}
+use Rattle.std.specs.List.{Contains, AllZip, flat_map}
 use Rattle.std.proofs.lemmas.List.{map-append, length-map, get_or-map, take-map, drop-map, drop_more}
 use Rattle.std.proofs.lemmas.List.Elements.{All-push}
-use Rattle.std.proofs.lemmas.Option.{same_Some}
+use Rattle.list_laws.proofs.PlaceLaws.{Contains-from_place, slice_get-push_cases}
 use denote.Ref.{Bor}
 use Rattle.lore_base.specs.Paths.{PathTree, path_tree}
 use Rattle.lorel_trees.specs.Trees.{FromTree, SelectTree}
@@ -16,30 +16,19 @@ use Rattle.lorel_ranges.specs.inside.SelectRanges.{IsOnce, AreFollowed, AreLinke
 use Rattle.lorel_ranges.specs.declared.select_ranges.TextRange.{TextRange}
 use Rattle.lorel_ranges.specs.declared.select_ranges.SelectRanges.{SelectRanges}
 use Rattle.lorel_ranges.specs.declared.select_ranges.Followers.TheVariants as followers
-use Rattle.lorel_ranges.proofs.ListLaws.{Contains-slot}
 use Rattle.lorel_ranges.proofs.PlaceLaws.{place_from}
 use Rattle.lorel_ranges.proofs.FindLaws.{parts_unvariable, prefix_has_parts}
 use Rattle.lorel_ranges.proofs.FollowLaws.{gained_ranges, gained_unused, AreFollowed-push}
 
 -- ---- one more place
-slice_get-push_cases : {X : Type 0} (xs : List X) (x : X) (i : ℕ) (y : X) → slice_get (xs ++ x ∷ []) i ≡ Some y
-    → (slice_get xs i ≡ Some y) ⊎ ((i ≡ length xs) × (x ≡ y))
-slice_get-push_cases [] x zero y is = inr (refl, same_Some x y is)
-slice_get-push_cases [] x (suc i) y is = cc
-slice_get-push_cases (first ∷ xs) x zero y is = inl is
-slice_get-push_cases (first ∷ xs) x (suc i) y is = elim (slice_get-push_cases xs x i y is) [
-  | inl before ↦ inl before
-  | inr last ↦ inr (ap suc last.0, last.1)
-]
-
 IsOnce-push : {X : Type 0} (xs : List X) (x : X) → IsOnce xs → (Contains xs x → ⊥) → IsOnce (xs ++ x ∷ [])
 IsOnce-push xs x once absent i j y first second = elim (slice_get-push_cases xs x i y first) [
   | inl early ↦ elim (slice_get-push_cases xs x j y second) [
     | inl other ↦ once i j y early other
-    | inr last ↦ absurd (absent (Contains-slot xs i x (early ∙ ap Some (sym last.1))))
+    | inr last ↦ absurd (absent (Contains-from_place xs i x (early ∙ ap Some (sym last.1))))
   ]
   | inr last ↦ elim (slice_get-push_cases xs x j y second) [
-    | inl other ↦ absurd (absent (Contains-slot xs j x (other ∙ ap Some (sym last.1))))
+    | inl other ↦ absurd (absent (Contains-from_place xs j x (other ∙ ap Some (sym last.1))))
     | inr also ↦ last.0 ∙ sym also.0
   ]
 ]

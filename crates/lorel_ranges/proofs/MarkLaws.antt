@@ -7,6 +7,9 @@ use Rattle.std.specs.Option.{option_map}
 use Rattle.std.proofs.lemmas.Option.{slice_get-map, slice_get-get_or, slice_get_within, slice_get_read, same_Some}
 use Rattle.lore_base.specs.Paths.{PathTree}
 use Rattle.lore_base.proofs.MemberLaws.{Contains-none, Contains-head, Contains-tail, Contains-cases, Contains-same}
+use Rattle.list_laws.proofs.PlaceLaws.{Contains-from_place}
+use Rattle.list_laws.proofs.MemberLaws.{Contains-map}
+use Rattle.list_laws.proofs.PartLaws.{map_more_read}
 use Rattle.lorel_trees.specs.Trees.{SelectTree}
 use Rattle.lorel_ranges.specs.Places.{Place, CellPlace, object, word, cells_of}
 use Rattle.lorel_ranges.specs.Ranges.{Range, places, IsFixed, IsUsed}
@@ -19,7 +22,6 @@ use Rattle.lorel_ranges.specs.declared.select_ranges.Followers.{Followers}
 use Rattle.lorel_ranges.specs.declared.places.Place as declared
 use Rattle.lorel_ranges.specs.declared.text.Text.{Text}
 use Rattle.lorel_ranges.specs.declared.text.Shown.{Shown}
-use Rattle.lorel_ranges.proofs.ListLaws.{Contains-slot, map-take_read, Contains-mapped}
 use Rattle.lorel_ranges.proofs.PrefixLaws.{one_fixed}
 use Rattle.lorel_ranges.proofs.FollowLaws.{place_at}
 
@@ -134,7 +136,7 @@ marked_at old new number link after place all stands is plain links range follow
           | inr same ↦ inr (
             same,
             Contains-same (places (ranges_of old.fused.items)) place other (sym same)
-                (Contains-slot (places (ranges_of old.fused.items)) number place there),
+                (Contains-from_place (places (ranges_of old.fused.items)) number place there),
           )
         ],
         λ h. subst (λ ls. IsMarked ls other) (sym links) (both.1 (elim h [ inl before ↦ inl before | inr here ↦ inr here.0 ])),
@@ -180,7 +182,7 @@ marked_then old middle new First Second Both first second both = record {
 take_read : {X Y : Type 0} (f : X → Y) (xs : List X) (i : ℕ) (x : X) → i < length xs → x ≡ get_or xs i x
     → take (i + 1) (map f xs) ≡ take i (map f xs) ++ f x ∷ []
 take_read f xs i x within is =
-    take-map f (i + 1) xs ∙ map-take_read f xs i x within is ∙ ap (λ ys. ys ++ f x ∷ []) (sym (take-map f i xs))
+    take-map f (i + 1) xs ∙ map_more_read f xs i x within is ∙ ap (λ ys. ys ++ f x ∷ []) (sym (take-map f i xs))
 
 pub places_step : (all : List declared.Place) (i : ℕ) (read : declared.Place) → i < length all → read ≡ get_or all i read → (place : Place)
     → Contains (take (i + 1) (place_trees all)) place ↔ (Contains (take i (place_trees all)) place ⊎ (place ≡ place_tree read))
@@ -239,7 +241,7 @@ needed_at ranges number own once stands place = (
         | inl itself ↦ inl (sym itself ∙ h.2)
         | inr start ↦ inr (sym start ∙ ap (λ (r : Range). r.start) same)
       ],
-  λ h. (own, Contains-slot ranges number own stands, refl, elim h [ inl itself ↦ inl (sym itself) | inr start ↦ inr (sym start) ]),
+  λ h. (own, Contains-from_place ranges number own stands, refl, elim h [ inl itself ↦ inl (sym itself) | inr start ↦ inr (sym start) ]),
 )
 
 pub marked_word : (old middle new : SelectRanges) (number : ℕ) (link : TextRange) (shown : Place) → AreLinked old
@@ -263,7 +265,7 @@ marked_word old middle new number link shown all stands is first second =
 -- a word whose place has no range needs none
 pub unneeded : (ranges : List Range) (shown place : Place) → (Contains (places ranges) shown → ⊥) → IsNeededAt ranges shown place → ⊥
 unneeded ranges shown place absent h =
-    absent (Contains-same (places ranges) h.0.place shown h.2 (Contains-mapped (λ (r : Range). r.place) ranges h.0 h.1))
+    absent (Contains-same (places ranges) h.0.place shown h.2 (Contains-map (λ (r : Range). r.place) ranges h.0 h.1))
 
 -- the same marks, said otherwise
 marked_alike : (old new : SelectRanges) (Marks Other : Place → Type 0) → ((place : Place) → Marks place ↔ Other place) → AreMarked old new Marks

@@ -7,18 +7,15 @@ use Rattle.std.proofs.lemmas.List.{map-append, length-map, length-take-le}
 use Rattle.std.proofs.lemmas.List.Elements.{All-cons, All-head, All-tail, Contains-append_left, Contains-push, Contains-push_cases}
 use Rattle.std.proofs.lemmas.Option.{none-some, same_Some}
 use Rattle.std.proofs.lemmas.Slice.Eq.{bytes_eq-Decides}
+use Rattle.std.proofs.lemmas.Bool.{cases_Bool}
 use Rattle.lore_base.proofs.MemberLaws.{Contains-none, Contains-head, Contains-tail, Contains-cases, Contains-same}
+use Rattle.list_laws.proofs.PartLaws.{map_more_read}
 use Rattle.lorel_ranges.specs.Places.{named, ranged, quantified, Scope, root_of, scope_behind}
 use Rattle.lorel_ranges.specs.Views.{texts}
-use Rattle.lorel_ranges.proofs.ListLaws.{map-take_read}
 use Rattle.lorel_ranges.specs.Scopes.{enclosed, IsScope, linked, names_of}
 use Rattle.lorel_ranges.specs.inside.Scopes.{deeper, innermost, IsAdded}
 
 -- ---- a test of two texts
-either : (b : Bool) → (b ≡ true) ⊎ (b ≡ false)
-either true = inl refl
-either false = inr refl
-
 same_text : (a b : List ℕ) → bytes_eq a b ≡ true → a ≡ b
 same_text a b = (bytes_eq-Decides a b).0
 
@@ -36,7 +33,7 @@ linked-by_reference (entry ∷ entries) variable =
 linked-there : (variables : List (List ℕ × ℕ)) (variable : List ℕ) → is_some (linked variables variable) ≡ true
     → Contains (names_of variables) variable
 linked-there [] variable found = absurd (true≢false (sym found))
-linked-there (first ∷ others) variable found = elim (either (bytes_eq variable first.0)) [
+linked-there (first ∷ others) variable found = elim (cases_Bool (bytes_eq variable first.0)) [
   | inl e ↦ Contains-same (first.0 ∷ names_of others) first.0 variable (sym (same_text variable first.0 e)) (Contains-head first.0 (names_of others))
   | inr e ↦
       let later = sym (ap (λ b. is_some (cond b (Some first.1) (linked others variable))) e) ∙ found in
@@ -46,7 +43,7 @@ linked-there (first ∷ others) variable found = elim (either (bytes_eq variable
 linked-absent : (variables : List (List ℕ × ℕ)) (variable : List ℕ) → is_some (linked variables variable) ≡ false
     → Contains (names_of variables) variable → ⊥
 linked-absent [] variable none there = Contains-none variable there
-linked-absent (first ∷ others) variable none there = elim (either (bytes_eq variable first.0)) [
+linked-absent (first ∷ others) variable none there = elim (cases_Bool (bytes_eq variable first.0)) [
   | inl e ↦ true≢false (sym (ap (λ b. is_some (cond b (Some first.1) (linked others variable))) e) ∙ none)
   | inr e ↦
       let later = sym (ap (λ b. is_some (cond b (Some first.1) (linked others variable))) e) ∙ none in
@@ -73,7 +70,7 @@ innermost-push_other (first ∷ others) variable start e =
 pub innermost-read_same : (variables : List (Bor (List ℕ))) (i : ℕ) (variable : Bor (List ℕ)) (start : List ℕ) → i < length variables
     → variable ≡ get_or variables i variable → bytes_eq variable.now start ≡ true → Some i ≡ innermost (texts (take (i + 1) variables)) start
 innermost-read_same variables i variable start low is e =
-    let more = map-take_read (λ (text : Bor (List ℕ)). text.now) variables i variable low is in
+    let more = map_more_read (λ (text : Bor (List ℕ)). text.now) variables i variable low is in
     let count : length (texts (take i variables)) ≡ i = length-map (take i variables) (λ (text : Bor (List ℕ)). text.now) ∙ length-take-le i variables (omega arith) in
     sym (ap (λ l. innermost l start) more ∙ innermost-push_same (texts (take i variables)) variable.now start e ∙ ap (λ (n : ℕ). Some n) count)
 
@@ -81,7 +78,7 @@ pub innermost-read_other : (variables : List (Bor (List ℕ))) (i : ℕ) (variab
     → variable ≡ get_or variables i variable → bytes_eq variable.now start ≡ false
     → innermost (texts (take i variables)) start ≡ innermost (texts (take (i + 1) variables)) start
 innermost-read_other variables i variable start low is e =
-    let more = map-take_read (λ (text : Bor (List ℕ)). text.now) variables i variable low is in
+    let more = map_more_read (λ (text : Bor (List ℕ)). text.now) variables i variable low is in
     sym (ap (λ l. innermost l start) more ∙ innermost-push_other (texts (take i variables)) variable.now start e)
 
 pub innermost-within : (variables : List (List ℕ)) (start : List ℕ) (depth : ℕ) → innermost variables start ≡ Some depth → depth < length variables
@@ -110,7 +107,7 @@ root_of-enclosed depth (first ∷ others) scope start =
 root_of-ranged : (scope : Scope) (start : List ℕ) → All (λ entry. entry.1 ≡ ranged entry.0) scope
     → Contains (map (λ entry. entry.0) scope) start → root_of scope start ≡ ranged start
 root_of-ranged [] start each there = absurd (Contains-none start there)
-root_of-ranged (first ∷ scope) start each there = elim (either (bytes_eq first.0 start)) [
+root_of-ranged (first ∷ scope) start each there = elim (cases_Bool (bytes_eq first.0 start)) [
   | inl e ↦
       ap (λ b. if b then first.1 else root_of scope start) e ∙ All-head (λ entry. entry.1 ≡ ranged entry.0) first scope each
       ∙ ap ranged (same_text first.0 start e)
@@ -123,7 +120,7 @@ root_of-ranged (first ∷ scope) start each there = elim (either (bytes_eq first
 
 root_of-named : (scope : Scope) (start : List ℕ) → (Contains (map (λ entry. entry.0) scope) start → ⊥) → root_of scope start ≡ named start
 root_of-named [] start absent = refl
-root_of-named (first ∷ scope) start absent = elim (either (bytes_eq first.0 start)) [
+root_of-named (first ∷ scope) start absent = elim (cases_Bool (bytes_eq first.0 start)) [
   | inl e ↦ absurd (absent (Contains-same (first.0 ∷ map (λ entry. entry.0) scope) first.0 start (same_text first.0 start e) (Contains-head first.0 (map (λ entry. entry.0) scope))))
   | inr e ↦ ap (λ b. if b then first.1 else root_of scope start) e
       ∙ root_of-named scope start (λ later. absent (Contains-tail first.0 (map (λ entry. entry.0) scope) start later))

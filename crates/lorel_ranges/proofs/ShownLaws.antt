@@ -12,6 +12,7 @@ use Rattle.lorel_trees.specs.Trees as t
 use Rattle.lorel_ranges.specs.Places.{ranged, Place, at_root, Scope, place_of, scope_behind, scope_of, item_places, cell_places, item_path_variables, path_variables, CellPlace, object, word, word_place, item_cells, cells_of}
 use Rattle.lorel_ranges.specs.Ranges.{Range, path_ranges, from_item_ranges, from_ranges, places, ArePlain, IsNeededForWord}
 use Rattle.lore_base.proofs.ToldLaws.{IsTold, told_same, told_both, told_either, told_member}
+use Rattle.list_laws.proofs.MemberLaws.{Contains-from_map}
 use Rattle.lorel_bound.proofs.ListedLaws.{listed_members, told_some}
 use Rattle.lorel_ranges.proofs.PlaceLaws.{told_place}
 use Rattle.lorel_ranges.proofs.PlainLaws.{made_within}
@@ -21,14 +22,6 @@ pub told_cell : (a b : CellPlace) → IsTold (a ≡ b)
 told_cell (object a) (object b) = told_same (λ same. ap object same) (λ same. cc) (told_place a b)
 told_cell (word a) (word b) = told_same (λ same. ap word same) (λ same. cc) (told_place a b)
 told_cell _ _ = inr (λ same. cc)
-
--- what is made of the items of a list is made of one of them
-Contains-made : {X Y : Type 0} (f : X → Y) (xs : List X) (y : Y) → Contains (map f xs) y → (x : X) × Contains xs x × (f x ≡ y)
-Contains-made f [] y here = absurd (Contains-none y here)
-Contains-made f (x ∷ xs) y here = elim (Contains-cases (f x) (map f xs) y here) [
-  | inl same ↦ (x, Contains-head x xs, same)
-  | inr later ↦ (let own = Contains-made f xs y later in (own.0, Contains-tail x xs own.0 own.1, own.2))
-]
 
 -- ---- objects
 module _ (scope : Scope) (variables : List (List ℕ × Place)) where
@@ -134,7 +127,7 @@ word_found query plain gathered place here =
 pub word_range : (query : SelectTree) (plain : List Range) → ArePlain query plain → (place : Place) → Contains (cells_of query) (word place)
     → IsNeededForWord query plain place
 word_range query plain gathered place here =
-    let own = Contains-made (λ (r : Range). r.place) plain place (word_found query plain gathered place here) in
+    let own = Contains-from_map (λ (r : Range). r.place) plain place (word_found query plain gathered place here) in
     (own.0, own.1, subst (λ (p : Place). Contains (cells_of query) (word p)) (sym own.2) here, inl own.2)
 
 -- ---- whether a place is needed for a word

@@ -1,16 +1,16 @@
 -- A search over the children of objects finds what walks reach.
-use Rattle.std.proofs.Common.{◌≡◌, ◌↔◌, ℕ, ◌<◌, ◌==◌, true, false, List, [], ◌∷◌, ◌++◌, get_or, map, AllPairs, Contains, Less, refl, sym, ap, ◌∙◌, subst, arith, eq-eqb, true≢false}
+use Rattle.std.proofs.Common.{◌≡◌, ◌↔◌, ℕ, ◌==◌, true, false, List, [], ◌∷◌, ◌++◌, get_or, map, AllPairs, Contains, Less, refl, sym, ap, ◌∙◌, subst, eq-eqb, true≢false}
 use Rattle.std.specs.Ordering.{nat_cmp}
-use Rattle.std.proofs.lemmas.Bool.Decides.{nat_tests}
 use Rattle.std.proofs.lemmas.List.Elements.{All-contains}
 use Rattle.lore_base.specs.Walks.{Walk, out_of, edge_of}
 use Rattle.lore_base.specs.TargetSets.{ListsInOrder}
 use Rattle.lore_base.proofs.MemberLaws.{Contains-same, Contains-filter, unfiltered}
+use Rattle.list_laws.proofs.MemberLaws.{Contains-map, Contains-from_map}
+use Rattle.list_laws.proofs.OrderLaws.{less_from_cmp}
 use Rattle.graph_search.specs.Closures.{IsMet, LeadAlong, LeadsOn, IsClosure, Lists}
 use Rattle.object_search.specs.Types.{Oid, Label, Edge, Met}
 use Rattle.object_search.specs.Reached.{IsWalkedFrom}
 use Rattle.object_search.specs.inside.Searches.{HasMark, met_at, HasChild, same_oid}
-use Rattle.object_search.proofs.MemberLaws.{Contains-map, mapped}
 
 -- the children of an object are what it leads to
 pub leads_to_children : (edges : List Edge) (oid : Oid) (met : Met) (old new : List (Oid × Met))
@@ -21,7 +21,7 @@ leads_to_children edges oid met old new is = record {
   is = is;
   exact = λ there. (
     λ at.
-        let found = mapped (λ (edge : Edge). (edge.child, met)) (out_of oid edges) (there.0, at.0) at.1 in
+        let found = Contains-from_map (λ (edge : Edge). (edge.child, met)) (out_of oid edges) (there.0, at.0) at.1 in
         let edge = found.0 in
         let leaves = unfiltered (λ (e : Edge). e.parent.0 == oid.0) edges edge found.1 in
         let parent : edge.parent ≡ oid = same_oid edge.parent oid leaves.1 in
@@ -56,7 +56,7 @@ module _ (edges : List Edge) where
 
   started : (starts : List Oid) (there : Oid × ℕ) → IsMet HasMark (map met_at starts) there → Contains starts there.0
   started starts there at =
-      let found = mapped met_at starts (there.0, at.0) at.1 in
+      let found = Contains-from_map met_at starts (there.0, at.0) at.1 in
       Contains-same starts found.0 there.0 (ap (λ (p : Oid × Met). p.0) found.2) found.1
 
   starting : (starts : List Oid) (oid : Oid) → Contains starts oid → IsMet HasMark (map met_at starts) (oid, 0)
@@ -67,7 +67,7 @@ module _ (edges : List Edge) where
       → (oid : Oid) → Contains (map (λ place. place.0) found) oid ↔ IsWalkedFrom edges starts oid
   met_walked starts found closure oid = (
     λ at.
-        let place = mapped (λ (p : Oid × Met). p.0) found oid at in
+        let place = Contains-from_map (λ (p : Oid × Met). p.0) found oid at in
         let marked : (place.0).1.0 ≡ true = is_marked (place.0).1 (All-contains (λ (p : Oid × Met). ((mark : ℕ) → HasMark p.1 mark → ⊥) → ⊥) found place.0 closure.marked place.1) in
         let here : IsMet HasMark found ((place.0).0, 0) = ((place.0).1, place.1, (marked, refl)) in
         let led = (closure.exact ((place.0).0, 0)).0 here in
@@ -85,16 +85,13 @@ module _ (edges : List Edge) where
         | false ↦ λ is. absurd (some (λ mark has. true≢false (sym has.0 ∙ is)))
       ] refl
 
-less_below : (a b : ℕ) → nat_cmp a b ≡ Less → a < b
-less_below a b less = grind (arith, nat_tests)
-
 -- what was met, in the order of the numbers
 pub walked_in_order : (edges : List Edge) (starts oids sorted : List Oid) (found : List (Oid × Met))
     → IsClosure HasMark (HasChild edges) (map met_at starts) found → oids ≡ map (λ place. place.0) found
     → AllPairs (λ a b. nat_cmp a.0 b.0 ≡ Less) sorted → ((oid : Oid) → Contains sorted oid ↔ Contains oids oid)
     → ListsInOrder (IsWalkedFrom edges starts) sorted
 walked_in_order edges starts oids sorted found closure is ascend members = record {
-  ascending = λ i j d below within. less_below (get_or sorted i d).0 (get_or sorted j d).0 (ascend i j d below within);
+  ascending = λ i j d below within. less_from_cmp (get_or sorted i d).0 (get_or sorted j d).0 (ascend i j d below within);
   exact = λ oid.
       let walked = met_walked edges starts found closure oid in (
         λ at. walked.0 (subst (λ (l : List Oid). Contains l oid) is ((members oid).0 at)),

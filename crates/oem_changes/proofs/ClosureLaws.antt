@@ -1,5 +1,5 @@
 -- What walks along a finite list of edges lead to from listed objects can be listed.
-use Rattle.std.proofs.Common.{◌≡◌, inl, inr, List, [], ◌∷◌, ◌++◌, map, refl, sym, ap, subst}
+use Rattle.std.proofs.Common.{◌≡◌, inl, inr, List, [], ◌∷◌, ◌++◌, refl, sym, ap, subst}
 use Rattle.std.specs.List.{Contains}
 use Rattle.std.proofs.lemmas.List.Elements.{Contains-append_left, Contains-append_right, Contains-append_cases}
 use Rattle.oem_changes.specs.Types.{Oid, Label, Edge}
@@ -114,19 +114,3 @@ told_walked edges starts oid =
     (λ (h : IsWalkedTo edges starts oid). kept_walk edges (Contains list.0) list.1.closed h.word h.start oid h.walked
     (list.1.started h.start h.starts_there))
     (told_member told_oid list.0 oid)
-
--- what stands in a list, made another thing
-pub Contains-mapped : {X Y : Type 0} (f : X → Y) (xs : List X) (x : X) → Contains xs x → Contains (map f xs) (f x)
-Contains-mapped f [] x at = absurd (Contains-none x at)
-Contains-mapped f (first ∷ xs) x at = elim (Contains-cases first xs x at) [
-  | inl same ↦ Contains-same (f first ∷ map f xs) (f first) (f x) (ap f same) (Contains-head (f first) (map f xs))
-  | inr later ↦ Contains-tail (f first) (map f xs) (f x) (Contains-mapped f xs x later)
-]
-
-pub mapped_from : {X Y : Type 0} (f : X → Y) (xs : List X) (y : Y) → Contains (map f xs) y
-    → (x : X) × Contains xs x × (f x ≡ y)
-mapped_from f [] y at = absurd (Contains-none y at)
-mapped_from f (first ∷ xs) y at = elim (Contains-cases (f first) (map f xs) y at) [
-  | inl same ↦ (first, Contains-head first xs, same)
-  | inr later ↦ (let from = mapped_from f xs y later in (from.0, Contains-tail first xs from.0 from.1, from.2))
-]

@@ -8,7 +8,7 @@ use Rattle.oem_changes.specs.Types.{Edge}
 use Rattle.lore_base.specs.Walks.{edge_cmp}
 use Rattle.lore_base.specs.Databases.{AreAscendingEdges}
 use Rattle.lore_base.proofs.ListLaws.{AllPairs-unique}
-use Rattle.oem_changes.proofs.AscentLaws.{IsOrder, total_ordered}
+use Rattle.list_laws.proofs.AscentLaws.{IsOrder, total_ordered}
 
 pub edge_cmp_total : IsTotalOrder edge_cmp
 edge_cmp_total = then_total (on_total (λ e. e.parent.0) nat_cmp_total)

@@ -1,5 +1,5 @@
 -- Changes that only make objects, all reached, and add edges leave the graph of before with these behind.
-use Rattle.std.proofs.Common.{◌≡◌, ◌≢◌, ℕ, ◌+◌, ◌<◌, ◌≤◌, ◌⊎◌, inl, inr, ◌↔◌, List, [], ◌++◌, length, get_or}
+use Rattle.std.proofs.Common.{◌≡◌, ◌≢◌, ℕ, ◌+◌, ◌<◌, ◌≤◌, ◌⊎◌, inl, inr, ◌↔◌, List, ◌++◌, length, get_or}
 use Rattle.std.proofs.Common.{subst, refl, sym, ap, ◌∙◌, Less, arith, length-append}
 use Rattle.std.specs.List.{AllPairs, Contains}
 use Rattle.std.proofs.lemmas.List.Elements.{All-contains, All-get_or, Contains-append_left, Contains-append_right}
@@ -9,23 +9,19 @@ use Rattle.lore_base.specs.Databases.{OemGraph, IsLinked, AreAscendingObjects, A
 use Rattle.lore_base.specs.Databases.{IsRooted}
 use Rattle.lore_base.specs.ChangeSets.{NamesThen, ObjectsThen, EdgesThen, AreEdgesThen, IsReachedThen, IsAtHand}
 use Rattle.lore_base.specs.ChangeSets.{IsGraphAfter}
-use Rattle.lore_base.proofs.MemberLaws.{Contains-none}
 use Rattle.lore_base.proofs.ListLaws.{AllPairs-append}
 use Rattle.lore_base.proofs.WalkLaws.{Walk-within}
 use Rattle.oem_changes.specs.Types.{Oid, Edge, Value, Complex, Changes}
 use Rattle.oem_changes.specs.Growth.{Grows}
 use Rattle.oem_changes.specs.Laws.{ChangesGrow}
-use Rattle.oem_changes.proofs.AscentLaws.{AllPairs-within}
-use Rattle.oem_changes.proofs.CountLaws.{distinct_as_long}
 use Rattle.lore_base.proofs.ToldLaws.{told_member, told_edge}
+use Rattle.list_laws.proofs.AscentLaws.{AllPairs-within}
+use Rattle.list_laws.proofs.SumLaws.{distinct_as_long}
+use Rattle.list_laws.proofs.MemberLaws.{none_in}
 use Rattle.oem_changes.proofs.EdgeOrderLaws.{edges_ordered}
 use Rattle.oem_changes.proofs.DeterminedLaws.{one_after}
 use Rattle.oem_changes.proofs.RootedLaws.{numbered_within}
 use Rattle.oem_changes.proofs.SomeAfterLaws.{some_between, numbered_ascend}
-
--- no item stands in an empty list
-none_in : {X : Type 0} (xs : List X) (x : X) → xs ≡ [] → Contains xs x → ⊥
-none_in {X} xs x empty at = Contains-none x (subst (λ (l : List X). Contains l x) empty at)
 
 -- ascending edges are distinct
 pub ascend-distinct : (edges : List Edge) → AreAscendingEdges edges → AllPairs (λ a b. a ≢ b) edges

@@ -1,5 +1,3 @@
-pub mod AscentLaws
-pub mod CountLaws
 pub mod EdgeOrderLaws
 pub mod TableLaws
 pub mod ClosureLaws

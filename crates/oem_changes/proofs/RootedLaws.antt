@@ -1,7 +1,7 @@
 -- After changes that fit it a well-formed graph is well-formed again, and each of its objects is reached.
 use Rattle.std.proofs.Common.{◌≡◌, ℕ, ◌+◌, ◌<◌, ◌≤◌, ◌⊎◌, inl, inr, List, [], ◌∷◌, ◌++◌, length, subst, refl, arith}
-use Rattle.std.specs.List.{All, Contains}
-use Rattle.std.proofs.lemmas.List.Elements.{All-weaker, All-contains, All-contains_itself}
+use Rattle.std.specs.List.{Contains}
+use Rattle.std.proofs.lemmas.List.Elements.{All-contains}
 use Rattle.oem_changes.specs.Types.{Oid, Label, Edge, Value, Complex, Changes}
 use Rattle.lore_base.specs.Names.{IsName}
 use Rattle.lore_base.specs.Walks.{Walk, edge_of}
@@ -12,10 +12,7 @@ use Rattle.lore_base.specs.ChangeSets.{AreNumberedFrom, IsAtHand, HasChildren, F
 use Rattle.lore_base.proofs.MemberLaws.{Contains-none, Contains-cases}
 use Rattle.lore_base.proofs.WalkLaws.{Walk-push}
 use Rattle.lore_base.proofs.ToldLaws.{IsTold, told_oid, told_paired}
-
--- what holds of each member of a list holds of all
-pub All-of_members : {X : Type 0} (P : X → Type 0) (xs : List X) → ((x : X) → Contains xs x → P x) → All P xs
-All-of_members P xs each = All-weaker (Contains xs) P each xs (All-contains_itself xs)
+use Rattle.list_laws.proofs.MemberLaws.{All-from_members}
 
 -- whether an object has a value in a list
 pub told_live : (objects : List (Oid × Value)) (oid : Oid) → IsTold (IsLive objects oid)
@@ -195,7 +192,7 @@ module _ (before : OemGraph) (changes : Changes) (formed : IsWellFormed before) 
     ordered_after = record {
       names_ascend = leaves.names_ascend;
       objects_ascend = leaves.objects_ascend;
-      objects_numbered = All-of_members (λ object. (1 ≤ object.0.0) × (object.0.0 < after.next)) after.objects
+      objects_numbered = All-from_members (λ object. (1 ≤ object.0.0) × (object.0.0 < after.next)) after.objects
           (λ object at.
           let within = number_then object ((leaves.objects object).0 at).0 in
           (within.0, omega (arith, within.1, leaves.next)));
@@ -211,17 +208,17 @@ module _ (before : OemGraph) (changes : Changes) (formed : IsWellFormed before) 
     rooted_after = record {
       well_formed = record {
         ordered = ordered_after;
-        names_formed = All-of_members (λ entry. IsName entry.0) after.names
+        names_formed = All-from_members (λ entry. IsName entry.0) after.names
             (λ entry at. (name_then entry ((leaves.names entry).0 at)).0);
-        names_live = All-of_members (λ entry. IsLive after.objects entry.1) after.names
+        names_live = All-from_members (λ entry. IsLive after.objects entry.1) after.names
             (λ entry at.
             let then = (leaves.names entry).0 at in
             live_after entry.1 (name_then entry then).1
             (reached_start before.names changes leaves.between entry.0 entry.1 then));
-        objects_sized = All-of_members (λ object. IsSized object.1) after.objects
+        objects_sized = All-from_members (λ object. IsSized object.1) after.objects
             (λ object at. sized_then object ((leaves.objects object).0 at).0);
-        edges_linked = All-of_members (IsLinked after.objects) after.edges linked_after;
+        edges_linked = All-from_members (IsLinked after.objects) after.edges linked_after;
       };
-      reached = All-of_members (λ object. IsReached after.names after.edges object.0) after.objects
+      reached = All-from_members (λ object. IsReached after.names after.edges object.0) after.objects
           (λ object at. reached_after object.0 ((leaves.objects object).0 at).1);
     }

@@ -12,14 +12,15 @@ use Rattle.lore_base.specs.Walks.{Walk, edge_cmp}
 use Rattle.lore_base.specs.Databases.{OemGraph, Database, IsLive, IsOrdered, AreAscendingObjects}
 use Rattle.lore_base.specs.ChangeSets.{IsBound, IsRenamed, NamesThen, ObjectsThen, AreEdgesThen, IsReachedThen}
 use Rattle.lore_base.specs.ChangeSets.{AreNumberedFrom, FitsGraph, IsGraphAfter, IsAfter}
-use Rattle.oem_changes.proofs.AscentLaws.{IsEither, AllPairs-nil, AllPairs-once, some_ordered}
-use Rattle.oem_changes.proofs.AscentLaws.{some_ordered_among}
 use Rattle.oem_changes.proofs.EdgeOrderLaws.{edges_ordered}
 use Rattle.oem_changes.proofs.TableLaws.{IsNamedBefore, names_ordered, one_entry, table_from_AllPairs}
 use Rattle.lore_base.proofs.ToldLaws.{IsTold, told_same, told_not, told_either, told_member, told_paired}
 use Rattle.lore_base.proofs.ToldLaws.{told_bytes, told_edge, passing, members_passing, AllPairs-passing}
+use Rattle.list_laws.proofs.AscentLaws.{IsEither, AllPairs-once, some_ordered, some_ordered_among}
+use Rattle.list_laws.proofs.PairLaws.{AllPairs-nil}
+use Rattle.list_laws.proofs.MemberLaws.{Contains-map, Contains-from_map}
 use Rattle.oem_changes.proofs.RootedLaws.{told_live, numbered_within}
-use Rattle.oem_changes.proofs.ClosureLaws.{IsWalkedTo, told_walked, Contains-mapped, mapped_from}
+use Rattle.oem_changes.proofs.ClosureLaws.{IsWalkedTo, told_walked}
 
 -- ---- edges then
 pub some_between : (edges : List Edge) (changes : Changes) → (between : List Edge) × AreEdgesThen edges changes between
@@ -115,7 +116,7 @@ module _ (names : List (List ℕ × Oid)) (changes : Changes) (table : IsNameTab
       let starts = map (λ (entry : List ℕ × Oid). entry.1) then.0 in
       told_same
       (λ (h : IsWalkedTo between starts oid).
-      let from = mapped_from (λ (entry : List ℕ × Oid). entry.1) then.0 h.start h.starts_there in
+      let from = Contains-from_map (λ (entry : List ℕ × Oid). entry.1) then.0 h.start h.starts_there in
       record {
         name = from.0.0;
         start = from.0.1;
@@ -126,7 +127,7 @@ module _ (names : List (List ℕ × Oid)) (changes : Changes) (table : IsNameTab
       (λ h. record {
         start = h.start;
         word = h.word;
-        starts_there = Contains-mapped (λ (entry : List ℕ × Oid). entry.1) then.0 (h.name, h.start)
+        starts_there = Contains-map (λ (entry : List ℕ × Oid). entry.1) then.0 (h.name, h.start)
             ((then.2 (h.name, h.start)).1 h.named);
         walked = h.walked;
       })

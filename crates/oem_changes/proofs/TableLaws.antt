@@ -12,7 +12,8 @@ use Rattle.lore_base.specs.Bytes.{bytes_cmp}
 use Rattle.lore_base.specs.Names.{IsNameTable}
 use Rattle.lore_base.proofs.MemberLaws.{Contains-none, Contains-head, Contains-tail, Contains-cases}
 use Rattle.lore_base.proofs.ListLaws.{AllPairs-head, AllPairs-tail, AllPairs-unique}
-use Rattle.oem_changes.proofs.AscentLaws.{IsOrder, AllPairs-nil, AllPairs-once, total_ordered}
+use Rattle.list_laws.proofs.AscentLaws.{IsOrder, AllPairs-once, total_ordered}
+use Rattle.list_laws.proofs.PairLaws.{AllPairs-nil}
 
 pub names_ordered : IsOrder (λ a b. bytes_cmp a b ≡ Less)
 names_ordered = total_ordered bytes_cmp nat_list_cmp_total exact_bytes

@@ -1,5 +1,5 @@
 -- It can be told of each cause of a refusal of changes whether it applies.
-use Rattle.std.proofs.Common.{◌≡◌, ◌≢◌, ℕ, ◌<◌, inl, inr, List, refl, subst}
+use Rattle.std.proofs.Common.{◌≡◌, ◌≢◌, ℕ, ◌<◌, List, refl, subst}
 use Rattle.std.specs.List.{Contains}
 use Rattle.lore_base.specs.Databases.{OemGraph}
 use Rattle.lore_base.specs.ChangeSets.{HasChildren, IsGraphAfter}

@@ -9,7 +9,8 @@ use Rattle.lore_base.specs.Databases.{Database, IsValid, IsRestorable, IsRooted}
 use Rattle.lore_base.specs.GuideLimits.{FitsGuide}
 use Rattle.lore_base.specs.ChangeSets.{Fits, IsAfter}
 use Rattle.lore_base.proofs.ListLaws.{AllPairs-append}
-use Rattle.oem_changes.proofs.RootedLaws.{All-of_members, rooted_after}
+use Rattle.list_laws.proofs.MemberLaws.{All-from_members}
+use Rattle.oem_changes.proofs.RootedLaws.{rooted_after}
 
 -- the graph of a valid database is rooted
 pub rooted_graph : (db : Database) → IsValid db → IsRooted db.graph
@@ -30,7 +31,7 @@ module _ (before : Database) (changes : Changes) (after : Database) (valid : IsV
   labelled_after =
       let longer : length after.labels ≡ length before.labels + length changes.labels = ap length leaves.labels
       ∙ length-append before.labels changes.labels in
-      All-of_members (λ edge. edge.label.0 < length after.labels) after.graph.edges
+      All-from_members (λ edge. edge.label.0 < length after.labels) after.graph.edges
       (λ edge at. elim ((leaves.graph.linked.exact edge).0 ((leaves.graph.edges edge).0 at).0) [
         | inl added ↦ subst (λ (labels : List (List ℕ)). edge.label.0 < length labels) (sym leaves.labels)
             (All-contains (λ (e : Edge). e.label.0 < length

@@ -1,10 +1,11 @@
 -- What a graph becomes with changes, from the lists of what is left.
 use Rattle.std.proofs.Common.{◌≡◌, ℕ, ◌+◌, ◌<◌, ◌≤◌, ◌↔◌, inl, inr, List, [], ◌++◌, length, get_or}
-use Rattle.std.proofs.Common.{All, Contains, sym, ap, ◌∙◌, subst, Less, arith}
-use Rattle.std.proofs.lemmas.List.Elements.{Contains-get_or, Contains-append_cases, Contains-append_left}
+use Rattle.std.proofs.Common.{Contains, sym, ap, ◌∙◌, subst, Less, arith}
+use Rattle.std.proofs.lemmas.List.Elements.{Contains-get_or, Contains-append_cases, Contains-append_left, All-contains}
 use Rattle.std.proofs.lemmas.List.Elements.{Contains-append_right}
 use Rattle.std.proofs.lemmas.List.Kept.{AllPairs-filter}
 use Rattle.lore_base.proofs.ListLaws.{AllPairs-append}
+use Rattle.index_traits.proofs.ObjectLaws.{told_live}
 use Rattle.lore_base.specs.Names.{IsNameTable}
 use Rattle.lore_base.specs.Walks.{edge_cmp}
 use Rattle.lore_base.specs.Databases.{OemGraph, IsWellFormed, IsLinked, IsLive, AreAscendingObjects}
@@ -19,18 +20,14 @@ use Rattle.oem_graph.specs.inside.Left.{AreOrdered, ListsObjectsLeft, with_value
 use Rattle.oem_graph.specs.inside.Left.{objects_left, edges_left}
 use Rattle.oem_graph.proofs.OverlayLaws.{edges-layered}
 use Rattle.oem_graph.proofs.LayerLaws.{same-edges}
-use Rattle.oem_graph.proofs.LeftLaws.{live-cases, given-value, old-value, left-object, object-left, ascend-left}
+use Rattle.oem_graph.proofs.LeftLaws.{given-value, old-value, left-object, object-left, ascend-left}
 use Rattle.oem_graph.proofs.LeftLaws.{members-edges_left}
 use Rattle.oem_graph.proofs.ObjectLaws.{number_at}
-
--- the property holds of what stands in the list
-All-member : {X : Type 0} (P : X → Type 0) (xs : List X) → All P xs → (x : X) → Contains xs x → P x
-All-member P xs each x at = subst P at.2 (each at.0 x at.1)
 
 module _ (before : OemGraph) (changes : Changes) (formed : IsWellFormed before) (fits : FitsGraph before changes) where
   -- what is live stays live until things vanish
   live-then : (oid : Oid) → IsLive before.objects oid → IsLiveThen before.objects changes oid
-  live-then oid live = elim (live-cases changes.values oid) [
+  live-then oid live = elim (told_live changes.values oid) [
     | inl given ↦ (given.0, inr (inl given.1))
     | inr none ↦ (live.0, inr (inr (live.1, none)))
   ]
@@ -38,8 +35,8 @@ module _ (before : OemGraph) (changes : Changes) (formed : IsWellFormed before) 
   -- the parent of an edge then is live then
   parent-live : (edge : Edge) → EdgesThen before.edges changes edge → IsLiveThen before.objects changes edge.parent
   parent-live edge then = elim then [
-    | inl added ↦ (Complex, (All-member (λ (e : Edge). IsComplexThen before.objects changes e.parent × IsAtHand before changes e.child) changes.added fits.added edge added).0)
-    | inr kept ↦ live-then edge.parent (Complex, (All-member (IsLinked before.objects) before.edges formed.edges_linked edge kept.0).parent)
+    | inl added ↦ (Complex, (All-contains (λ (e : Edge). IsComplexThen before.objects changes e.parent × IsAtHand before changes e.child) changes.added edge fits.added added).0)
+    | inr kept ↦ live-then edge.parent (Complex, (All-contains (IsLinked before.objects) before.edges edge formed.edges_linked kept.0).parent)
   ]
 
   module _ (values : List (Oid × Value)) (ordered : AreOrdered changes.values values) (dead : List Oid) where
@@ -57,7 +54,7 @@ module _ (before : OemGraph) (changes : Changes) (formed : IsWellFormed before) 
         (λ i j d lt_i lt_j.
         let first = left-object values dead before.objects (get_or kept i d) (Contains-get_or kept i d lt_i) in
         let second = left-object [] dead changes.made (get_or made j d) (Contains-get_or made j d lt_j) in
-        let lower = (All-member (λ (o : Oid × Value). (1 ≤ o.0.0) × (o.0.0 < before.next)) before.objects formed.ordered.objects_numbered first.0 first.1).1 in
+        let lower = (All-contains (λ (o : Oid × Value). (1 ≤ o.0.0) × (o.0.0 < before.next)) before.objects first.0 formed.ordered.objects_numbered first.1).1 in
         let higher = number_at before.next changes.made fits.numbered second.0 second.1.0 second.1.1 in
         let first_is = ap (λ (o : Oid × Value). o.0.0) first.3 in
         let second_is = ap (λ (o : Oid × Value). o.0.0) second.3 in
@@ -71,7 +68,7 @@ module _ (before : OemGraph) (changes : Changes) (formed : IsWellFormed before) 
           let from = left-object values dead before.objects object kept in
           let old = from.0 in
           let dies : Contains dead object.0 → ⊥ = λ there. from.2 (subst (λ (o : Oid × Value). Contains dead o.0) (sym from.3) there) in
-          elim (live-cases values old.0) [
+          elim (told_live values old.0) [
             | inl given ↦
                 let is : ◌≡◌ {A = Oid × Value} (old.0, given.0) object = ap (λ (v : Value). (old.0, v)) (sym (given-value values ordered.ascend old given.0 given.1)) ∙ from.3 in
                 (inr (inl (subst (λ (o : Oid × Value). Contains changes.values o) is ((ordered.members (old.0, given.0)).0 given.1))), dies)
@@ -96,7 +93,7 @@ module _ (before : OemGraph) (changes : Changes) (formed : IsWellFormed before) 
           | inl new ↦ Contains-append_right kept made object (object-left [] dead changes.made object new living)
           | inr older ↦ elim older [
             | inl given ↦
-                let live = All-member (λ (o : Oid × Value). IsLive before.objects o.0) changes.values fits.values_live object given in
+                let live = All-contains (λ (o : Oid × Value). IsLive before.objects o.0) changes.values object fits.values_live given in
                 let old : Oid × Value = (object.0, live.0) in
                 let value = given-value values ordered.ascend old object.1 ((ordered.members object).1 given) in
                 let is : ◌≡◌ {A = Oid × Value} (with_value values old) object = ap (λ (v : Value). (object.0, v)) value in

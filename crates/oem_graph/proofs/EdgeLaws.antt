@@ -8,7 +8,7 @@ use Rattle.std.proofs.lemmas.Cmp.{nat_cmp_total, on_total, then_total}
 use Rattle.std.proofs.lemmas.List.{get_or_append_left, get_or-append_right}
 use Rattle.std.proofs.lemmas.Option.{get_or_from_slice_get}
 use Rattle.lore_base.proofs.ListLaws.{AllPairs-append}
-use Rattle.oem_graph.proofs.PartLaws.{AllPairs-front, AllPairs-back}
+use Rattle.list_laws.proofs.PairLaws.{AllPairs-front, AllPairs-back}
 use Rattle.oem_graph.specs.Types.{Edge}
 use Rattle.oem_graph.specs.inside.EdgeTests.{edge_eq}
 use Rattle.lore_base.specs.Walks.{edge_cmp}

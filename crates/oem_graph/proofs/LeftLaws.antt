@@ -1,5 +1,5 @@
 -- What is left of objects and edges where some objects are dead and others have new values.
-use Rattle.std.proofs.Common.{◌≡◌, ℕ, ◌<◌, ◌≤◌, ◌↔◌, ◌⊎◌, ◌||◌, Bool, true, false, not, cond, nat_eq, inl}
+use Rattle.std.proofs.Common.{◌≡◌, ℕ, ◌<◌, ◌≤◌, ◌↔◌, ◌||◌, Bool, true, false, not, cond, nat_eq, inl}
 use Rattle.std.proofs.Common.{inr, List, [], ◌∷◌, get_or, map, AllPairs, Contains, refl, sym, ap}
 use Rattle.std.proofs.Common.{◌∙◌, subst, arith}
 use Rattle.std.specs.List.{filter}
@@ -13,6 +13,7 @@ use Rattle.std.proofs.lemmas.Map.Keys.{IsDistinct-from_apart, IsDistinct-IsPermu
 use Rattle.lore_base.proofs.ListLaws.{AllPairs-tail, AllPairs-head}
 use Rattle.lore_base.proofs.MemberLaws.{Contains-none, Contains-head, Contains-tail, Contains-cases, Contains-same}
 use Rattle.lore_base.proofs.MemberLaws.{Contains-filter, unfiltered}
+use Rattle.list_laws.proofs.MemberLaws.{Contains-from_map, Contains-map}
 use Rattle.oem_graph.specs.Types.{Oid, Edge, Value}
 use Rattle.lore_base.specs.Databases.{AreAscendingObjects, IsLive}
 use Rattle.oem_graph.specs.inside.Left.{is_among, AreOrdered, value_then, with_value, objects_left, edges_left}
@@ -51,21 +52,6 @@ not_among oids oid none = elim (is_among oids oid) as (λ b. is_among oids oid �
   | false ↦ λ no. refl
 ] refl
 
--- an object is live or not
-pub live-cases : (objects : List (Oid × Value)) (oid : Oid) → IsLive objects oid ⊎ (IsLive objects oid → ⊥)
-live-cases [] oid = inr (λ live. Contains-none _ live.1)
-live-cases (first ∷ objects) oid =
-    elim (nat_eq first.0.0 oid.0) as (λ b. nat_eq first.0.0 oid.0 ≡ b → IsLive (first ∷ objects) oid ⊎ (IsLive (first ∷ objects) oid → ⊥)) [
-      | true ↦ λ same. inl (first.1, Contains-same (first ∷ objects) first (oid, first.1) (ap (λ (o : Oid). (o, first.1)) (same_oid first.0 oid same)) (Contains-head first objects))
-      | false ↦ λ other. elim (live-cases objects oid) [
-        | inl live ↦ inl (live.0, Contains-tail first objects (oid, live.0) live.1)
-        | inr none ↦ inr (λ live. elim (Contains-cases first objects (oid, live.0) live.1) [
-          | inl same ↦ true≢false (sym (ap (λ (o : Oid × Value). nat_eq o.0.0 oid.0) same ∙ eq_self oid.0) ∙ other)
-          | inr later ↦ none (live.0, later)
-        ])
-      ]
-    ] refl
-
 -- the value that an object has then
 pub given-value : (values : List (Oid × Value)) → AreAscendingObjects values
     → (object : Oid × Value) (value : Value) → Contains values (object.0, value) → value_then values object ≡ value
@@ -89,33 +75,18 @@ old-value (first ∷ values) object none =
       | false ↦ λ other. rest
     ] refl
 
--- what stands in a list of images
-pub mapped : {X Y : Type 0} (f : X → Y) (xs : List X) (y : Y) → Contains (map f xs) y → (x : X) × Contains xs x × (f x ≡ y)
-mapped f [] y at = absurd (Contains-none y at)
-mapped f (x ∷ xs) y at = elim (Contains-cases (f x) (map f xs) y at) [
-  | inl same ↦ (x, Contains-head x xs, same)
-  | inr later ↦ let rest = mapped f xs y later in (rest.0, Contains-tail x xs rest.0 rest.1, rest.2)
-]
-
-pub map-contains : {X Y : Type 0} (f : X → Y) (xs : List X) (x : X) → Contains xs x → Contains (map f xs) (f x)
-map-contains f [] x at = absurd (Contains-none x at)
-map-contains f (first ∷ xs) x at = elim (Contains-cases first xs x at) [
-  | inl same ↦ Contains-same (map f (first ∷ xs)) (f first) (f x) (ap f same) (Contains-head (f first) (map f xs))
-  | inr later ↦ Contains-tail (f first) (map f xs) (f x) (map-contains f xs x later)
-]
-
 -- the objects that are left of a list
 pub left-object : (values : List (Oid × Value)) (dead : List Oid) (objects : List (Oid × Value)) (object : Oid × Value) → Contains (objects_left values dead objects) object
     → (old : Oid × Value) × Contains objects old × (Contains dead old.0 → ⊥) × (with_value values old ≡ object)
 left-object values dead objects object at =
-    let from = mapped (with_value values) (filter (λ o. not (is_among dead o.0)) objects) object at in
+    let from = Contains-from_map (with_value values) (filter (λ o. not (is_among dead o.0)) objects) object at in
     let passed = unfiltered (λ (o : Oid × Value). not (is_among dead o.0)) objects from.0 from.1 in
     (from.0, passed.0, λ there. true≢false (sym passed.1 ∙ ap not (among dead from.0.0 there)), from.2)
 
 pub object-left : (values : List (Oid × Value)) (dead : List Oid) (objects : List (Oid × Value)) (old : Oid × Value) → Contains objects old → (Contains dead old.0 → ⊥)
     → Contains (objects_left values dead objects) (with_value values old)
 object-left values dead objects old at living =
-    map-contains (with_value values) (filter (λ o. not (is_among dead o.0)) objects) old
+    Contains-map (with_value values) (filter (λ o. not (is_among dead o.0)) objects) old
     (Contains-filter (λ (o : Oid × Value). not (is_among dead o.0)) objects old at (ap not (not_among dead old.0 living)))
 
 ascend-mapped : (values objects : List (Oid × Value)) → AreAscendingObjects objects

@@ -1,4 +1,3 @@
-pub mod PartLaws
 pub mod ObjectLaws
 pub mod EdgeLaws
 pub mod SearchLaws

@@ -35,15 +35,6 @@ same_place objects ascend i k d lt_i lt_k same =
       | inr le ↦ elim (cases_lt k i) [ inl after ↦ absurd (omega (arith, ascend k i d after lt_i)) | inr ge ↦ omega arith ]
     ]
 
--- an object has one value
-pub one_value : (objects : List (Oid × Value)) → AreAscendingObjects objects → (oid : Oid) (v w : Value) → Contains objects (oid, v) → Contains objects (oid, w) → v ≡ w
-one_value objects ascend oid v w at_v at_w =
-    let read = get_or_default objects at_v.0 (oid, v) (oid, w) at_v.1 in
-    let at : get_or objects at_v.0 (oid, w) ≡ (oid, v) = sym read ∙ at_v.2 in
-    let same = same_place objects ascend at_v.0 at_w.0 (oid, w) at_v.1 at_w.1 (ap (λ o. o.0.0) at ∙ sym (ap (λ o. o.0.0) at_w.2)) in
-    let e : ◌≡◌ {A = Oid × Value} (oid, v) (oid, w) = sym at ∙ ap (λ k. get_or objects k (oid, w)) same ∙ at_w.2 in
-    ap (λ o. o.1) e
-
 -- what stands at a place with the object's number is the object with its value
 pub found_value : (objects : List (Oid × Value)) (oid : Oid) (place : ℕ) (d : Oid × Value) → place < length objects → nat_cmp (get_or objects place d).0.0 oid.0 ≡ Equal → Contains objects (oid, (get_or objects place d).1)
 found_value objects oid place d lt equal =

@@ -1,35 +1,18 @@
 -- The run of edges that leave an object, among ascending edges.
-use Rattle.std.proofs.Common.{◌≡◌, ℕ, ◌+◌, ◌<◌, ◌≤◌, Bool, true, false, nat_eq, nat_cmp, Less, ltb, leb, List, [], ◌∷◌, ◌++◌, length, get_or, Some, ◌-◌, take, drop, All, refl, sym, ap, subst, ◌∙◌, inl, inr, arith, length-take, length-drop}
+use Rattle.std.proofs.Common.{◌≡◌, ℕ, ◌<◌, ◌≤◌, Bool, true, false, nat_eq, nat_cmp, Less, ltb, leb, List, [], ◌++◌, length, get_or, Some, ◌-◌, take, drop, All, sym, ap, ◌∙◌, inl, inr, arith, length-take}
 use Rattle.std.specs.declared.cmp.Ordering.{Ordering}
 use Rattle.std.specs.Ordering.{ordering_then}
 use Rattle.std.specs.List.{filter, slice_get, AllWithin, HoldsAt}
 use Rattle.std.specs.List.Sorted.{IsNonDecreasingBy, IsPartitionPoint}
 use Rattle.std.proofs.lemmas.Bool.{cases_lt}
 use Rattle.std.proofs.lemmas.Bool.Decides.{nat_tests}
-use Rattle.std.proofs.lemmas.List.{append-nil, get_or-take, get_or-drop, take-append-drop}
+use Rattle.std.proofs.lemmas.List.{append-nil, get_or-take, take-append-drop}
 use Rattle.std.proofs.lemmas.Option.{get_or_from_slice_get}
-use Rattle.std.proofs.lemmas.List.Elements.{All-tail, filter-append}
+use Rattle.std.proofs.lemmas.List.Elements.{filter-append}
+use Rattle.list_laws.proofs.PartLaws.{filter_all, filter_none, All-take_within, All-drop_within}
 use Rattle.oem_graph.specs.Types.{Oid, Edge}
 use Rattle.lore_base.specs.Walks.{out_of}
 use Rattle.lore_base.specs.Databases.{AreAscendingEdges}
-
--- a filter keeps a list whose items all pass, and nothing where none does
-filter-passed : {X : Type 0} (p : X → Bool) (xs : List X) → All (λ x. p x ≡ true) xs → filter p xs ≡ xs
-filter-passed p [] h = refl
-filter-passed p (x ∷ xs) h = rw (h 0 x (omega arith)) (ap (λ l. x ∷ l) (filter-passed p xs (All-tail (λ y. p y ≡ true) x xs h)))
-
-filter-failed : {X : Type 0} (p : X → Bool) (xs : List X) → All (λ x. p x ≡ false) xs → filter p xs ≡ []
-filter-failed p [] h = refl
-filter-failed p (x ∷ xs) h = rw (h 0 x (omega arith)) (filter-failed p xs (All-tail (λ y. p y ≡ false) x xs h))
-
-All-front : {X : Type 0} (P : X → Type 0) (xs : List X) (n : ℕ) → AllWithin P xs 0 n → All P (take n xs)
-All-front P xs n h k d lt =
-    let below : k < n = omega (arith, length-take n xs) in
-    subst P (sym (get_or-take n xs k d below)) (h k d (omega arith) below)
-
-pub All-back : {X : Type 0} (P : X → Type 0) (xs : List X) (n : ℕ) → AllWithin P xs n (length xs) → All P (drop n xs)
-All-back P xs n h k d lt =
-    subst P (sym (get_or-drop n xs k d)) (h (n + k) d (omega arith) (omega (arith, length-drop n xs)))
 
 first_rises : (p q : ℕ) (o : Ordering) → ordering_then (nat_cmp p q) o ≡ Less → p ≤ q
 first_rises p q o h = grind (arith, nat_tests)
@@ -77,14 +60,14 @@ run_is edges oid start len low high =
     let rest = drop start edges in
     let p : Edge → Bool = λ e. nat_eq e.parent.0 oid.0 in
     let lower : filter p (take start edges) ≡ [] =
-    filter-failed p (take start edges) (λ k d lt. ne_of_lower _ _ (All-front (λ e. ltb e.parent.0 oid.0 ≡ true) edges start low.0 k d lt)) in
+    filter_none p (take start edges) (λ k d lt. ne_of_lower _ _ (All-take_within (λ e. ltb e.parent.0 oid.0 ≡ true) edges start low.0 k d lt)) in
     let higher : filter p (drop len rest) ≡ [] =
-    filter-failed p (drop len rest) (λ k d lt. ne_of_higher _ _ (All-back (λ e. leb e.parent.0 oid.0 ≡ false) rest len high.1 k d lt)) in
-    let not_lower : All (λ e. ltb e.parent.0 oid.0 ≡ false) rest = All-back (λ e. ltb e.parent.0 oid.0 ≡ false) edges start low.1 in
+    filter_none p (drop len rest) (λ k d lt. ne_of_higher _ _ (All-drop_within (λ e. leb e.parent.0 oid.0 ≡ false) rest len high.1 k d lt)) in
+    let not_lower : All (λ e. ltb e.parent.0 oid.0 ≡ false) rest = All-drop_within (λ e. ltb e.parent.0 oid.0 ≡ false) edges start low.1 in
     let run : filter p (take len rest) ≡ take len rest =
-    filter-passed p (take len rest) (λ k d lt.
+    filter_all p (take len rest) (λ k d lt.
     let below : k < len = omega (arith, length-take len rest) in
-    eq_of_bounds _ _ (rw (get_or-take len rest k d below) (not_lower k d (omega (arith, length-take len rest)))) (All-front (λ e. leb e.parent.0 oid.0 ≡ true) rest len high.0 k d lt)) in
+    eq_of_bounds _ _ (rw (get_or-take len rest k d below) (not_lower k d (omega (arith, length-take len rest)))) (All-take_within (λ e. leb e.parent.0 oid.0 ≡ true) rest len high.0 k d lt)) in
     let parts : filter p edges ≡ filter p (take start edges) ++ filter p rest = ap (filter p) (sym (take-append-drop start edges)) ∙ filter-append p (take start edges) rest in
     let parts_rest : filter p rest ≡ filter p (take len rest) ++ filter p (drop len rest) = ap (filter p) (sym (take-append-drop len rest)) ∙ filter-append p (take len rest) (drop len rest) in
     sym (parts ∙ ap (λ l. l ++ filter p rest) lower ∙ parts_rest ∙ ap (λ l. filter p (take len rest) ++ l) higher ∙ append-nil _ ∙ run)
@@ -103,9 +86,9 @@ run_between : (before run behind : List Edge) (oid : Oid) → All (λ e. e.paren
     → All (λ e. e.parent.0 ≡ oid.0) run → run ≡ out_of oid (before ++ (run ++ behind))
 run_between before run behind oid lower higher same =
     let p : Edge → Bool = λ e. nat_eq e.parent.0 oid.0 in
-    let low : filter p before ≡ [] = filter-failed p before (λ k d lt. not_above _ _ (lower k d lt)) in
-    let high : filter p behind ≡ [] = filter-failed p behind (λ k d lt. not_below _ _ (higher k d lt)) in
-    let kept : filter p run ≡ run = filter-passed p run (λ k d lt. is_of _ _ (same k d lt)) in
+    let low : filter p before ≡ [] = filter_none p before (λ k d lt. not_above _ _ (lower k d lt)) in
+    let high : filter p behind ≡ [] = filter_none p behind (λ k d lt. not_below _ _ (higher k d lt)) in
+    let kept : filter p run ≡ run = filter_all p run (λ k d lt. is_of _ _ (same k d lt)) in
     let parts : filter p (before ++ (run ++ behind)) ≡ filter p before ++ filter p (run ++ behind) = filter-append p before (run ++ behind) in
     let others : filter p (run ++ behind) ≡ filter p run ++ filter p behind = filter-append p run behind in
     sym (parts ∙ ap (λ l. l ++ filter p (run ++ behind)) low ∙ others ∙ ap (λ l. filter p run ++ l) high ∙ append-nil _ ∙ kept)

@@ -1,26 +1,19 @@
 -- The texts that a list uses first: each once, none of those that are known, and no others than the list has.
-use Rattle.std.proofs.Common.{◌≡◌, ◌≢◌, ◌⊎◌, ℕ, zero, suc, append-nil, ◌≤◌, Bool, true, false, ◌||◌, if◌then◌else◌, List, [], ◌∷◌, ◌++◌, length, All, AllPairs, Contains, refl, sym, ap, subst, inl, inr, ◌∙◌, arith, append_assoc, true≢false}
+use Rattle.std.proofs.Common.{◌≡◌, ◌≢◌, ℕ, zero, suc, append-nil, ◌≤◌, Bool, true, false, ◌||◌, if◌then◌else◌, List, [], ◌∷◌, ◌++◌, length, All, AllPairs, Contains, refl, sym, ap, subst, inl, inr, ◌∙◌, arith, append_assoc, true≢false}
 use Rattle.std.specs.List.{list_any}
 use Rattle.std.specs.Str.{bytes_eq}
 use Rattle.std.proofs.lemmas.List.Elements.{All-nil, All-cons, All-head, All-tail, Contains-get_or, Contains-append_left, Contains-push, Contains-append_cases}
 use Rattle.std.proofs.lemmas.List.Quantifiers.{all_pairs_push}
 use Rattle.std.proofs.lemmas.Slice.Eq.{bytes_eq-Decides}
+use Rattle.std.proofs.lemmas.Bool.{cases_Bool, or_cases}
 use Rattle.oem_labels.specs.Labels.{first_uses}
 use Rattle.lore_base.proofs.MemberLaws.{Contains-head, Contains-tail}
-
-pub either : (b : Bool) → (b ≡ true) ⊎ (b ≡ false)
-either true = inl refl
-either false = inr refl
-
-or_true : (b c : Bool) → (b || c) ≡ true → (b ≡ true) ⊎ (c ≡ true)
-or_true true c h = inl refl
-or_true false c h = inr h
 
 -- ---- a text among those that are known
 pub known_text : (known : List (List ℕ)) (text : List ℕ) → list_any (bytes_eq text) known ≡ true → Contains known text
 known_text [] text h = absurd (true≢false (sym h))
 known_text (first ∷ known) text h =
-    elim (or_true (bytes_eq text first) (list_any (bytes_eq text) known) h) [
+    elim (or_cases (bytes_eq text first) (list_any (bytes_eq text) known) h) [
       | inl same ↦ (let is : text ≡ first = (bytes_eq-Decides text first).0 same in subst (Contains (first ∷ known)) (sym is) (Contains-head first known))
       | inr later ↦ Contains-tail first known text (known_text known text later)
     ]
@@ -58,7 +51,7 @@ pushed xs y ys = append_assoc xs (y ∷ []) ys
 pub length-first_uses : (known texts : List (List ℕ)) → length (first_uses known texts) ≤ length texts
 length-first_uses known [] = omega arith
 length-first_uses known (text ∷ texts) =
-    elim (either (list_any (bytes_eq text) known)) [
+    elim (cases_Bool (list_any (bytes_eq text) known)) [
       | inl e ↦ (let same = ap length (first_uses-known known text texts e) in omega (arith, same, length-first_uses known texts))
       | inr e ↦ (let same = ap length (first_uses-new known text texts e) in omega (arith, same, length-first_uses (known ++ text ∷ []) texts))
     ]
@@ -67,7 +60,7 @@ pub All-first_uses : (P : List ℕ → Type 0) (known texts : List (List ℕ)) �
 All-first_uses P known [] h = All-nil P
 All-first_uses P known (text ∷ texts) h =
     let others = All-tail P text texts h in
-    elim (either (list_any (bytes_eq text) known)) [
+    elim (cases_Bool (list_any (bytes_eq text) known)) [
       | inl e ↦ subst (All P) (sym (first_uses-known known text texts e)) (All-first_uses P known texts others)
       | inr e ↦ subst (All P) (sym (first_uses-new known text texts e))
           (All-cons P text (first_uses (known ++ text ∷ []) texts) (All-head P text texts h) (All-first_uses P (known ++ text ∷ []) texts others))
@@ -77,7 +70,7 @@ All-first_uses P known (text ∷ texts) h =
 pub first_uses_distinct : (known texts : List (List ℕ)) → AllPairs (λ a b. a ≢ b) known → AllPairs (λ a b. a ≢ b) (known ++ first_uses known texts)
 first_uses_distinct known [] distinct = subst (AllPairs (λ a b. a ≢ b)) (sym (append-nil known)) distinct
 first_uses_distinct known (text ∷ texts) distinct =
-    elim (either (list_any (bytes_eq text) known)) [
+    elim (cases_Bool (list_any (bytes_eq text) known)) [
       | inl e ↦ subst (λ l. AllPairs (λ a b. a ≢ b) (known ++ l)) (sym (first_uses-known known text texts e)) (first_uses_distinct known texts distinct)
       | inr e ↦ (
           let apart = all_pairs_push (λ a b. a ≢ b) known text distinct
@@ -90,7 +83,7 @@ first_uses_distinct known (text ∷ texts) distinct =
 pub first_uses_cover : (known texts : List (List ℕ)) → All (Contains (known ++ first_uses known texts)) texts
 first_uses_cover known [] = All-nil (Contains (known ++ first_uses known []))
 first_uses_cover known (text ∷ texts) =
-    elim (either (list_any (bytes_eq text) known)) [
+    elim (cases_Bool (list_any (bytes_eq text) known)) [
       | inl e ↦ (
           let rest = first_uses_cover known texts in
           subst (λ l. All (Contains (known ++ l)) (text ∷ texts)) (sym (first_uses-known known text texts e))
@@ -108,7 +101,7 @@ pub first_uses-append : (known texts others : List (List ℕ))
     → first_uses known (texts ++ others) ≡ first_uses known texts ++ first_uses (known ++ first_uses known texts) others
 first_uses-append known [] others = ap (λ l. first_uses l others) (sym (append-nil known))
 first_uses-append known (text ∷ texts) others =
-    elim (either (list_any (bytes_eq text) known)) [
+    elim (cases_Bool (list_any (bytes_eq text) known)) [
       | inl e ↦ (
           let rest = first_uses-append known texts others in
           first_uses-known known text (texts ++ others) e ∙ rest

@@ -1,3 +1,4 @@
 pub mod LabelLaws
 pub mod TextSetLaws
 mod TableLaws
+pub mod PlaceLaws

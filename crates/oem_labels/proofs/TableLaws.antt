@@ -4,8 +4,9 @@ use Rattle.std.specs.List.{list_any}
 use Rattle.std.specs.Str.{bytes_eq}
 use Rattle.std.proofs.lemmas.List.{drop_more}
 use Rattle.std.proofs.lemmas.Option.{slice_get_within, get_or_from_slice_get}
+use Rattle.std.proofs.lemmas.Bool.{cases_Bool}
 use Rattle.oem_labels.specs.Labels.{first_uses}
-use Rattle.oem_labels.proofs.LabelLaws.{either, is_known, first_uses-known, first_uses-new}
+use Rattle.oem_labels.proofs.LabelLaws.{is_known, first_uses-known, first_uses-new}
 use Rattle.oem_labels.proofs.TextSetLaws.{no_text, first_uses-apart}
 
 -- a text that a label has is known
@@ -35,7 +36,7 @@ gain-some known texts i text low is nowhere none =
     absurd (cc)
 
 front-few : (known : List (List ℕ)) (text : List ℕ) (texts : List (List ℕ)) → length (first_uses known (text ∷ [])) ≤ length (first_uses known (text ∷ texts))
-front-few known text texts = elim (either (list_any (bytes_eq text) known)) [
+front-few known text texts = elim (cases_Bool (list_any (bytes_eq text) known)) [
   | inl e ↦ (let none = ap length (first_uses-known known text [] e) in omega (arith, none))
   | inr e ↦ (
       let one = ap length (first_uses-new known text [] e) in

@@ -6,9 +6,10 @@ use Rattle.std.proofs.lemmas.List.{get_or_at, get_or_append_left}
 use Rattle.std.proofs.lemmas.Option.{none-some, same_Some, slice_get-get_or, slice_get_within, get_or_from_slice_get}
 use Rattle.std.proofs.lemmas.List.Quantifiers.{position-Some, all_pairs_push}
 use Rattle.std.proofs.lemmas.Slice.Eq.{bytes_eq-Decides}
+use Rattle.std.proofs.lemmas.Bool.{cases_Bool}
 use Rattle.indexmap.specs.IndexSet.{insert_key, insert_all}
 use Rattle.oem_labels.specs.Labels.{AreLabels, first_uses}
-use Rattle.oem_labels.proofs.LabelLaws.{either, pushed, first_uses-new}
+use Rattle.oem_labels.proofs.LabelLaws.{pushed, first_uses-new}
 
 pub text_at : (text : List ℕ) (texts : List (List ℕ)) (i : ℕ) → position (bytes_eq text) texts ≡ Some i → slice_get texts i ≡ Some text
 text_at text [] i h = absurd (none-some i h)
@@ -32,7 +33,7 @@ text_nowhere text (first ∷ texts) (suc i) none h = text_nowhere text texts i (
 pub no_text : (text : List ℕ) (texts : List (List ℕ)) → ((i : ℕ) → slice_get texts i ≢ Some text) → list_any (bytes_eq text) texts ≡ false
 no_text text [] nowhere = refl
 no_text text (first ∷ texts) nowhere =
-    elim (either (bytes_eq text first)) [
+    elim (cases_Bool (bytes_eq text first)) [
       | inl e ↦ absurd (nowhere 0 (ap (λ (t : List ℕ). Some t) (sym ((bytes_eq-Decides text first).0 e))))
       | inr e ↦ ap (λ b. b || list_any (bytes_eq text) texts) e ∙ no_text text texts (λ i. nowhere (suc i))
     ]

@@ -10,9 +10,9 @@ use Rattle.lore_base.specs.Databases.{OemGraph, IsRooted, IsLive}
 use Rattle.lore_base.specs.ChangeSets.{IsRenamed, NamesThen, IsComplexThen, IsReachedThen, IsAtHand, FitsGraph, IsOverlay, AreNumberedFrom, AreDead}
 use Rattle.lore_base.proofs.MemberLaws.{Contains-none, Contains-cases, Contains-filter, unfiltered}
 use Rattle.lore_base.proofs.WalkLaws.{Walk-append}
+use Rattle.list_laws.proofs.MemberLaws.{Contains-map, Contains-from_map}
 use Rattle.oem_reach.specs.Types.{Oid, Label, Edge, Value, Changes}
 use Rattle.oem_reach.specs.inside.Reached.{IsWalkedFrom, IsParted, is_entering, entered, AreLeft}
-use Rattle.oem_reach.proofs.MemberLaws.{Contains-map, mapped}
 use Rattle.oem_reach.proofs.ReachedLaws.{AreLeft-same, named_reached}
 use Rattle.oem_reach.proofs.CutLaws.{live_then, live_before, child_before, walked_at_hand, old_stays, parted_before}
 
@@ -40,7 +40,7 @@ numbers_ascend next (object ∷ others) numbered =
 
 pub live_made : (made : List (Oid × Value)) (oid : Oid) → Contains (map (λ object. object.0) made) oid → IsLive made oid
 live_made made oid at =
-    let found = mapped (λ (object : Oid × Value). object.0) made oid at in
+    let found = Contains-from_map (λ (object : Oid × Value). object.0) made oid at in
     ((found.0).1, subst (λ (o : Oid). Contains made (o, (found.0).1)) found.2 found.1)
 
 pub made_live : (made : List (Oid × Value)) (oid : Oid) → IsLive made oid → Contains (map (λ object. object.0) made) oid
@@ -156,7 +156,7 @@ module _ (before : OemGraph) (changes : Changes) (between lost fresh : List Edge
     -- what is entered is reached then
     entered_reached : (oid : Oid) → Contains (entered before.next changes.named fresh) oid → IsReachedThen before.names changes between oid
     entered_reached oid at = elim (Contains-append_cases (map (λ (entry : List ℕ × Oid). entry.1) changes.named) (map (λ (e : Edge). e.child) (filter (is_entering before.next) fresh)) oid at) [
-      | inl named ↦ (let entry = mapped (λ (entry : List ℕ × Oid). entry.1) changes.named oid named in record {
+      | inl named ↦ (let entry = Contains-from_map (λ (entry : List ℕ × Oid). entry.1) changes.named oid named in record {
         name = (entry.0).0;
         start = oid;
         word = [];
@@ -164,7 +164,7 @@ module _ (before : OemGraph) (changes : Changes) (between lost fresh : List Edge
         walked = refl;
       })
       | inr child ↦
-          let found = mapped (λ (e : Edge). e.child) (filter (is_entering before.next) fresh) oid child in
+          let found = Contains-from_map (λ (e : Edge). e.child) (filter (is_entering before.next) fresh) oid child in
           let edge = found.0 in
           let passed = unfiltered (is_entering before.next) fresh edge found.1 in
           let only = (overlay.fresh_exact edge).0 passed.0 in

@@ -1,4 +1,3 @@
-pub mod MemberLaws
 pub mod ReachedLaws
 pub mod CutLaws
 pub mod DeadLaws

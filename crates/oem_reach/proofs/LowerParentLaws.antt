@@ -9,10 +9,10 @@ use Rattle.std.proofs.lemmas.List.Elements.{Contains-append_right}
 use Rattle.lore_base.specs.ChangeSets.{AreNumberedFrom}
 use Rattle.lore_base.proofs.MemberLaws.{Contains-none, Contains-filter}
 use Rattle.lore_base.proofs.WalkLaws.{Walk-append}
+use Rattle.list_laws.proofs.MemberLaws.{Contains-map}
 use Rattle.oem_reach.specs.Types.{Oid, Edge, Value}
 use Rattle.oem_reach.specs.inside.Reached.{IsWalkedFrom, is_entering, entered, AreLeft}
 use Rattle.oem_reach.specs.inside.LowerParents.{IsLed, AreLed}
-use Rattle.oem_reach.proofs.MemberLaws.{Contains-map}
 use Rattle.oem_reach.proofs.DeadLaws.{numbers_from, numbers_below, entering-Decides}
 
 -- where one more is noted that is led to, what is noted still is

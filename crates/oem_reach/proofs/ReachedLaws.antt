@@ -8,14 +8,16 @@ use Rattle.std.proofs.lemmas.Bool.Decides.{nat_tests}
 use Rattle.std.proofs.lemmas.List.{get_or_default}
 use Rattle.std.proofs.lemmas.List.Elements.{Contains-append_cases}
 use Rattle.std.proofs.lemmas.List.Kept.{AllPairs-filter}
+use Rattle.std.proofs.lemmas.Cmp.{tied_itself, nat_cmp_total}
 use Rattle.lore_base.specs.Walks.{out_of, edge_of}
 use Rattle.lore_base.specs.TargetSets.{ListsInOrder}
 use Rattle.lore_base.proofs.MemberLaws.{Contains-none, Contains-head, Contains-tail, Contains-cases, Contains-same, Contains-filter, unfiltered}
 use Rattle.lore_base.proofs.WalkLaws.{Walk-append}
+use Rattle.list_laws.proofs.MemberLaws.{Contains-map, Contains-from_map}
+use Rattle.list_laws.proofs.OrderLaws.{same_from_cmp}
 use Rattle.lore_base.specs.ChangeSets.{NamesThen, IsReachedThen}
 use Rattle.oem_reach.specs.Types.{Oid, Edge, Changes}
 use Rattle.oem_reach.specs.inside.Reached.{IsWalkedFrom, same_oid, is_listed, AreLeft}
-use Rattle.oem_reach.proofs.MemberLaws.{Contains-map, mapped}
 
 -- whether an object stands in the list
 pub listed-Decides : (oids : List Oid) (oid : Oid) → Decides (is_listed oids oid) (Contains oids oid)
@@ -42,22 +44,16 @@ comparisons_rise oids ascend x i j d le lt = elim (cases_lt i j) [
   | inr ge ↦ let same : i ≡ j = omega arith in omega (arith, ap (λ k. ordering_index (nat_cmp ((get_or oids k d).0) x.0)) same)
 ]
 
-equal_numbers : (a b : ℕ) → nat_cmp a b ≡ Equal → a ≡ b
-equal_numbers a b equal = grind (arith, nat_tests)
-
-cmp_self : (a : ℕ) → nat_cmp a a ≡ Equal
-cmp_self a = grind (arith, nat_tests)
-
 pub found_oid : (oids : List Oid) (oid : Oid) (place : ℕ) (d : Oid) → place < length oids → nat_cmp ((get_or oids place d).0) oid.0 ≡ Equal → Contains oids oid
 found_oid oids oid place d lt equal =
-    (place, lt, get_or_default oids place oid d lt ∙ (let same = equal_numbers ((get_or oids place d).0) oid.0 equal in λ i. record { 0 = same i }))
+    (place, lt, get_or_default oids place oid d lt ∙ (let same = same_from_cmp ((get_or oids place d).0) oid.0 equal in λ i. record { 0 = same i }))
 
 pub none_found : (oids : List Oid) → AllPairs (λ a b. a.0 < b.0) oids → (oid : Oid) (place : ℕ)
     → IsBinarySearchResult (λ o. nat_cmp o.0 oid.0) oids (Err place) → Contains oids oid → ⊥
 none_found oids ascend oid place gap at =
     let parts = gap (comparisons_rise oids ascend oid) in
     let k = at.0 in
-    let same : nat_cmp ((get_or oids k oid).0) oid.0 ≡ Equal = ap (λ (o : Oid). nat_cmp o.0 oid.0) at.2 ∙ cmp_self oid.0 in
+    let same : nat_cmp ((get_or oids k oid).0) oid.0 ≡ Equal = ap (λ (o : Oid). nat_cmp o.0 oid.0) at.2 ∙ tied_itself nat_cmp_total oid.0 in
     elim (cases_lt k place) [
       | inl before ↦ omega (arith, ap ordering_index (sym (parts.0 k oid (omega arith) before) ∙ same))
       | inr after ↦ omega (arith, ap ordering_index (sym (parts.1 k oid after at.1) ∙ same))
@@ -142,7 +138,7 @@ children_walked edges cut read seen starts close more start at none reads sees m
     elim (Contains-append_cases close (map (λ (edge : Edge). edge.child) out) oid (subst (λ (l : List Oid). Contains l oid) is there)) [
       | inl before ↦ walked oid before
       | inr child ↦
-          let found = mapped (λ (edge : Edge). edge.child) out oid child in
+          let found = Contains-from_map (λ (edge : Edge). edge.child) out oid child in
           let edge = found.0 in
           let leaves = unfiltered (λ (e : Edge). e.parent.0 == start.0) edges edge found.1 in
           let parent : edge.parent ≡ start = same_oid edge.parent start leaves.1 in
@@ -156,7 +152,7 @@ pub named_reached : (names then : List (List ℕ × Oid)) (changes : Changes) (b
     → (oid : Oid) → IsWalkedFrom between named oid ↔ IsReachedThen names changes between oid
 named_reached names then changes between named members is oid = (
   λ walked.
-      let entry = mapped (λ (e : List ℕ × Oid). e.1) then walked.0 (subst (λ (l : List Oid). Contains l walked.0) is walked.2) in
+      let entry = Contains-from_map (λ (e : List ℕ × Oid). e.1) then walked.0 (subst (λ (l : List Oid). Contains l walked.0) is walked.2) in
       record {
         name = (entry.0).0;
         start = walked.0;

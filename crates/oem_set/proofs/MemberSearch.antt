@@ -4,6 +4,8 @@ use Rattle.std.specs.Ordering.{nat_cmp, ordering_index}
 use Rattle.std.specs.List.Sorted.{IsBinarySearchResult, IsNonDecreasingBy}
 use Rattle.std.proofs.lemmas.Bool.{cases_lt}
 use Rattle.std.proofs.lemmas.Bool.Decides.{nat_tests}
+use Rattle.std.proofs.lemmas.Cmp.{tied_itself, nat_cmp_total}
+use Rattle.list_laws.proofs.OrderLaws.{less_from_cmp}
 use Rattle.lore_base.specs.TargetSets.{ListsInOrder}
 use Rattle.oem_set.specs.Types.{Oid}
 use Rattle.oem_set.specs.Sets.{IsSet}
@@ -14,12 +16,9 @@ same_oid a b h = let number : a.0 ≡ b.0 = grind (arith, nat_tests) in ap (λ n
 pub Decides-same_oid : (a b : Oid) → Decides (nat_eq a.0 b.0) (a ≡ b)
 Decides-same_oid a b = (same_oid a b, λ same. let number : a.0 ≡ b.0 = ap (λ (o : Oid). o.0) same in grind (arith, nat_tests))
 
-number_less : (a b : ℕ) → nat_cmp a b ≡ Less → a < b
-number_less a b less = grind (arith, nat_tests)
-
 -- what compares as less ascends
 pub IsSet-from_less : (oids : List Oid) → AllPairs (λ a b. nat_cmp a.0 b.0 ≡ Less) oids → IsSet oids
-IsSet-from_less oids less i j d before within = number_less (get_or oids i d).0 (get_or oids j d).0 (less i j d before within)
+IsSet-from_less oids less i j d before within = less_from_cmp (get_or oids i d).0 (get_or oids j d).0 (less i j d before within)
 
 -- sorted objects list what those that were sorted are
 pub lists-sorted : (P : Oid → Type 0) (given set : List Oid) → AllPairs (λ a b. nat_cmp a.0 b.0 ≡ Less) set
@@ -38,15 +37,12 @@ comparisons_rise oids ascend x i j d le lt = elim (cases_lt i j) [
   | inr ge ↦ let same : i ≡ j = omega arith in omega (arith, ap (λ k. ordering_index (nat_cmp (get_or oids k d).0 x.0)) same)
 ]
 
-cmp_self : (a : ℕ) → nat_cmp a a ≡ Equal
-cmp_self a = grind (arith, nat_tests)
-
 -- where a search ends at a gap the object does not stand there
 pub none_found : (oids : List Oid) → IsSet oids → (oid : Oid) (place : ℕ) → IsBinarySearchResult (λ e. nat_cmp e.0 oid.0) oids (Err place) → Contains oids oid → ⊥
 none_found oids ascend oid place gap at =
     let parts = gap (comparisons_rise oids ascend oid) in
     let k = at.0 in
-    let same : nat_cmp (get_or oids k oid).0 oid.0 ≡ Equal = ap (λ (e : Oid). nat_cmp e.0 oid.0) at.2 ∙ cmp_self oid.0 in
+    let same : nat_cmp (get_or oids k oid).0 oid.0 ≡ Equal = ap (λ (e : Oid). nat_cmp e.0 oid.0) at.2 ∙ tied_itself nat_cmp_total oid.0 in
     elim (cases_lt k place) [
       | inl before ↦ omega (arith, ap ordering_index (sym (parts.0 k oid (omega arith) before) ∙ same))
       | inr after ↦ omega (arith, ap ordering_index (sym (parts.1 k oid after at.1) ∙ same))

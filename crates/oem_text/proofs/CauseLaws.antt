@@ -1,29 +1,16 @@
 -- Why locals are refused, and that none is once each local has its place.
-use Rattle.std.proofs.Common.{Option, ◌≡◌, ℕ, List, [], ◌∷◌, map, All, Contains, refl, sym, ap, subst, ◌∙◌, inl, inr}
+use Rattle.std.proofs.Common.{Option, ◌≡◌, ℕ, [], map, All, Contains, refl, sym, ap, subst, ◌∙◌, inl, inr}
 use Rattle.std.proofs.lemmas.Option.{none-some}
 use Rattle.std.proofs.lemmas.List.Elements.{All-contains}
 use Rattle.lore_base.specs.Verdicts.{IsFirst, IsClear}
-use Rattle.lore_base.proofs.MemberLaws.{Contains-none, Contains-head, Contains-tail, Contains-cases, Contains-same}
+use Rattle.lore_base.proofs.MemberLaws.{Contains-head, Contains-tail, Contains-cases, Contains-same}
+use Rattle.list_laws.proofs.MemberLaws.{Contains-map, Contains-from_map}
 use Rattle.lorel_trees.specs.Trees.{LiteralTree, local, atom, node}
 use Rattle.oem_text.specs.Types.refusals
 use Rattle.oem_text.specs.Literals.{Arc, called, target, bodies, arcs_of, HasDouble, HasUndefined}
 use Rattle.oem_text.specs.Parts.{LocalCause, local_order}
 use Rattle.oem_text.specs.inside.Places.{AreDouble, ArePlaces, IsLost, IsFound}
 use Rattle.oem_text.proofs.PlaceLaws.{places_single}
-
-mapped : {X Y : Type 0} (f : X → Y) (xs : List X) (x : X) → Contains xs x → Contains (map f xs) (f x)
-mapped f [] x here = absurd (Contains-none x here)
-mapped f (first ∷ xs) x here = elim (Contains-cases first xs x here) [
-  | inl is ↦ Contains-same (f first ∷ map f xs) (f first) (f x) (ap f is) (Contains-head (f first) (map f xs))
-  | inr later ↦ Contains-tail (f first) (map f xs) (f x) (mapped f xs x later)
-]
-
-unmapped : {X Y : Type 0} (f : X → Y) (xs : List X) (y : Y) → Contains (map f xs) y → (x : X) × Contains xs x × (f x ≡ y)
-unmapped f [] y at = absurd (Contains-none y at)
-unmapped f (first ∷ xs) y at = elim (Contains-cases (f first) (map f xs) y at) [
-  | inl is ↦ (first, Contains-head first xs, is)
-  | inr later ↦ (let there = unmapped f xs y later in (there.0, Contains-tail first xs there.0 there.1, there.2))
-]
 
 double_of : (literal : LiteralTree) → AreDouble (bodies literal) → HasDouble literal
 double_of literal h = record { number = h.number; first = h.first; second = h.second; apart = h.apart; one = h.one; other = h.other }
@@ -63,7 +50,7 @@ told_undefined literal places number arc are at lost =
         record {
           number = number;
           used = Contains-tail (target 0 literal) targets (called number)
-              (Contains-same targets arc.target (called number) lost.leads (mapped (λ (a : Arc). a.target) (arcs_of literal) arc at));
+              (Contains-same targets arc.target (called number) lost.leads (Contains-map (λ (a : Arc). a.target) (arcs_of literal) arc at));
           unmarked = λ place h. none-some place (sym lost.nowhere ∙ are.known number place h);
         },
         refl,
@@ -84,7 +71,7 @@ clear_locals literal places other are found = (single_of literal places are, (de
     defined h = elim (Contains-cases (target 0 literal) (map (λ (a : Arc). a.target) (arcs_of literal)) (called h.number) h.used) [
       | inl is ↦ other h.number (whole literal h.number is)
       | inr later ↦ (
-          let arc = unmapped (λ (a : Arc). a.target) (arcs_of literal) (called h.number) later in
+          let arc = Contains-from_map (λ (a : Arc). a.target) (arcs_of literal) (called h.number) later in
           let there = (All-contains (IsFound places) (arcs_of literal) arc.0 found arc.1).place h.number arc.2 in
           h.unmarked there.0 (are.marked h.number there.0 there.1))
     ]

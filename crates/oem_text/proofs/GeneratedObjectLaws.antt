@@ -1,6 +1,7 @@
 -- Numbers in a row and what is made of them, with one number more; and objects numbered behind others.
 use Rattle.std.proofs.Common.{◌≡◌, ℕ, zero, suc, ◌+◌, ◌*◌, List, [], ◌∷◌, ◌++◌, length, map, replicate, flat_map, refl, sym, ap, ◌∙◌, arith, append_assoc, length-append}
 use Rattle.std.proofs.lemmas.List.{map_push, flat_map_more, replicate_more, length-replicate}
+use Rattle.oem_text.proofs.NumberedLaws.{numbered-append}
 use Rattle.oem_text.specs.Types.{Oid, Value, Complex}
 use Rattle.lore_base.specs.Walks.{oid_of}
 use Rattle.oem_text.specs.Literals.{numbered}
@@ -28,15 +29,6 @@ flat_longer f first count =
     ap (flat_map f) (numbers_more first count) ∙ sym (flat_map_more f [] (numbers_from first count) (first + count))
 
 -- ---- numbered values
-numbered-append : (next : ℕ) (xs ys : List Value) → numbered next (xs ++ ys) ≡ numbered next xs ++ numbered (next + length xs) ys
-numbered-append next [] ys =
-    let same : next ≡ next + 0 = omega arith in
-    ap (λ (n : ℕ). numbered n ys) same
-numbered-append next (x ∷ xs) ys =
-    let same : next + 1 + length xs ≡ next + suc (length xs) = omega arith in
-    ap (λ (l : List (Oid × Value)). (oid_of next, x) ∷ l)
-    (numbered-append (next + 1) xs ys ∙ ap (λ (n : ℕ). numbered (next + 1) xs ++ numbered n ys) same)
-
 -- objects behind others, and some more of them
 pub objects_longer : (old before after : List (Oid × Value)) (first at : ℕ) (values more : List Value)
     → before ≡ old ++ numbered first values → at ≡ first + length values → after ≡ before ++ numbered at more

@@ -1,21 +1,20 @@
 -- The generated layout is sound: its root and the parents of its edges are complex, its edges lead to places of objects,
 -- and its labels are those of a list. Then its objects and edges, once numbered, belong together.
-use Rattle.std.proofs.Common.{◌≡◌, inl, inr, ℕ, zero, suc, ◌+◌, ◌*◌, ◌/◌, ◌%◌, ◌<◌, ◌≤◌, ◌==◌, nat_le, Bool, true, false, true≢false, if◌then◌else◌, List, [], ◌∷◌, ◌++◌, length, map, get_or, Some, slice_get, All, Contains, refl, sym, ap, subst, ◌∙◌, arith}
+use Rattle.std.proofs.Common.{◌≡◌, ℕ, ◌+◌, ◌*◌, ◌/◌, ◌%◌, ◌<◌, ◌≤◌, ◌==◌, nat_le, true, false, if◌then◌else◌, List, [], ◌∷◌, ◌++◌, length, map, get_or, Some, slice_get, All, Contains, refl, subst, arith}
 use Rattle.std.specs.Prelude.{codes}
 use Rattle.std.specs.List.{flat_map}
-use Rattle.std.specs.Str.{bytes_eq}
 use Rattle.std.proofs.Math.Nat.{div-le_self}
-use Rattle.std.proofs.lemmas.List.Elements.{All-nil, All-cons, All-head, All-tail, All-append, All-map, All-weaker, All-contains, All-contains_itself, All-filter, All-from_recursion, recursion_from_All}
+use Rattle.std.proofs.lemmas.List.Elements.{All-nil, All-cons, All-append, All-map, All-weaker, All-contains, All-contains_itself, All-filter, All-from_recursion, recursion_from_All}
 use Rattle.std.proofs.lemmas.Nat.{mod_below}
-use Rattle.std.proofs.lemmas.Option.{none-some, same_Some, slice_get-get_or, slice_get_within}
-use Rattle.std.proofs.lemmas.Slice.Eq.{bytes_eq-Decides}
+use Rattle.std.proofs.lemmas.Option.{slice_get_within}
+use Rattle.std.proofs.lemmas.Bool.{cases_Bool}
 use Rattle.lore_base.specs.Names.{IsLabel}
 use Rattle.lore_base.specs.Walks.{oid_of}
 use Rattle.lore_base.specs.Databases.{IsLive, IsSized, IsLinked}
-use Rattle.lore_base.proofs.MemberLaws.{Contains-none, Contains-head, Contains-tail, Contains-cases}
+use Rattle.oem_labels.proofs.PlaceLaws.{place_in-below}
+use Rattle.oem_text.proofs.NumberedLaws.{numbered_at, numbered_live, numbered_sized}
 use Rattle.oem_labels.specs.Labels.{place_in}
-use Rattle.oem_labels.proofs.LabelLaws.{either}
-use Rattle.oem_text.specs.Types.{Oid, Edge, Value, Complex}
+use Rattle.oem_text.specs.Types.{Edge, Value, Complex}
 use Rattle.oem_text.specs.Literals.{numbered}
 use Rattle.oem_text.specs.Layouts.{PlacedArc, LaidOut, edge_from, edges_from}
 use Rattle.oem_text.specs.Generated.{numbers_from, generated_values, person_place, club_place, link_place, joined, boss_arcs, person_arc, arcs_of_person, club_arc, members_of, member_arc, leader_arc, arcs_of_club, ring_arc, next_arc, generated_arcs, generated_labels, generated_layout}
@@ -176,47 +175,6 @@ pub record IsSoundPart (table : List (List ℕ)) (next : ℕ) (laid : LaidOut) :
   pub labelled : All (λ edge. edge.label.0 < length table) (edges_from next table laid)
   pub root : IsLive (numbered next laid.values) (oid_of next)
   pub sized : All (λ object. IsSized object.1) (numbered next laid.values)
-
--- the object at a place
-pub numbered_at : (next : ℕ) (values : List Value) (place : ℕ) (value : Value) → slice_get values place ≡ Some value
-    → Contains (numbered next values) (oid_of (next + place), value)
-numbered_at next [] place value at = absurd (none-some value at)
-numbered_at next (first ∷ values) zero value at =
-    let objects = numbered next (first ∷ values) in
-    let same : next ≡ next + 0 = omega arith in
-    subst (λ n. Contains objects (oid_of n, value)) same
-    (subst (λ (v : Value). Contains objects (oid_of next, v)) (same_Some first value at) (Contains-head (oid_of next, first) (numbered (next + 1) values)))
-numbered_at next (first ∷ values) (suc place) value at =
-    let same : (next + 1) + place ≡ next + suc place = omega arith in
-    subst (λ n. Contains (numbered next (first ∷ values)) (oid_of n, value)) same
-    (Contains-tail (oid_of next, first) (numbered (next + 1) values) (oid_of ((next + 1) + place), value) (numbered_at (next + 1) values place value at))
-
-pub numbered_live : (next : ℕ) (values : List Value) (place : ℕ) → place < length values → IsLive (numbered next values) (oid_of (next + place))
-numbered_live next values place low =
-    let value = get_or values place Complex in
-    (value, numbered_at next values place value (slice_get-get_or values place Complex low))
-
-pub numbered_sized : (next : ℕ) (values : List Value) → All IsSized values → All (λ object. IsSized object.1) (numbered next values)
-numbered_sized next [] sized = All-nil (λ (object : Oid × Value). IsSized object.1)
-numbered_sized next (value ∷ values) sized =
-    All-cons (λ (object : Oid × Value). IsSized object.1) (oid_of next, value) (numbered (next + 1) values)
-    (All-head IsSized value values sized) (numbered_sized (next + 1) values (All-tail IsSized value values sized))
-
--- the place of a text that stands in the table
-pub place_in-below : (table : List (List ℕ)) (text : List ℕ) → Contains table text → place_in table text < length table
-place_in-below [] text at = absurd (Contains-none text at)
-place_in-below (first ∷ table) text at =
-    elim (either (bytes_eq first text)) [
-      | inl is ↦ (
-          let here : place_in (first ∷ table) text ≡ 0 = ap (λ (b : Bool). if b then 0 else (1 + place_in table text)) is in
-          omega (arith, here))
-      | inr apart ↦ (
-          let behind : place_in (first ∷ table) text ≡ 1 + place_in table text = ap (λ (b : Bool). if b then 0 else (1 + place_in table text)) apart in
-          elim (Contains-cases first table text at) [
-            | inl same ↦ absurd (true≢false (sym ((bytes_eq-Decides first text).1 same) ∙ apart))
-            | inr later ↦ (let low = place_in-below table text later in omega (arith, behind, low))
-          ])
-    ]
 
 pub numbered_linked : (next : ℕ) (table : List (List ℕ)) (laid : LaidOut) → All (Contains table) generated_labels → IsSoundLayout laid
     → IsSoundPart table next laid

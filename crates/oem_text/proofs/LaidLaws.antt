@@ -2,6 +2,7 @@
 use Rattle.std.proofs.Common.{Option, ◌≡◌, ℕ, ◌+◌, ◌<◌, ◌≤◌, List, [], ◌∷◌, ◌++◌, length, map, take, drop, get_or, All, Contains, sym, ap, subst, ◌∙◌, arith, append_assoc, append-nil, length-append}
 use Rattle.std.proofs.lemmas.List.{length-map, drop_more, take_more, take_all, get_or-map, map_push, map-append, take-append-drop}
 use Rattle.std.proofs.lemmas.List.Elements.{All-get_or}
+use Rattle.list_laws.proofs.PartLaws.{map-map}
 use denote.Ref.{Bor}
 use Rattle.oem_text.specs.Types.{Oid, Label, Edge, Value, LABELS}
 use Rattle.lore_base.specs.Walks.{oid_of, edge_of}
@@ -14,7 +15,6 @@ use Rattle.oem_text.specs.Layouts.{PlacedArc, LaidOut, IsBelow, IsJoined, layout
 use Rattle.oem_text.specs.inside.Views.{body_of, bodies_of, link_arcs, placed_of, laid_out}
 use Rattle.oem_text.specs.inside.Places.{ArePlaces, IsFound}
 use Rattle.oem_text.proofs.BoundLaws.{joined, some_body}
-use Rattle.oem_text.proofs.LayoutLaws.{map-map}
 use Rattle.oem_text.proofs.NumberLaws.{label_in-append, table-with, with_texts-append, has_text, count-then, count-front}
 
 -- ---- all locals have places
@@ -46,7 +46,7 @@ pub value_here : (literals : List (Bor Literal)) (values : List Value) (i : ℕ)
     → literal ≡ get_or literals i literal → drop i values ≡ (body_of (literal_tree literal.now)).value ∷ drop (i + 1) values
 value_here literals values i literal is low here =
     let value : Bor Literal → Value = λ (l : Bor Literal). (body_of (literal_tree l.now)).value in
-    let all : map value literals ≡ values = sym (map-map (λ (body : Body). body.value) (λ (l : Bor Literal). body_of (literal_tree l.now)) literals) ∙ is in
+    let all : map value literals ≡ values = sym (map-map (λ (l : Bor Literal). body_of (literal_tree l.now)) (λ (body : Body). body.value) literals) ∙ is in
     let size = length-map literals value in
     let read : get_or (map value literals) i (value literal) ≡ value literal = get_or-map value literals i literal (value literal) low ∙ ap value (sym here) in
     ap (drop i) (sym all) ∙ drop_more (map value literals) i (value literal) (omega (arith, size, low))

@@ -12,3 +12,4 @@ pub mod GeneratedObjectLaws
 pub mod GeneratedClubs
 pub mod GeneratedEdgeLaws
 pub mod GeneratedPartLaws
+pub mod NumberedLaws

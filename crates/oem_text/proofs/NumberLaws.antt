@@ -1,20 +1,18 @@
 -- The labels of texts in a table, and the texts that come to it one after another.
-use Rattle.std.proofs.Common.{◌≡◌, ◌≢◌, ℕ, zero, suc, ◌+◌, ◌≤◌, Bool, true≢false, if◌then◌else◌, List, [], ◌∷◌, ◌++◌, length, Some, slice_get, Contains, AllPairs, refl, sym, ap, subst, ◌∙◌, inl, inr, arith, append_assoc, append-nil, length-append}
-use Rattle.std.proofs.lemmas.Option.{none-some, slice_get-get_or, same_Some, slice_get_within, get_or_from_slice_get}
+use Rattle.std.proofs.Common.{◌≡◌, ◌≢◌, ℕ, suc, ◌+◌, ◌≤◌, Bool, true≢false, if◌then◌else◌, List, [], ◌∷◌, ◌++◌, length, Some, slice_get, Contains, AllPairs, refl, sym, ap, subst, ◌∙◌, inl, inr, arith, append_assoc, append-nil, length-append}
 use Rattle.std.proofs.lemmas.Slice.Eq.{bytes_eq-Decides}
 use Rattle.std.proofs.lemmas.List.Elements.{All-contains, Contains-append_cases}
 use Rattle.std.specs.Str.{bytes_eq}
-use Rattle.lore_base.proofs.ListLaws.{AllPairs-head, AllPairs-tail}
+use Rattle.std.proofs.lemmas.Bool.{cases_Bool}
 use Rattle.lore_base.proofs.MemberLaws.{Contains-none, Contains-head, Contains-cases}
+use Rattle.list_laws.proofs.PlaceLaws.{Contains-from_place, place_of_member}
+use Rattle.oem_labels.proofs.PlaceLaws.{label_in-at}
 use Rattle.oem_text.specs.Types.{Label, LABELS}
 use Rattle.oem_labels.specs.Labels.{first_uses, place_in, label_in}
-use Rattle.oem_labels.proofs.LabelLaws.{either, is_known, first_uses-known, first_uses-new, first_uses-append, first_uses_cover, first_uses_distinct}
+use Rattle.oem_labels.proofs.LabelLaws.{is_known, first_uses-known, first_uses-new, first_uses-append, first_uses_cover, first_uses_distinct}
 use Rattle.oem_labels.proofs.TextSetLaws.{no_text}
 use Rattle.oem_text.specs.Layouts.{NumberedTexts, table_of, with_texts, count_with}
 use Rattle.oem_text.specs.inside.Views.{numbered_texts, AreNumbered}
-
-Contains-at : {X : Type 0} (xs : List X) (i : ℕ) (x : X) → slice_get xs i ≡ Some x → Contains xs x
-Contains-at xs i x h = (i, slice_get_within xs i x h, get_or_from_slice_get xs i x x h)
 
 -- ---- the place of a text
 place_first : (text other : List ℕ) (texts : List (List ℕ)) → other ≡ text → place_in (other ∷ texts) text ≡ 0
@@ -22,25 +20,16 @@ place_first text other texts is = ap (λ (b : Bool). if b then 0 else (1 + place
 
 place_later : (text other : List ℕ) (texts : List (List ℕ)) → other ≢ text → place_in (other ∷ texts) text ≡ 1 + place_in texts text
 place_later text other texts apart =
-    elim (either (bytes_eq other text)) [
+    elim (cases_Bool (bytes_eq other text)) [
       | inl e ↦ absurd (apart ((bytes_eq-Decides other text).0 e))
       | inr e ↦ ap (λ (b : Bool). if b then 0 else (1 + place_in texts text)) e
     ]
-
--- it is the only one where the text stands
-pub place_in-at : (texts : List (List ℕ)) (i : ℕ) (text : List ℕ) → AllPairs (λ a b. a ≢ b) texts → slice_get texts i ≡ Some text → place_in texts text ≡ i
-place_in-at [] i text distinct h = absurd (none-some text h)
-place_in-at (other ∷ texts) zero text distinct h = place_first text other texts (same_Some other text h)
-place_in-at (other ∷ texts) (suc i) text distinct h =
-    let apart = AllPairs-head (λ (a b : List ℕ). a ≢ b) other texts distinct text (Contains-at texts i text h) in
-    let rest = place_in-at texts i text (AllPairs-tail (λ (a b : List ℕ). a ≢ b) other texts distinct) h in
-    place_later text other texts apart ∙ omega (arith, rest)
 
 -- and stays where texts come behind it
 pub place_in-append : (texts others : List (List ℕ)) (text : List ℕ) → Contains texts text → place_in (texts ++ others) text ≡ place_in texts text
 place_in-append [] others text h = absurd (Contains-none text h)
 place_in-append (other ∷ texts) others text h =
-    elim (either (bytes_eq other text)) [
+    elim (cases_Bool (bytes_eq other text)) [
       | inl e ↦ (let is = (bytes_eq-Decides other text).0 e in place_first text other (texts ++ others) is ∙ sym (place_first text other texts is))
       | inr e ↦ (
           let apart : other ≢ text = λ is. true≢false (sym ((bytes_eq-Decides other text).1 is) ∙ e) in
@@ -53,9 +42,6 @@ place_in-append (other ∷ texts) others text h =
 
 pub label_in-append : (texts others : List (List ℕ)) (text : List ℕ) → Contains texts text → label_in (texts ++ others) text ≡ label_in texts text
 label_in-append texts others text h = ap (λ (n : ℕ). let label : Label = record { 0 = n } in label) (place_in-append texts others text h)
-
-pub label_in-at : (texts : List (List ℕ)) (label : Label) (text : List ℕ) → AllPairs (λ a b. a ≢ b) texts → slice_get texts label.0 ≡ Some text → label ≡ label_in texts text
-label_in-at texts label text distinct h = ap (λ (n : ℕ). let made : Label = record { 0 = n } in made) (sym (place_in-at texts label.0 text distinct h))
 
 -- ---- texts that come
 pub table-with : (numbers : NumberedTexts) (texts : List (List ℕ)) → table_of (with_texts numbers texts) ≡ table_of numbers ++ first_uses (table_of numbers) texts
@@ -97,9 +83,6 @@ count-front numbers xs ys =
     omega (arith, whole)
 
 -- ---- one text
-place_from : {X : Type 0} (xs : List X) (x : X) → Contains xs x → (i : ℕ) × (slice_get xs i ≡ Some x)
-place_from {X} xs x h = (h.0, slice_get-get_or xs h.0 x h.1 ∙ ap (λ (y : X). Some y) h.2)
-
 slice_get-right : {X : Type 0} (xs ys : List X) (i : ℕ) (x : X) → slice_get ys i ≡ Some x → slice_get (xs ++ ys) (length xs + i) ≡ Some x
 slice_get-right {X} [] ys i x h = let same : 0 + i ≡ i = omega arith in ap (λ n. slice_get ys n) same ∙ h
 slice_get-right {X} (y ∷ xs) ys i x h =
@@ -110,9 +93,9 @@ slice_get-right {X} (y ∷ xs) ys i x h =
 pub absent : (known come : List (List ℕ)) (text : List ℕ) → ((label : Label) → slice_get known label.0 ≢ Some text) → ((label : Label) → slice_get come label.0 ≢ Some text)
     → (place : ℕ) → slice_get (known ++ come) place ≢ Some text
 absent known come text not_known not_come place h =
-    elim (Contains-append_cases known come text (Contains-at (known ++ come) place text h)) [
-      | inl left ↦ (let there = place_from known text left in not_known (record { 0 = there.0 }) there.1)
-      | inr right ↦ (let there = place_from come text right in not_come (record { 0 = there.0 }) there.1)
+    elim (Contains-append_cases known come text (Contains-from_place (known ++ come) place text h)) [
+      | inl left ↦ (let there = place_of_member known text left in not_known (record { 0 = there.0 }) there.1)
+      | inr right ↦ (let there = place_of_member come text right in not_come (record { 0 = there.0 }) there.1)
     ]
 
 pub absent_right : (known come : List (List ℕ)) (text : List ℕ) → ((place : ℕ) → slice_get (known ++ come) place ≢ Some text) → (label : Label) → slice_get come label.0 ≢ Some text
@@ -121,7 +104,7 @@ absent_right known come text nowhere label h = nowhere (length known + label.0) 
 -- a text that has a label brings nothing
 pub brings_none : (numbers : NumberedTexts) (place : ℕ) (text : List ℕ) → slice_get (table_of numbers) place ≡ Some text → first_uses (table_of numbers) (text ∷ []) ≡ []
 brings_none numbers place text there =
-    first_uses-known (table_of numbers) text [] (is_known (table_of numbers) text (Contains-at (table_of numbers) place text there))
+    first_uses-known (table_of numbers) text [] (is_known (table_of numbers) text (Contains-from_place (table_of numbers) place text there))
 
 pub with_known : (numbers : NumberedTexts) (place : ℕ) (text : List ℕ) → slice_get (table_of numbers) place ≡ Some text → numbers ≡ with_texts numbers (text ∷ [])
 with_known numbers place text there =

@@ -1,34 +1,21 @@
 -- Where the objects are that locals mark, as more of their places are known.
-use Rattle.std.proofs.Common.{◌≡◌, ◌⊎◌, ℕ, zero, suc, ◌+◌, ◌==◌, cond, Bool, true, false, true≢false, if◌then◌else◌, Option, List, [], ◌∷◌, ◌++◌, length, Some, None, slice_get, refl, sym, ap, subst, ◌∙◌, inl, inr, arith}
+use Rattle.std.proofs.Common.{◌≡◌, ◌⊎◌, ℕ, zero, suc, ◌+◌, ◌==◌, cond, Bool, true, false, true≢false, if◌then◌else◌, Option, List, [], ◌∷◌, ◌++◌, length, Some, None, refl, sym, ap, subst, ◌∙◌, inl, inr, arith}
 use Rattle.std.proofs.lemmas.Option.{none-some, same_Some, slice_get_within}
 use Rattle.std.proofs.lemmas.Bool.Decides.{eqb_tells, nat_tests}
-use Rattle.oem_labels.proofs.LabelLaws.{either}
+use Rattle.std.proofs.lemmas.Bool.{cases_Bool}
+use Rattle.list_laws.proofs.PlaceLaws.{slice_get-push_cases, slice_get-append_left, slice_get-push}
+use Rattle.list_laws.proofs.OrderLaws.{eqb_itself}
 use Rattle.oem_text.specs.Literals.{Body, IsMarkedAt, is_mark, marked_place}
 use Rattle.oem_text.specs.Layouts.{PlacedArc, placed_arc}
 use Rattle.oem_text.specs.inside.Views.{target_of}
 use Rattle.oem_text.specs.inside.Places.{AreDouble, ArePlaces}
 
 -- ---- one object more
-slice_get-push_cases : {X : Type 0} (xs : List X) (y : X) (i : ℕ) (z : X) → slice_get (xs ++ y ∷ []) i ≡ Some z → (slice_get xs i ≡ Some z) ⊎ ((i ≡ length xs) × (y ≡ z))
-slice_get-push_cases [] y zero z h = inr (refl, same_Some y z h)
-slice_get-push_cases [] y (suc i) z h = absurd (none-some z h)
-slice_get-push_cases (x ∷ xs) y zero z h = inl h
-slice_get-push_cases (x ∷ xs) y (suc i) z h = elim (slice_get-push_cases xs y i z h) [ inl left ↦ inl left | inr last ↦ inr (ap (λ n. suc n) last.0, last.1) ]
-
-slice_get-left : {X : Type 0} (xs ys : List X) (i : ℕ) (x : X) → slice_get xs i ≡ Some x → slice_get (xs ++ ys) i ≡ Some x
-slice_get-left [] ys i x h = absurd (none-some x h)
-slice_get-left (y ∷ xs) ys zero x h = h
-slice_get-left (y ∷ xs) ys (suc i) x h = slice_get-left xs ys i x h
-
-slice_get-last : {X : Type 0} (xs : List X) (y : X) → slice_get (xs ++ y ∷ []) (length xs) ≡ Some y
-slice_get-last [] y = refl
-slice_get-last (x ∷ xs) y = slice_get-last xs y
-
 pub marked_left : (xs ys : List Body) (number place : ℕ) → IsMarkedAt xs number place → IsMarkedAt (xs ++ ys) number place
-marked_left xs ys number place h = record { body = h.body; at = slice_get-left xs ys place h.body h.at; marked = h.marked }
+marked_left xs ys number place h = record { body = h.body; at = slice_get-append_left xs ys place h.body h.at; marked = h.marked }
 
 pub marked_last : (xs : List Body) (b : Body) (number : ℕ) → b.mark ≡ Some number → IsMarkedAt (xs ++ b ∷ []) number (length xs)
-marked_last xs b number h = record { body = b; at = slice_get-last xs b; marked = h }
+marked_last xs b number h = record { body = b; at = slice_get-push xs b; marked = h }
 
 pub marked_cases : (xs : List Body) (b : Body) (number place : ℕ) → IsMarkedAt (xs ++ b ∷ []) number place → IsMarkedAt xs number place ⊎ ((place ≡ length xs) × (b.mark ≡ Some number))
 marked_cases xs b number place h =
@@ -38,9 +25,6 @@ marked_cases xs b number place h =
     ]
 
 -- ---- the place of each local
-same_number : (number : ℕ) → (number == number) ≡ true
-same_number number = grind (arith, nat_tests)
-
 -- an object that no local marks
 pub places_same : (xs : List Body) (b : Body) (places : ℕ → Option ℕ) → b.mark ≡ None → ArePlaces xs places → ArePlaces (xs ++ b ∷ []) places
 places_same xs b places none are = record {
@@ -72,7 +56,7 @@ places_more xs b number place old new marked is_last unknown updates are = recor
         ])
     | inr last ↦ (
         let same : number ≡ other = same_Some number other (sym marked ∙ last.1) in
-        sym (ap new same) ∙ put number (same_number number) ∙ ap (λ (p : ℕ). Some p) (is_last ∙ sym last.0))
+        sym (ap new same) ∙ put number (eqb_itself number) ∙ ap (λ (p : ℕ). Some p) (is_last ∙ sym last.0))
   ];
 }
   where
@@ -122,7 +106,7 @@ is_mark-true None number h = absurd (true≢false (sym h))
 is_mark-true (Some own) number h = let same : own ≡ number = grind (arith, nat_tests) in ap (λ (n : ℕ). Some n) same
 
 is_mark-same : (mark : Option ℕ) (number : ℕ) → mark ≡ Some number → is_mark number mark ≡ true
-is_mark-same mark number h = ap (is_mark number) h ∙ same_number number
+is_mark-same mark number h = ap (is_mark number) h ∙ eqb_itself number
 
 first_here : (b : Body) (xs : List Body) (number : ℕ) → b.mark ≡ Some number → IsMarkedAt (b ∷ xs) number (marked_place (b ∷ xs) number)
 first_here b xs number h =
@@ -135,7 +119,7 @@ first_marked (b ∷ xs) number zero h =
     let is = same_Some b h.body h.at in
     first_here b xs number (ap (λ (x : Body). x.mark) is ∙ h.marked)
 first_marked (b ∷ xs) number (suc place) h =
-    elim (either (is_mark number b.mark)) [
+    elim (cases_Bool (is_mark number b.mark)) [
       | inl e ↦ first_here b xs number (is_mark-true b.mark number e)
       | inr e ↦ (
           let rest = first_marked xs number place (record { body = h.body; at = h.at; marked = h.marked }) in

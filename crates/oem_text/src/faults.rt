@@ -34,7 +34,7 @@ pub enum TextFault {
     /// The number of a new object would pass the greatest one.
     #[error("the numbers of objects are spent")]
     OidsSpent,
-    /// There would be more than 4,096 labels.
+    /// There would be more labels than `LABELS`.
     #[error("too many labels")]
     TooManyLabels,
     /// Memory was refused.

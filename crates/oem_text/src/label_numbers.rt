@@ -11,7 +11,7 @@ use std::alloc::Global;
 use std::marker::Model;
 
 /// The labels of a table, and behind them those that are to come with a change. Together they are
-/// at most 4,096.
+/// at most `LABELS`.
 #[derive(Drop)]
 pub struct LabelNumbers<'a> {
     known: &'a LabelTable,
@@ -30,7 +30,7 @@ impl<'a> Model for LabelNumbers<'a> {
 }
 
 impl<'a> LabelNumbers<'a> {
-    /// The labels of the table alone; None exactly where it has more than 4,096. Takes no memory.
+    /// The labels of the table alone; None exactly where it has more than `LABELS`. Takes no memory.
     pub fn new(alloc: Global, known: &'a LabelTable) -> Option<LabelNumbers<'a>>
         ensures some { IfSome result (λ numbers. numbers ≡ record { known = known.now; come = [] }) }
         ensures few { IfSome result (λ _. length known.now ≤ THE_LABELS) }
@@ -54,7 +54,7 @@ impl<'a> LabelNumbers<'a> {
     }
 
     /// The label of the text, which is the next new one where no label has it; None exactly where
-    /// there would be more than 4,096 then. The label with the likely number is looked at first.
+    /// there would be more than `LABELS` then. The label with the likely number is looked at first.
     pub fn number(&mut self, text: &OemText, likely: usize) -> Result<Option<Label>, NoMemory>
         ensures label { IfOk result (λ found. IfSome found (λ label.
             label ≡ label_in (table_of self.new) text.now)) }

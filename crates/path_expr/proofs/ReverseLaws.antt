@@ -1,10 +1,11 @@
 -- A machine that reads backwards accepts the words of the other one read backwards.
-use Rattle.std.proofs.Common.{◌≡◌, ◌↔◌, ℕ, zero, suc, ◌+◌, ◌<◌, ◌≤◌, ◌⊎◌, inl, inr, List, [], ◌∷◌, ◌++◌, length, reverse, get_or, All, Some, refl, sym, ap, ◌∙◌, subst, arith}
+use Rattle.std.proofs.Common.{◌≡◌, ◌↔◌, ℕ, ◌+◌, ◌<◌, ◌≤◌, inl, inr, List, [], ◌∷◌, ◌++◌, length, reverse, get_or, All, Some, refl, sym, ap, ◌∙◌, subst, arith}
 use Rattle.std.specs.List.{slice_get}
 use Rattle.std.proofs.lemmas.List.{reverse-reverse, append_assoc, append-nil, length-append}
 use Rattle.std.proofs.lemmas.Grind.{reverse_onto}
 use Rattle.std.proofs.lemmas.Option.{slice_get_within, slice_get-get_or}
 use Rattle.std.proofs.lemmas.List.Elements.{All-push}
+use Rattle.list_laws.proofs.PlaceLaws.{slice_get-push_cases}
 use Rattle.path_expr.specs.Types.{Label, States, Leaf}
 use Rattle.path_expr.specs.Machines.{Machine, IsIn, Reads, Follows, Runs, Accepts, UpToEnd}
 use Rattle.path_expr.specs.inside.Reverses.{Precedes, Reverses}
@@ -24,18 +25,11 @@ pub record BeforeSoFar (machine : Machine) (follow : List States) (count : ℕ) 
   pub each : (state : ℕ) (states : States) → slice_get follow state ≡ Some states → IsSet states (λ next. Precedes machine next state)
   pub within : All UpToEnd follow
 
-slice_get_cases : {X : Type 0} (xs : List X) (y x : X) (i : ℕ) → slice_get (xs ++ y ∷ []) i ≡ Some x
-    → (slice_get xs i ≡ Some x) ⊎ ((i ≡ length xs) × (y ≡ x))
-slice_get_cases [] y x zero is = inr (refl, cc)
-slice_get_cases [] y x (suc i) is = absurd (cc)
-slice_get_cases (z ∷ xs) y x zero is = inl is
-slice_get_cases (z ∷ xs) y x (suc i) is = elim (slice_get_cases xs y x i is) [ inl old ↦ inl old | inr new ↦ inr (ap suc new.0, new.1) ]
-
 pub before_more : (machine : Machine) (follow : List States) (count : ℕ) (next : States) → BeforeSoFar machine follow count
     → IsSet next (λ other. Precedes machine other count) → UpToEnd next → BeforeSoFar machine (follow ++ next ∷ []) (count + 1)
 before_more machine follow count next so_far is within = record {
   counted = omega (arith, so_far.counted, length-append follow (next ∷ []));
-  each = λ state states here. elim (slice_get_cases follow next states state here) [
+  each = λ state states here. elim (slice_get-push_cases follow next state states here) [
     | inl old ↦ so_far.each state states old
     | inr new ↦
         let place : count ≡ state = omega (arith, so_far.counted, new.0) in

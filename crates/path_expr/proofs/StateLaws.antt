@@ -9,6 +9,7 @@ use Rattle.std.proofs.lemmas.Grind.{one_shifted}
 use Rattle.path_expr.specs.Types.{States}
 use Rattle.path_expr.specs.Machines.{IsIn}
 use Rattle.std.proofs.lemmas.Bool.Decides.{nat_tests}
+use Rattle.std.proofs.lemmas.Bool.{cases_lt}
 
 max_one : (x y : ℕ) → x < 2 → y < 2 → (max x y ≡ 1) ↔ ((x ≡ 1) ⊎ (y ≡ 1))
 max_one zero y p q = (λ h. inr (omega arith), λ h. elim h [ inl a ↦ omega arith | inr b ↦ omega arith ])
@@ -39,11 +40,6 @@ same_or_not zero (suc k) = inr (λ e. omega arith)
 same_or_not (suc i) zero = inr (λ e. omega arith)
 same_or_not (suc i) (suc k) = elim (same_or_not i k) [ inl same ↦ inl (ap suc same) | inr other ↦ inr (λ e. other (omega arith)) ]
 
-below_or_not : (i k : ℕ) → (i < k) ⊎ (k ≤ i)
-below_or_not i zero = inr (omega arith)
-below_or_not zero (suc k) = inl (omega arith)
-below_or_not (suc i) (suc k) = elim (below_or_not i k) [ inl below ↦ inl (omega arith) | inr above ↦ inr (omega arith) ]
-
 -- one state alone
 pub bit_of_one : (k i : ℕ) → k < 128 → (bit_at (1 * 2 ^ k % 2 ^ 128) i ≡ 1) ↔ (i ≡ k)
 bit_of_one k i within = rw ((one_shifted k (2 ^ 128 - 1) refl within).0) (
@@ -63,7 +59,7 @@ none_from n from empty i behind has =
     omega arith
 
 below_width : (n place : ℕ) → n < 2 ^ 128 → bit_at n place ≡ 1 → place < 128
-below_width n place small has = elim (below_or_not place 128) [
+below_width n place small has = elim (cases_lt place 128) [
   | inl below ↦ below
   | inr above ↦ absurd (omega (arith, bit_at_above n 128 place small above))
 ]
@@ -109,7 +105,7 @@ so_far_more First Passes before after count is so_far same joined = λ s. (
   ],
   λ h. elim h [
     | inl first ↦ (joined s).1 (inl ((so_far s).1 (inl first)))
-    | inr passed ↦ elim (below_or_not s count) [
+    | inr passed ↦ elim (cases_lt s count) [
       | inl below ↦ (joined s).1 (inl ((so_far s).1 (inr (below, passed.1))))
       | inr above ↦
           let here : s ≡ count = omega (arith, passed.0) in
@@ -131,9 +127,9 @@ leads_more Leads states before here after from state so_far behind has none lead
     | inl old ↦ let led = (so_far t).0 old in (led.0, omega (arith, led.1), led.2, led.3)
     | inr new ↦ (state, omega arith, has, (leads t).0 new)
   ],
-  λ h. elim (below_or_not h.0 from) [
+  λ h. elim (cases_lt h.0 from) [
     | inl below ↦ (joined t).1 (inl ((so_far t).1 (h.0, below, h.2, h.3)))
-    | inr above ↦ elim (below_or_not h.0 state) [
+    | inr above ↦ elim (cases_lt h.0 state) [
       | inl between ↦ absurd (none h.0 above between h.2)
       | inr later ↦
           let same : h.0 ≡ state = omega (arith, h.1) in
@@ -147,7 +143,7 @@ pub leads_all : (Leads : ℕ → ℕ → Type 0) (states after : States) (from :
     → ((s : ℕ) → from ≤ s → IsIn states s → ⊥) → (t : ℕ) → IsIn after t ↔ ((s : ℕ) × IsIn states s × Leads s t)
 leads_all Leads states after from so_far none t = (
   λ h. let led = (so_far t).0 h in (led.0, led.2, led.3),
-  λ h. elim (below_or_not h.0 from) [
+  λ h. elim (cases_lt h.0 from) [
     | inl below ↦ (so_far t).1 (h.0, below, h.1, h.2)
     | inr above ↦ absurd (none h.0 above h.1)
   ],

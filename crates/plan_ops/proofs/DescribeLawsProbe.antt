@@ -1,15 +1,14 @@
 -- The comparison that a bottom plan begins with: it starts at a range, and where the condition holds it finds an object.
-use Rattle.std.proofs.Common.{◌≡◌, ◌≢◌, ◌↔◌, inl, inr, ℕ, ◌<◌, List, [], ◌∷◌, ◌++◌, length, Option, Some, None, AllPairs, All, Contains, subst, sym, ap, ◌∙◌, arith}
+use Rattle.std.proofs.Common.{◌≡◌, ◌≢◌, ◌↔◌, inl, inr, ℕ, ◌<◌, List, [], ◌∷◌, ◌++◌, length, Option, Some, None, AllPairs, All, Contains, subst, sym, ap, ◌∙◌}
 use Rattle.std.specs.List.{slice_get}
 use Rattle.std.proofs.lemmas.List.{append_assoc}
 use Rattle.std.proofs.lemmas.List.Elements.{All-contains, Contains-append_left, Contains-append_right}
-use Rattle.std.proofs.lemmas.Option.{slice_get_within, get_or_from_slice_get}
-use Rattle.std.proofs.lemmas.Bool.{cases_lt}
 use Rattle.lore_base.specs.Walks.{Walk, edge_of}
 use Rattle.lore_base.specs.Paths.{PathTree, step, seq, trees_of, SpellInTurn, Reaches}
 use Rattle.lore_base.specs.Comparisons.{Compares}
 use Rattle.lore_base.proofs.MemberLaws.{Contains-head}
 use Rattle.lore_base.proofs.WalkLaws.{Walk-within, Walk-split}
+use Rattle.list_laws.proofs.PlaceLaws.{one_place}
 use Rattle.index_traits.specs.Entries.{AreValueEntries, entry_of, IsProbed}
 use Rattle.lore_base.specs.declared.values.Value.TheVariants.{Whole, Chars, Flag, Complex}
 use Rattle.lore_base.specs.declared.operators.Op.TheVariants.{Like}
@@ -108,24 +107,11 @@ last_edge labels edges parts text start oid reached =
     (last.1, walks.0, last.3, enters)
 
 -- ---- a text has one label
-one_place : (texts : List (List ℕ)) → AllPairs (λ a b. a ≢ b) texts → (i j : ℕ) (text : List ℕ) → i < j
-    → slice_get texts i ≡ Some text → slice_get texts j ≡ Some text → ⊥
-one_place texts apart i j text less first second =
-    let within = slice_get_within texts j text second in
-    apart i j text less within (get_or_from_slice_get texts i text text first ∙ sym (get_or_from_slice_get texts j text text second))
-
 one_label : (texts : List (List ℕ)) → AllPairs (λ a b. a ≢ b) texts → (a b : Label) (text : List ℕ)
     → slice_get texts a.0 ≡ Some text → slice_get texts b.0 ≡ Some text → a ≡ b
-one_label texts apart a b text first second = elim (cases_lt a.0 b.0) [
-  | inl low ↦ absurd (one_place texts apart a.0 b.0 text low first second)
-  | inr high ↦ elim (cases_lt b.0 a.0) [
-    | inl low ↦ absurd (one_place texts apart b.0 a.0 text low second first)
-    | inr equal ↦
-        let label_of : ℕ → Label = λ n. record { 0 = n } in
-        let number : a.0 ≡ b.0 = omega arith in
-        ap label_of number
-  ]
-]
+one_label texts apart a b text first second =
+    let label_of : ℕ → Label = λ n. record { 0 = n } in
+    ap label_of (one_place texts apart a.0 b.0 text first second)
 
 -- ---- what the comparison finds
 -- a complex value compares only by the operator for patterns

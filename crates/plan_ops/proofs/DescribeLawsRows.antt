@@ -3,6 +3,7 @@ use Rattle.std.proofs.Common.{◌≡◌, ℕ, zero, suc, ◌+◌, ◌-◌, ◌<�
 use Rattle.std.specs.List.{AllZip, slice_get}
 use Rattle.std.proofs.lemmas.List.{length-replicate}
 use Rattle.std.proofs.lemmas.Option.{same_Some, none-some}
+use Rattle.list_laws.proofs.PlaceLaws.{slice_get-append_left}
 use Rattle.lore_base.specs.Walks.{oid_of}
 use Rattle.lore_base.specs.Paths.{Reaches}
 use Rattle.lorel_bound.specs.Bound.{RangeTree}
@@ -44,11 +45,6 @@ past z (x ∷ xs) rest zero n is high = absurd (omega (arith, is))
 past z (x ∷ xs) rest (suc total) zero is high = absurd (omega (arith, high))
 past z (x ∷ xs) rest (suc total) (suc n) is high = past z xs rest total n (omega (arith, is)) (omega (arith, high))
 
-in_front : {X : Type 0} (xs ys : List X) (n : ℕ) (x : X) → slice_get xs n ≡ Some x → slice_get (xs ++ ys) n ≡ Some x
-in_front [] ys n x is = absurd (none-some x is)
-in_front (y ∷ xs) ys zero x is = is
-in_front (y ∷ xs) ys (suc n) x is = in_front xs ys n x is
-
 taken_at : {X : Type 0} (count : ℕ) (xs : List X) (n : ℕ) (x : X) → n < count → slice_get xs n ≡ Some x
     → slice_get (take count xs) n ≡ Some x
 taken_at zero xs n x low is = absurd (omega (arith, low))
@@ -60,13 +56,13 @@ zero_more : (n place : ℕ) → place ≡ 0 + n → place ≡ n
 zero_more n place is = omega (arith, is)
 
 -- ---- ranges and the slots that they fill
-within_more : (small large : ℕ) (start : Start) → small ≤ large → IsWithin small start → IsWithin large start
+pub within_more : (small large : ℕ) (start : Start) → small ≤ large → IsWithin small start → IsWithin large start
 within_more small large (starts.Named named) le within = tt
 within_more small large (starts.Slot slot) le within = omega (arith, le, within)
 
 start_in_front : (slots others : List Oid) (start : Start) (oid : Oid) → StartsAt slots start oid → StartsAt (slots ++ others) start oid
 start_in_front slots others (starts.Named named) oid begins = begins
-start_in_front slots others (starts.Slot slot) oid begins = in_front slots others slot oid begins
+start_in_front slots others (starts.Slot slot) oid begins = slice_get-append_left slots others slot oid begins
 
 start_taken : (count : ℕ) (row : List Oid) (start : Start) (oid : Oid) → IsWithin count start → StartsAt row start oid → StartsAt (take count row) start oid
 start_taken count row (starts.Named named) oid within begins = begins
@@ -152,5 +148,5 @@ module _ (labels : List (List ℕ)) (edges : List Edge) where
           length-append slots others ∙ ap (λ (n : ℕ). length slots + n) (length-replicate rest (oid_of 0)) ∙ sym total,
           λ slot high. past (oid_of 0) slots rest RANGES slot total (omega (arith, size, high)),
           asked_of_filled slots (slots ++ others) 0 ranges slots (start_in_front slots others)
-              (λ n place oid is here. in_front slots others place oid (subst (λ (m : ℕ). slice_get slots m ≡ Some oid) (sym (zero_more n place is)) here)) filled,
+              (λ n place oid is here. slice_get-append_left slots others place oid (subst (λ (m : ℕ). slice_get slots m ≡ Some oid) (sym (zero_more n place is)) here)) filled,
         )

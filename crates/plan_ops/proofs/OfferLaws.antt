@@ -11,6 +11,8 @@ use Rattle.lore_base.specs.Lists.{ExtendsBy}
 use Rattle.lore_base.specs.Paths.{PathTree, Reaches}
 use Rattle.lore_base.specs.TargetSets.{ListsInOrder}
 use Rattle.lore_base.proofs.MemberLaws.{Contains-none, Contains-head, Contains-cases}
+use Rattle.lore_base.proofs.TargetLaws.{ListsInOrder-same}
+use Rattle.list_laws.proofs.MemberLaws.{Contains-map, Contains-from_map}
 use Rattle.index_traits.specs.Entries.{IsFound}
 use Rattle.product_walk.specs.ProductWalks.{ReachesInto}
 use Rattle.lorel_bound.specs.Runnable.{IsWithin}
@@ -23,7 +25,6 @@ use Rattle.plan_ops.specs.Rows.{AreQuiet, IsGuided}
 use Rattle.plan_ops.specs.declared.offers.Offer.TheVariants.{Fill, Keep, Reject}
 use Rattle.plan_ops.specs.inside.Orders.{IsThere, Stands}
 use Rattle.plan_ops.specs.inside.Offers.{IsVariant, IsOffer, tested}
-use Rattle.plan_ops.proofs.StackLaws.{Contains-map, Contains-mapped}
 use Rattle.plan_ops.proofs.SlotLaws.{same_places, filled_there, filled_elsewhere}
 
 -- objects that ascend are put into the slot of a row: the rows are each once
@@ -48,7 +49,7 @@ fills over step slot row oids is within long lists = record {
   rows = record {
     exact = λ other. (
       λ among.
-          let found = Contains-mapped (set row slot) oids other among in
+          let found = Contains-from_map (set row slot) oids other among in
           subst (λ (r : List Oid). IsVariant step row r × Meets over step r) found.2 (
             record {
               eight = length-set row slot found.0 ∙ long;
@@ -132,12 +133,6 @@ connects Leads start slot row oid from within there at = (
       subst (λ (x : Oid). Leads x oid) first (subst (λ (y : Oid). Leads h.from y) last h.leads),
 )
 
-alike : (P Q : Oid → Type 0) (oids : List Oid) → ((oid : Oid) → P oid ↔ Q oid) → ListsInOrder P oids → ListsInOrder Q oids
-alike P Q oids same lists = record {
-  ascending = lists.ascending;
-  exact = λ oid. ((λ h. (same oid).0 ((lists.exact oid).0 h)), (λ h. (lists.exact oid).1 ((same oid).1 h)));
-}
-
 -- Each kind of step.
 
 pub forward_offers : (over : StepsOver) (start : Start) (path : PathTree) (slot : ℕ) (row : List Oid) (from : Oid) (oids : List Oid)
@@ -145,7 +140,7 @@ pub forward_offers : (over : StepsOver) (start : Start) (path : PathTree) (slot 
     → ListsInOrder (Reaches over.labels over.edges path from) oids → IsOffer over (forward start path slot) row (Fill slot oids)
 forward_offers over start path slot row from oids stands long at lists =
     fills over (forward start path slot) slot row oids refl stands.0.0 long
-    (alike (Reaches over.labels over.edges path from) (λ oid. Meets over (forward start path slot) (set row slot oid)) oids
+    (ListsInOrder-same (Reaches over.labels over.edges path from) (λ oid. Meets over (forward start path slot) (set row slot oid)) oids
     (λ oid. connects (Reaches over.labels over.edges path) start slot row oid from (omega (arith, stands.0.0, long)) stands.1 at) lists)
 
 -- what the guide told is offered in a copy
@@ -155,7 +150,7 @@ pub guide_offers : (over : StepsOver) (named : Oid) (path : PathTree) (slot : �
     → ListsInOrder (over.reaches path named) told → IsOffer over (from_guide named path slot) row (Fill slot oids)
 guide_offers over named path slot row told oids copied stands long lists =
     fills over (from_guide named path slot) slot row oids refl stands.0 long
-    (alike (over.reaches path named) (λ oid. Meets over (from_guide named path slot) (set row slot oid)) oids
+    (ListsInOrder-same (over.reaches path named) (λ oid. Meets over (from_guide named path slot) (set row slot oid)) oids
     (λ oid. connects (over.reaches path) (starts.Named named) slot row oid named (omega (arith, stands.0, long)) tt refl)
     (subst (ListsInOrder (over.reaches path named)) (sym (map-id told) ∙ sym copied ∙ map-id oids) lists))
 
@@ -166,7 +161,7 @@ pub value_offers : (over : StepsOver) (label : Option Label) (op : Op) (value : 
     → IsOffer over (from_value label op value rest slot) row (Fill slot oids)
 value_offers over label op value rest slot row ends oids stands long found lists =
     fills over (from_value label op value rest slot) slot row oids refl stands.0 long
-    (alike (ReachesInto over.labels over.links rest ends) (λ oid. Meets over (from_value label op value rest slot) (set row slot oid)) oids
+    (ListsInOrder-same (ReachesInto over.labels over.links rest ends) (λ oid. Meets over (from_value label op value rest slot) (set row slot oid)) oids
     (λ oid. (
       λ h. (oid, there oid, (h.0, h.2, (found.exact h.0).0 h.1)),
       λ h.
@@ -191,7 +186,7 @@ pub back_offers : (over : StepsOver) (child : ℕ) (path : PathTree) (parent : �
     → IsOffer over (backward child path parent) row (Fill parent oids)
 back_offers over child path parent row oids to stands long at lists =
     fills over (backward child path parent) parent row oids refl stands.0.0 long
-    (alike (λ from. Reaches over.labels over.links path from to) (λ oid. Meets over (backward child path parent) (set row parent oid)) oids
+    (ListsInOrder-same (λ from. Reaches over.labels over.links path from to) (λ oid. Meets over (backward child path parent) (set row parent oid)) oids
     (λ oid. (
       λ leads. record { from = oid; to = to; begins = there oid; ends = beside oid; leads = leads },
       λ h.
@@ -231,7 +226,7 @@ pub leading_one : (labels : List (List ℕ)) (edges : List Edge) (path : PathTre
     → ListsInOrder (ReachesInto labels edges path ends) oids → ListsInOrder (λ from. Reaches labels edges path from to) oids
 leading_one labels edges path to none ends oids empty is lists =
     let whole : ends ≡ to ∷ [] = is ∙ ap (λ (l : List Oid). l ++ to ∷ []) empty in
-    alike (ReachesInto labels edges path ends) (λ from. Reaches labels edges path from to) oids
+    ListsInOrder-same (ReachesInto labels edges path ends) (λ from. Reaches labels edges path from to) oids
     (λ oid. (
       λ h. elim (Contains-cases to [] h.0 (subst (λ (l : List Oid). Contains l h.0) whole h.1)) [
         | inl same ↦ subst (Reaches labels edges path oid) (sym same) h.2

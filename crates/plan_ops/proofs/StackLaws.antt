@@ -2,26 +2,16 @@
 use Rattle.std.proofs.Common.{◌≡◌, ◌↔◌, ◌-◌, ◌<◌, inl, inr, List, [], ◌∷◌, ◌++◌, length, get_or, map, reverse, refl, sym, ap, ◌∙◌, subst, arith}
 use Rattle.std.specs.List.{All, AllPairs, Contains}
 use Rattle.std.proofs.lemmas.List.{length-append, length-map, length-reverse, length_push, get_or_append_left, get_or_default, get_or_push, get_or-map, get_or-reverse, reverse-append, reverse-reverse, map-append}
-use Rattle.std.proofs.lemmas.List.Elements.{All-weaker, All-contains_itself, Contains-get_or, Contains-append_left, Contains-append_right, Contains-append_cases, Contains-push, Contains-push_cases}
-use Rattle.lore_base.proofs.MemberLaws.{Contains-none, Contains-head, Contains-tail, Contains-cases}
+use Rattle.std.proofs.lemmas.List.Elements.{Contains-get_or, Contains-append_left, Contains-append_right, Contains-append_cases, Contains-push, Contains-push_cases}
+use Rattle.lore_base.proofs.MemberLaws.{Contains-none, Contains-cases}
 use Rattle.lore_base.proofs.ListLaws.{AllPairs-append}
+use Rattle.list_laws.proofs.PairLaws.{AllPairs-front}
 use Rattle.plan_ops.specs.Types.{Oid}
 use Rattle.plan_ops.specs.Rows.{Gives}
-
--- what holds of each that is in a list
-pub All-by : {X : Type 0} (P : X → Type 0) (xs : List X) → ((x : X) → Contains xs x → P x) → All P xs
-All-by P xs each = All-weaker (Contains xs) P each xs (All-contains_itself xs)
 
 pub All-front : {X : Type 0} (P : X → Type 0) (xs ys : List X) → All P (xs ++ ys) → All P xs
 All-front P xs ys all k d within =
     subst P (get_or_append_left xs ys d k within) (all k d (omega (arith, within, length-append xs ys)))
-
-pub AllPairs-front : {X : Type 0} (R : X → X → Type 0) (xs ys : List X) → AllPairs R (xs ++ ys) → AllPairs R xs
-AllPairs-front {X} R xs ys pairs i j d less within =
-    let first : get_or (xs ++ ys) i d ≡ get_or xs i d = get_or_append_left xs ys d i (omega (arith, less, within)) in
-    let second : get_or (xs ++ ys) j d ≡ get_or xs j d = get_or_append_left xs ys d j within in
-    subst (λ (x : X). R x (get_or xs j d)) first
-    (subst (λ (y : X). R (get_or (xs ++ ys) i d) y) second (pairs i j d less (omega (arith, within, length-append xs ys))))
 
 -- each one before the last one
 pub AllPairs-last : {X : Type 0} (R : X → X → Type 0) (xs : List X) (y : X) → AllPairs R (xs ++ y ∷ []) → (x : X) → Contains xs x → R x y
@@ -51,17 +41,6 @@ Contains-reverse {X} (y ∷ ys) x at =
 
 pub Contains-reversed : {X : Type 0} (xs : List X) (x : X) → Contains (reverse xs) x → Contains xs x
 Contains-reversed {X} xs x at = subst (λ (l : List X). Contains l x) (reverse-reverse xs) (Contains-reverse (reverse xs) x at)
-
--- the pictures of a list
-pub Contains-map : {X Y : Type 0} (f : X → Y) (xs : List X) (x : X) → Contains xs x → Contains (map f xs) (f x)
-Contains-map f xs x at = (at.0, omega (arith, at.1, length-map xs f), get_or-map f xs at.0 x (f x) at.1 ∙ ap f at.2)
-
-pub Contains-mapped : {X Y : Type 0} (f : X → Y) (xs : List X) (y : Y) → Contains (map f xs) y → (x : X) × Contains xs x × (f x ≡ y)
-Contains-mapped f [] y at = absurd (Contains-none y at)
-Contains-mapped f (x ∷ xs) y at = elim (Contains-cases (f x) (map f xs) y at) [
-  | inl same ↦ (x, Contains-head x xs, same)
-  | inr later ↦ let got = Contains-mapped f xs y later in (got.0, Contains-tail x xs got.0 got.1, got.2)
-]
 
 -- pairs of pictures, the other way round
 pub AllPairs-turned : {X Y : Type 0} (f : X → Y) (S : X → X → Type 0) (R : Y → Y → Type 0) (d : X) (xs : List X)

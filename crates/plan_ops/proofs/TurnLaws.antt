@@ -3,11 +3,14 @@ use Rattle.std.proofs.Common.{◌≡◌, ◌≢◌, ◌↔◌, ℕ, zero, suc, �
 use Rattle.std.specs.List.{All, AllPairs, Contains, slice_get}
 use Rattle.std.specs.Option.{option_to_list, option_map}
 use Rattle.std.proofs.Math.Nat.{mul-le-mul_right}
-use Rattle.std.proofs.lemmas.Option.{none-some, same_Some, slice_get-map, slice_get_within, slice_get_read, slice_get-get_or, get_or_from_slice_get}
+use Rattle.std.proofs.lemmas.Option.{none-some, same_Some, slice_get-map, slice_get_within, slice_get_read, slice_get-get_or}
 use Rattle.std.proofs.lemmas.List.{length-map, length-reverse, length_push, drop_all}
 use Rattle.std.proofs.lemmas.List.Elements.{All-nil, All-cons, All-append, All-head, All-tail, All-contains, Contains-push}
 use Rattle.std.proofs.lemmas.List.Sums.{sum_by_push, sum_by-append, sum_by-le}
 use Rattle.lore_base.proofs.MemberLaws.{Contains-none}
+use Rattle.list_laws.proofs.MemberLaws.{All-from_members, Contains-map, Contains-from_map}
+use Rattle.list_laws.proofs.PairLaws.{AllPairs-front}
+use Rattle.list_laws.proofs.PlaceLaws.{Contains-from_place}
 use Rattle.lore_base.specs.Paths.{PathTree}
 use Rattle.lorel_bound.specs.Plans.{StepTree, forward, from_guide, from_value, backward, check, filter}
 use Rattle.plan_ops.specs.Types.{Oid, Start, PartialRow, RANGES}
@@ -19,7 +22,7 @@ use Rattle.plan_ops.specs.inside.Offers.{IsOffer, IsReplaced, offered, partial_a
 use Rattle.plan_ops.specs.inside.Orders.{IsThere, Stands, AreInOrder}
 use Rattle.plan_ops.specs.inside.Ready.{ReadyStep, ready_tree, HasFound, CanBeReady}
 use Rattle.plan_ops.specs.inside.Machines.{IsMachine, IsPopped}
-use Rattle.plan_ops.proofs.StackLaws.{All-by, All-front, map-reverse, Contains-map, Contains-mapped, Contains-reverse, Contains-reversed, AllPairs-front, AllPairs-turned, Comes, IsApart, comes_replaced, apart_replaced, gives_last}
+use Rattle.plan_ops.proofs.StackLaws.{All-front, map-reverse, Contains-reverse, Contains-reversed, AllPairs-turned, Comes, IsApart, comes_replaced, apart_replaced, gives_last}
 use Rattle.plan_ops.proofs.SlotLaws.{last_place}
 use Rattle.plan_ops.proofs.FinishLaws.{finished_by_offer, finishes_one, finished_whole}
 
@@ -126,7 +129,7 @@ module _ (over : StepsOver) (steps : List StepTree) (old new front : List Partia
   -- one of those that come is one of the rows
   come_of : (partial : PartialRow) → Contains more partial → (row : List Oid) × Contains rows row × (partial_at (last.step + 1) row ≡ partial)
   come_of partial among =
-      let found = Contains-mapped (partial_at (last.step + 1)) (reverse rows) partial among in
+      let found = Contains-from_map (partial_at (last.step + 1)) (reverse rows) partial among in
       (found.0, Contains-reversed rows found.0 found.1, found.2)
 
   one : (row : List Oid) → Comes stands more row ↔ stands last row
@@ -155,7 +158,7 @@ module _ (over : StepsOver) (steps : List StepTree) (old new front : List Partia
       let before : work_left (length steps) old ≡ work_left (length steps) front + left_of (length steps - last.step) =
       ap (work_left (length steps)) was ∙ work_left_push (length steps) front last in
       let each : All (λ partial. left_of (length steps - partial.step) ≤ left_of k) more =
-      All-by (λ (partial : PartialRow). left_of (length steps - partial.step) ≤ left_of k) more (λ partial among.
+      All-from_members (λ (partial : PartialRow). left_of (length steps - partial.step) ≤ left_of k) more (λ partial among.
       (let found = come_of partial among in
       subst (λ (p : PartialRow). left_of (length steps - p.step) ≤ left_of k) found.2 (omega arith))) in
       let after : work_left (length steps) (front ++ more) ≤ work_left (length steps) front + length more * left_of k =
@@ -174,7 +177,7 @@ module _ (over : StepsOver) (steps : List StepTree) (old new front : List Partia
           (apart_replaced stands front more last one apart_more (subst (AllPairs (IsApart stands)) was machine.apart));
       eight = subst (All HasEight) (sym is) (All-append HasEight front more
           (All-front HasEight front (last ∷ []) (subst (All HasEight) was machine.eight))
-          (All-by HasEight more (λ partial among.
+          (All-from_members HasEight more (λ partial among.
           (let found = come_of partial among in
           subst HasEight found.2 ((offers.rows.exact found.0).0 found.1).0.eight))));
     };
@@ -184,7 +187,7 @@ module _ (over : StepsOver) (steps : List StepTree) (old new front : List Partia
     lighter = lighter;
     quiet = λ nothing. subst (All Reads) (sym is) (All-append Reads front more
         (All-front Reads front (last ∷ []) (subst (All Reads) was nothing))
-        (All-by Reads more (λ partial among.
+        (All-from_members Reads more (λ partial among.
         (let found = come_of partial among in
         subst Reads found.2 (elim (subst (AreQuiet over) cut (All-contains Reads old last nothing there)) [
           | inl guided ↦ inl (All-tail IsGuided step later guided)
@@ -241,9 +244,6 @@ filled_in next slot row oids items front new same whole =
 
 -- The last partial row, and the step that it is before.
 
-last_contained : {X : Type 0} (xs : List X) (k : ℕ) (x : X) → slice_get xs k ≡ Some x → Contains xs x
-last_contained xs k x at = (k, slice_get_within xs k x at, get_or_from_slice_get xs k x x at)
-
 same_last : (old front : List PartialRow) (last other : PartialRow) → slice_get old (length old - 1) ≡ Some last → old ≡ front ++ other ∷ [] → last ≡ other
 same_last old front last other at was =
     let long : length old ≡ length front + 1 = ap length was ∙ length_push front other in
@@ -279,17 +279,17 @@ stands_there ready n step order at =
 
 pub found_there : (reaches : PathTree → Oid → Oid → Type 0) (ready : List ReadyStep) (n : ℕ) (step : ReadyStep) → All (HasFound reaches) ready
     → slice_get ready n ≡ Some step → HasFound reaches step
-found_there reaches ready n step found at = All-contains (HasFound reaches) ready step found (last_contained ready n step at)
+found_there reaches ready n step found at = All-contains (HasFound reaches) ready step found (Contains-from_place ready n step at)
 
 pub can_there : (ready : List ReadyStep) (n : ℕ) (step : ReadyStep) → All CanBeReady (map ready_tree ready) → slice_get ready n ≡ Some step
     → CanBeReady (ready_tree step)
 can_there ready n step can at =
-    All-contains CanBeReady (map ready_tree ready) (ready_tree step) can (last_contained (map ready_tree ready) n (ready_tree step) (step_at ready n step at))
+    All-contains CanBeReady (map ready_tree ready) (ready_tree step) can (Contains-from_place (map ready_tree ready) n (ready_tree step) (step_at ready n step at))
 
 pub eight_there : (over : StepsOver) (steps : List StepTree) (items : List PartialRow) (last : PartialRow) → IsMachine over steps items
     → slice_get items (length items - 1) ≡ Some last → length last.row ≡ RANGES
 eight_there over steps items last machine at =
-    All-contains (λ (p : PartialRow). length p.row ≡ RANGES) items last machine.eight (last_contained items (length items - 1) last at)
+    All-contains (λ (p : PartialRow). length p.row ≡ RANGES) items last machine.eight (Contains-from_place items (length items - 1) last at)
 
 pub quiet_there : (over : StepsOver) (ready : List ReadyStep) (items : List PartialRow) (last : PartialRow) (step : ReadyStep)
     → ReadNothing over (map ready_tree ready) items → slice_get items (length items - 1) ≡ Some last → slice_get ready last.step ≡ Some step
@@ -298,7 +298,7 @@ quiet_there over ready items last step nothing at here =
     let steps = map ready_tree ready in
     quiet_alone over (ready_tree step) (drop (last.step + 1) steps)
     (subst (AreQuiet over) (drop_at steps last.step (ready_tree step) (step_at ready last.step step here))
-    (All-contains (λ (p : PartialRow). AreQuiet over (drop p.step steps)) items last nothing (last_contained items (length items - 1) last at)))
+    (All-contains (λ (p : PartialRow). AreQuiet over (drop p.step steps)) items last nothing (Contains-from_place items (length items - 1) last at)))
 
 pub turns : (over : StepsOver) (ready : List ReadyStep) (step : ReadyStep) (old new : List PartialRow) (last : PartialRow) (offer : Offer)
     → IsMachine over (map ready_tree ready) old → slice_get old (length old - 1) ≡ Some last → slice_get ready last.step ≡ Some step

@@ -1,8 +1,7 @@
 -- What is counted: the objects that a comparison asks for are a finite list, and the path to its range has few leaves.
-use Rattle.std.proofs.Common.{◌≡◌, ℕ, suc, ◌+◌, ◌<◌, ◌≤◌, ◌==◌, inl, inr, List, [], ◌∷◌, length, map, take, ◌++◌, refl, sym, ap, subst, ◌∙◌, arith, add-one}
+use Rattle.std.proofs.Common.{◌≡◌, ℕ, suc, ◌+◌, ◌<◌, ◌≤◌, inl, inr, List, [], ◌∷◌, length, map, take, ◌++◌, refl, sym, ap, subst, ◌∙◌, arith, add-one}
 use Rattle.std.specs.List.{Contains, sum_by}
 use Rattle.std.proofs.lemmas.Bool.{cases_lt}
-use Rattle.std.proofs.lemmas.Bool.Decides.{Decides-eqb}
 use Rattle.std.proofs.lemmas.List.{take-map}
 use Rattle.std.proofs.lemmas.List.Sums.{sum_by-cons, sum_by-take-le}
 use Rattle.lore_base.specs.declared.operators.Op.{Op}
@@ -19,23 +18,20 @@ use Rattle.lorel_bound.specs.declared.bound.Range.{Range}
 use Rattle.lorel_bound.specs.Bound.{RangeTree, range_tree, BoundTree, bound_tree}
 use Rattle.lorel_bound.specs.Runnable.{IsRunnable}
 use Rattle.lorel_bound.specs.Plans.{Probe, path_to}
-use Rattle.lore_base.proofs.ToldLaws.{IsTold, told_by, told_same, told_both}
+use Rattle.lore_base.proofs.ToldLaws.{told_both}
+use Rattle.list_laws.proofs.AscentLaws.{IsOrder, some_ordered}
+use Rattle.index_traits.proofs.ObjectLaws.{told_label}
 use Rattle.lorel_bound.proofs.ListedLaws.{IsListed, listed_members, listed_one, listed_same, listed_over, listed_where}
 use Rattle.lorel_bound.proofs.ComparedLaws.{told_compares}
-use Rattle.lorel_bound.proofs.AscentLaws.{IsOrder, some_ordered}
 use Rattle.planner.specs.Types.{Oid, Label, ValueEntry}
 use Rattle.planner.specs.Choices.{IsCount}
 
 -- ---- the objects that a comparison asks for
-told_label : (a b : Label) → IsTold (a ≡ b)
-told_label a b =
-    told_same (λ (same : a.0 ≡ b.0). λ i. record { 0 = same i }) (ap (λ (label : Label). label.0)) (told_by (a.0 == b.0) (Decides-eqb a.0 b.0))
-
 -- the entry is one of these, and its value compares so
 abbrev IsAsked : List ValueEntry → Label → Op → Value → ValueEntry → Type 0
 IsAsked entries label op value entry = Contains entries entry × ((entry.label ≡ label) × Compares entry.value op value)
 
-listed_found : (entries : List ValueEntry) (label : Label) (op : Op) (value : Value) → IsListed (IsFound entries label op value)
+pub listed_found : (entries : List ValueEntry) (label : Label) (op : Op) (value : Value) → IsListed (IsFound entries label op value)
 listed_found entries label op value =
     listed_same (λ oid. (entry : ValueEntry) × IsAsked entries label op value entry × (entry.object ≡ oid)) (IsFound entries label op value)
     (λ oid. (
@@ -51,7 +47,7 @@ listed_found entries label op value =
     (λ entry. told_both (told_label entry.label label) (told_compares entry.value op value)))
     (λ entry. listed_one entry.object))
 
-oids_ordered : IsOrder (λ (a b : Oid). a.0 < b.0)
+pub oids_ordered : IsOrder (λ (a b : Oid). a.0 < b.0)
 oids_ordered = record {
   apart = λ a h. omega (arith, h);
   trans = λ a b c h k. omega (arith, h, k);

@@ -1,10 +1,8 @@
 -- A bound select has one list of steps of each kind, and one pair of counts.
-use Rattle.std.proofs.Common.{◌≡◌, ◌≢◌, ℕ, ◌<◌, inl, inr, List, length, AllPairs, Option, Some, None, refl, sym, ap, subst, ◌∙◌, arith}
-use Rattle.std.specs.List.{slice_get}
-use Rattle.std.proofs.lemmas.Bool.{cases_lt}
-use Rattle.std.proofs.lemmas.Option.{slice_get_within, get_or_from_slice_get}
+use Rattle.std.proofs.Common.{◌≡◌, ◌≢◌, ℕ, inl, inr, List, length, AllPairs, Option, Some, None, refl, sym, ap, subst, ◌∙◌}
 use Rattle.lore_base.specs.Paths.{PathTree, Reaches}
 use Rattle.lore_base.proofs.TargetLaws.{ListsInOrder-unique}
+use Rattle.list_laws.proofs.PlaceLaws.{one_place}
 use Rattle.lorel_bound.specs.Bound.{BoundTree}
 use Rattle.lorel_bound.specs.Plans.{Probe, IsLabelOf, IsCandidate, path_to, bottom_steps, tests}
 use Rattle.planner.specs.Types.{Oid, Label, ValueEntry}
@@ -13,25 +11,14 @@ use Rattle.planner.specs.Choices.{IsGivenCount, AreCounted}
 use Rattle.planner.specs.Laws.{HasOnePlan, HasOneCount}
 use Rattle.planner.proofs.TakenLaws.{begins_once}
 
--- distinct texts stand at one place each
-place_before : (labels : List (List ℕ)) → AllPairs (λ a b. a ≢ b) labels → (i j : ℕ) (text : List ℕ)
-    → slice_get labels i ≡ Some text → slice_get labels j ≡ Some text → i < j → ⊥
-place_before labels distinct i j text first second before =
-    distinct i j text before (slice_get_within labels j text second)
-    (get_or_from_slice_get labels i text text first ∙ sym (get_or_from_slice_get labels j text text second))
-
 label_once : (labels : List (List ℕ)) → AllPairs (λ a b. a ≢ b) labels → (text : List ℕ) (a b : Option Label)
     → IsLabelOf labels text a → IsLabelOf labels text b → a ≡ b
 label_once labels distinct text None None none too = refl
 label_once labels distinct text None (Some b) none is = absurd (none b is)
 label_once labels distinct text (Some a) None is none = absurd (none a is)
-label_once labels distinct text (Some a) (Some b) is too = elim (cases_lt a.0 b.0) [
-  | inl before ↦ absurd (place_before labels distinct a.0 b.0 text is too before)
-  | inr not_before ↦ elim (cases_lt b.0 a.0) [
-    | inl after ↦ absurd (place_before labels distinct b.0 a.0 text too is after)
-    | inr not_after ↦ (let same : a.0 ≡ b.0 = omega (arith, not_before, not_after) in λ i. Some (record { 0 = same i }))
-  ]
-]
+label_once labels distinct text (Some a) (Some b) is too =
+    let same : a.0 ≡ b.0 = one_place labels distinct a.0 b.0 text is too in
+    λ i. Some (record { 0 = same i })
 
 -- what two bottom plans begin from is the same
 label_of_one : (labels : List (List ℕ)) → AllPairs (λ a b. a ≢ b) labels → (probe other : Probe) (a b : Option Label) → probe ≡ other

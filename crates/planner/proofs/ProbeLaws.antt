@@ -2,6 +2,7 @@
 use Rattle.std.proofs.Common.{◌≡◌, ℕ, suc, ◌+◌, ◌-◌, ◌<◌, ◌↔◌, inl, inr, List, [], ◌∷◌, ◌++◌, length, map, get_or, take, drop, refl, sym, ap, subst, ◌∙◌, add-one}
 use Rattle.std.specs.Prelude.{Some, slice_get}
 use Rattle.std.proofs.lemmas.List.{map-append}
+use Rattle.list_laws.proofs.PartLaws.{drop_more_read}
 use Rattle.lore_base.specs.declared.paths.Path.{Path, Seq}
 use Rattle.lore_base.specs.declared.paths.Path.TheOpen as path_layer
 use Rattle.lore_base.specs.declared.paths.Path.TheVariants.{rolls-Seq}
@@ -18,7 +19,7 @@ use Rattle.lorel_bound.specs.Plans.{Probe, IsFitting, DoesNotFit, IsFirstFitting
 use Rattle.planner.specs.Types.starts
 use Rattle.planner.specs.Types.{Plain}
 use Rattle.planner.specs.inside.Probes.{EndsIn, PartsEndIn}
-use Rattle.planner.proofs.ReadLaws.{one_left, last_item}
+use Rattle.planner.proofs.ReadLaws.{last_item}
 
 -- ---- paths by their parts
 pub trees_same : (xs ys : List PathTree) → trees_of xs ≡ trees_of ys → xs ≡ ys
@@ -64,14 +65,14 @@ unended path op value none probe fits = none probe.label (fits.parts, ap rest_of
 pub first_fits : (conds : List BoundCond) (i : ℕ) (cond : BoundCond) (probe : Probe) → i < length conds → cond ≡ get_or conds i cond
     → IsFitting (bound_cond cond) probe → IsFirstFitting (conds_from (map bound_cond (drop i conds))) probe
 first_fits conds i cond probe low is fits =
-    subst (λ (left : List BoundCond). IsFirstFitting (conds_from (map bound_cond left)) probe) (sym (one_left conds i cond low is)) (inl fits)
+    subst (λ (left : List BoundCond). IsFirstFitting (conds_from (map bound_cond left)) probe) (sym (drop_more_read conds i cond low is)) (inl fits)
 
 pub first_is_later : (conds : List BoundCond) (i : ℕ) (cond : BoundCond) (probe : Probe) → i < length conds → cond ≡ get_or conds i cond
     → DoesNotFit (bound_cond cond)
     → IsFirstFitting (conds_from (map bound_cond (drop (i + 1) conds))) probe ↔ IsFirstFitting (conds_from (map bound_cond (drop i conds))) probe
 first_is_later conds i cond probe low is unfit =
     subst (λ (left : List BoundCond). IsFirstFitting (conds_from (map bound_cond (drop (i + 1) conds))) probe ↔ IsFirstFitting (conds_from (map bound_cond left)) probe)
-    (sym (one_left conds i cond low is))
+    (sym (drop_more_read conds i cond low is))
     (λ later. inr (unfit, later), λ first. elim first [ inl fits ↦ absurd (unfit probe fits) | inr later ↦ later.1 ])
 
 -- ---- ranges that follow on
@@ -82,5 +83,5 @@ follow_more ranges slot range low is =
     let next : suc slot ≡ slot + 1 = sym (add-one slot) in
     let later : ℕ → Type 0 = λ n. FollowOn n (map range_tree (drop (slot + 1) ranges)) in
     subst (λ (left : List Range). FollowOn slot (map range_tree left) ↔ ((range.start ≡ starts.Slot slot) × later (slot + 1)))
-    (sym (one_left ranges slot range low is))
+    (sym (drop_more_read ranges slot range low is))
     (λ both. (both.0, subst later next both.1), λ both. (both.0, subst later (sym next) both.1))

@@ -8,9 +8,9 @@ use Rattle.std.specs.Ordering.{nat_cmp, ordering_then}
 use Rattle.std.specs.declared.cmp.Ordering.TheVariants.{Less, Equal}
 use Rattle.std.proofs.lemmas.Bool.{and_parts, eqb-true, eq-eqb}
 use Rattle.std.proofs.lemmas.List.Elements.{Contains-get_or}
-use Rattle.graph_search.proofs.SumLaws.{length-within}
 use Rattle.lore_base.specs.Walks.{edge_of, out_of, entering_cmp, ListsEntering}
 use Rattle.lore_base.proofs.MemberLaws.{Contains-filter, unfiltered, Contains-same, Contains-head, Contains-tail, Contains-cases}
+use Rattle.list_laws.proofs.SumLaws.{length-within}
 use Rattle.product_walk.specs.Types.{Oid, Edge}
 use Rattle.product_walk.specs.ProductWalks.{reads_in}
 use Rattle.product_walk.specs.inside.Arcs.{along, against, AreArcs, same_edge, each_once, reads_entering}

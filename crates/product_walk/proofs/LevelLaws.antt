@@ -13,7 +13,7 @@ use Rattle.lore_base.specs.Walks.{Walk, edge_of}
 use Rattle.lore_base.proofs.MemberLaws.{Contains-none, Contains-head, Contains-cases, Contains-same}
 use Rattle.lore_base.proofs.TargetLaws.{ListsInOrder-same}
 use Rattle.lore_base.proofs.WalkLaws.{Walk-append, Walk-split}
-use Rattle.graph_search.proofs.SumLaws.{sum_by-within}
+use Rattle.list_laws.proofs.SumLaws.{sum_by-within}
 use Rattle.product_walk.specs.Types.{Oid, Label, Edge, Pattern}
 use Rattle.product_walk.specs.ProductWalks.{ReachesInto, WalksInto}
 use Rattle.product_walk.specs.inside.Arcs.{along, against, AreArcs}

@@ -1,12 +1,9 @@
 -- The product of a graph with a machine: it leads on by an arc and a move, and its ways are walks and runs.
 use Rattle.std.proofs.Common.{◌≡◌, ◌↔◌, ℕ, ◌+◌, ◌<◌, ◌≤◌, ◌⊎◌, inl, inr, true, false, cond, List, [], ◌∷◌, ◌++◌, map, reverse, length, get_or, Result, All, AllPairs, Contains, refl, sym, ap, ◌∙◌, subst, arith}
-use Rattle.std.specs.Cmp.{nat_cmp_is}
 use Rattle.std.specs.List.{sum_by}
 use Rattle.std.specs.Ordering.{nat_cmp}
 use Rattle.std.specs.Result.{OnOk}
-use Rattle.std.specs.declared.cmp.Ordering.TheVariants.{Less, Equal, Greater}
-use Rattle.std.proofs.lemmas.Bool.{cases_lt}
-use Rattle.std.proofs.lemmas.Bool.Decides.{eqb_tells}
+use Rattle.std.specs.declared.cmp.Ordering.TheVariants.{Less}
 use Rattle.std.proofs.lemmas.Result.{on_ok_weaker}
 use Rattle.std.proofs.lemmas.List.{append-nil, append_assoc, reverse-append, reverse-reverse}
 use Rattle.std.proofs.lemmas.List.Elements.{Contains-append_left, Contains-append_right, Contains-push, Contains-push_cases}
@@ -16,6 +13,8 @@ use Rattle.lore_base.specs.TargetSets.{ListsInOrder}
 use Rattle.lore_base.specs.Walks.{Walk, edge_of}
 use Rattle.lore_base.proofs.TargetLaws.{ListsInOrder-same}
 use Rattle.lore_base.proofs.MemberLaws.{Contains-none, Contains-head, Contains-cases}
+use Rattle.lore_base.proofs.WalkLaws.{Walk-push}
+use Rattle.list_laws.proofs.OrderLaws.{less_from_cmp}
 use Rattle.graph_search.specs.Closures.{IsMet, LeadAlong, IsLedTo, LeadsOn, IsClosure, Lists}
 use Rattle.graph_search.proofs.MeetingLaws.{IsMet-none, IsMet-one, IsMet-append_left, IsMet-append_right, IsMet-append_cases}
 use Rattle.graph_search.proofs.PriceLaws.{IsPriced, sum_by-places}
@@ -182,10 +181,6 @@ module _ (edges : List Edge) where
   along-Walk [] x y walked = walked
   along-Walk (label ∷ word) x y walked = (walked.0, walked.1, along-Walk word walked.0 y walked.2)
 
-  Walk-push : (word : List Label) (label : Label) (x y z : Oid) → Walk edges x word y → Contains edges (edge_of y label z) → Walk edges x (word ++ label ∷ []) z
-  Walk-push [] label x y z same edge = (z, subst (λ o. Contains edges (edge_of o label z)) (sym same) edge, refl)
-  Walk-push (early ∷ word) label x y z walked edge = (walked.0, walked.1, Walk-push word label walked.0 y z walked.2 edge)
-
   WalkBy-push : (word : List Label) (label : Label) (x y z : Oid) → WalkBy (against edges) x word y → Contains edges (edge_of z label y)
       → WalkBy (against edges) x (word ++ label ∷ []) z
   WalkBy-push [] label x y z same arc = (z, subst (λ o. Contains edges (edge_of z label o)) (sym same) arc, refl)
@@ -195,7 +190,7 @@ module _ (edges : List Edge) where
   Walk-against [] x y same = sym same
   Walk-against (label ∷ word) x y walked =
       subst (λ w. Walk edges x w y) (sym (reverse-append (label ∷ []) word))
-      (Walk-push (reverse word) label x walked.0 y (Walk-against word x walked.0 walked.2) walked.1)
+      (Walk-push edges x (reverse word) walked.0 label y (Walk-against word x walked.0 walked.2) walked.1)
 
   against-Walk : (word : List Label) (x y : Oid) → Walk edges x word y → WalkBy (against edges) y (reverse word) x
   against-Walk [] x y same = sym same
@@ -277,20 +272,11 @@ takes_reads reads most Passes met leads starts before after few closure passes s
       | false ↦ λ none. inl refl
     ] refl
 
-below_from_less : (x y : ℕ) → nat_cmp x y ≡ Less → x < y
-below_from_less x y less = elim (cases_lt x y) [
-  | inl below ↦ below
-  | inr above ↦ elim (eqb_tells x y) [
-    | inl same ↦ absurd (cc (nat_cmp_is x y Equal same.1 ∙ less))
-    | inr other ↦ absurd (cc (nat_cmp_is x y Greater (omega (arith, above, other.1)) ∙ less))
-  ]
-]
-
 -- objects in the order of their numbers, each once
 pub lists_sorted : (oids sorted : List Oid) → AllPairs (λ a b. nat_cmp a.0 b.0 ≡ Less) sorted → ((oid : Oid) → Contains sorted oid ↔ Contains oids oid)
     → ListsInOrder (Contains oids) sorted
 lists_sorted oids sorted ascend members = record {
-  ascending = λ i j d below within. below_from_less (get_or sorted i d).0 (get_or sorted j d).0 (ascend i j d below within);
+  ascending = λ i j d below within. less_from_cmp (get_or sorted i d).0 (get_or sorted j d).0 (ascend i j d below within);
   exact = members;
 }
 

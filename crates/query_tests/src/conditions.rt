@@ -114,3 +114,28 @@ fn a_condition_is_tested_unready(rt: HostRuntime) -> Result<(), Fail> {
     }
     Ok(())
 }
+
+// A test that tells nothing before each slot is filled.
+fn tells_nothing<L: Ledger>(alloc: Global, blank: Blank) -> Result<bool, Fail>
+    requires name { blank.name ≡ L.name }
+    requires parts { blank.parts ≡ L.parts }
+    requires some { 0 < blank.parts }
+{
+    let graph = graph(alloc)?;
+    let values = One {
+        value: Value::Whole(30),
+    };
+    let labels = LabelTable::new(alloc);
+    let test = Test::new(None, &graph, &values, &labels);
+    let mut steps = Steps::<L>::new(blank);
+    let row = row(alloc);
+    let known = [true; 8];
+    let ruled_out = test.rules_out(alloc, &known, &row, &mut steps)?;
+    Ok(!ruled_out && test.fitting(alloc, &known, 0, &row, &mut steps)?.is_none())
+}
+
+#[test]
+fn a_test_tells_nothing_of_part_of_a_row(rt: HostRuntime) -> Result<(), Fail> {
+    assert!(rt; tells_nothing::<Brand>(rt.alloc(), Blank::new(1))?);
+    Ok(())
+}

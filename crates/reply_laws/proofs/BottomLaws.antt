@@ -1,26 +1,23 @@
 -- It is told whether a bound select can have a plan from the bottom, and what is counted for one can be counted.
-use Rattle.std.proofs.Common.{◌≡◌, ℕ, suc, ◌<◌, ◌⊎◌, inl, inr, List, [], ◌∷◌, ◌++◌, length, Option, Some, None, refl, sym, ap, subst, ◌∙◌, arith}
-use Rattle.std.specs.List.{Contains}
-use Rattle.std.proofs.lemmas.Bool.{cases_eq, cases_lt}
+use Rattle.std.proofs.Common.{◌≡◌, ℕ, suc, ◌<◌, ◌⊎◌, inl, inr, List, [], ◌∷◌, ◌++◌, length, Option, Some, None, refl, sym, ap, subst, ◌∙◌}
+use Rattle.std.proofs.lemmas.Bool.{cases_eq}
 use Rattle.lore_base.specs.Paths.{PathTree, PathTrees, step, none, more, seq, trees_of}
 use Rattle.lore_base.specs.TargetSets.{ListsInOrder}
-use Rattle.lore_base.specs.Comparisons.{Compares}
 use Rattle.lore_base.specs.declared.edges.Label.{Label}
 use Rattle.lore_base.specs.declared.operators.Op.{Op}
 use Rattle.lore_base.specs.declared.operators.Op.TheVariants as ops
 use Rattle.lore_base.specs.declared.paths.Pattern.TheVariants.{Plain}
-use Rattle.lore_base.proofs.MemberLaws.{Contains-same}
-use Rattle.dataguide.proofs.PlaceLaws.{Contains-at, at-Contains}
-use Rattle.index_traits.specs.Entries.{IsProbed, IsFound, entry_of}
+use Rattle.index_traits.specs.Entries.{IsProbed}
 use Rattle.lorel_bound.specs.declared.conditions.BoundStart.{BoundStart}
 use Rattle.lorel_bound.specs.declared.conditions.BoundStart.TheVariants as bound_starts
 use Rattle.lorel_bound.specs.Bound.{RangeTree, BoundPathTree, BoundTree}
 use Rattle.lorel_bound.specs.Conditions.{CondOf, CondsOf, and, compare, at, constant, no_cond, cond}
 use Rattle.lorel_bound.specs.Plans.{Probe, IsFitting, DoesNotFit, IsFirstFitting, IsTaken, FollowOn, IsChain, CanBeBottom, CannotBeBottom, IsLabelOf, IsCandidate}
-use Rattle.lorel_bound.proofs.AscentLaws.{IsOrder, some_ordered}
-use Rattle.lorel_bound.proofs.ComparedLaws.{told_compares}
-use Rattle.lorel_bound.proofs.ListedLaws.{IsListed, listed_members, listed_same, listed_none, listed_when, listed_over}
+use Rattle.lorel_bound.proofs.ListedLaws.{IsListed, listed_none}
 use Rattle.lore_base.proofs.ToldLaws.{IsTold, told_both, told_member, told_bytes, told_complex}
+use Rattle.list_laws.proofs.AscentLaws.{some_ordered}
+use Rattle.list_laws.proofs.PlaceLaws.{Contains-from_place, place_of_member}
+use Rattle.planner.proofs.CountLaws.{oids_ordered, listed_found}
 use Rattle.planner.specs.Choices.{IsCount}
 use Rattle.lore_db.specs.Types.{Oid, Value, ValueEntry, Start}
 use Rattle.lore_db.specs.Types.starts
@@ -182,46 +179,14 @@ told_bottom bound = elim (told_chain bound.ranges) [
 ]
 
 -- ---- counts
-oid_order : IsOrder (λ (a b : Oid). a.0 < b.0)
-oid_order = record {
-  apart = λ a h. omega (arith, h);
-  trans = λ a b c h k. omega (arith, h, k);
-  either = λ a b. elim (cases_lt a.0 b.0) [
-    | inl below ↦ inl below
-    | inr not_below ↦ elim (cases_lt b.0 a.0) [
-      | inl above ↦ inr (inr above)
-      | inr not_above ↦ (let same : a.0 ≡ b.0 = omega (arith, not_below, not_above) in inr (inl (λ i. record { 0 = same i })))
-    ]
-  ];
-}
-
 pub some_count : (P : Oid → Type 0) → IsListed P → (count : ℕ) × IsCount P count
 some_count P listed =
-    let set = some_ordered (λ (a b : Oid). a.0 < b.0) oid_order listed.0 in
+    let set = some_ordered (λ (a b : Oid). a.0 < b.0) oids_ordered listed.0 in
     let lists : ListsInOrder P set.0 = record {
       ascending = set.1.ascend;
       exact = λ oid. (λ h. (listed.1 oid).0 (set.1.only oid h), λ h. set.1.kept oid ((listed.1 oid).1 h));
     } in
     (length set.0, (set.0, lists, refl))
-
-told_label : (a b : Label) → IsTold (a ≡ b)
-told_label a b = elim (cases_eq a.0 b.0) [
-  | inl same ↦ inl (λ i. record { 0 = same i })
-  | inr other ↦ inr (λ is. other (ap (λ (l : Label). l.0) is))
-]
-
-listed_found : (entries : List ValueEntry) (label : Label) (op : Op) (value : Value) → IsListed (IsFound entries label op value)
-listed_found entries label op value =
-    listed_same (λ oid. (entry : ValueEntry) × Contains entries entry × (((entry.label ≡ label) × Compares entry.value op value) × (entry.object ≡ oid)))
-    (IsFound entries label op value)
-    (λ oid. (
-      λ h. (h.0.value, Contains-same entries h.0 (entry_of label h.0.value oid) (λ i. entry_of (h.2.0.0 i) h.0.value (h.2.1 i)) h.1, h.2.0.1),
-      λ h. (entry_of label h.0 oid, h.1, ((refl, h.2), refl)),
-    ))
-    (listed_over (Contains entries) (λ (entry : ValueEntry) oid. ((entry.label ≡ label) × Compares entry.value op value) × (entry.object ≡ oid))
-    (listed_members entries)
-    (λ entry. listed_when ((entry.label ≡ label) × Compares entry.value op value)
-    (told_both (told_label entry.label label) (told_compares entry.value op value)) entry.object))
 
 pub listed_candidates : (entries : List ValueEntry) (label : Option Label) (op : Op) (value : Value) → IsListed (IsCandidate entries label op value)
 listed_candidates entries None op value = listed_none (λ oid. ⊥) (λ oid h. h)
@@ -229,6 +194,6 @@ listed_candidates entries (Some label) op value = listed_found entries label op 
 
 pub some_label : (labels : List (List ℕ)) (text : List ℕ) → (label : Option Label) × IsLabelOf labels text label
 some_label labels text = elim (told_member told_bytes labels text) [
-  | inl there ↦ (let place = at-Contains labels text there in (Some (record { 0 = place.0 }), place.1))
-  | inr absent ↦ (None, λ own is. absent (Contains-at labels own.0 text is))
+  | inl there ↦ (let place = place_of_member labels text there in (Some (record { 0 = place.0 }), place.1))
+  | inr absent ↦ (None, λ own is. absent (Contains-from_place labels own.0 text is))
 ]

@@ -4,7 +4,7 @@ use Rattle.std.specs.Prelude.{ℤ, pos}
 use Rattle.lore_base.specs.Databases.{Database}
 use Rattle.lore_base.specs.ChangeSets.{IsAfter}
 use Rattle.lore_base.proofs.VerdictLaws.{one_first, first_unclear}
-use Rattle.oem_changes.proofs.CountLaws.{distinct_as_long}
+use Rattle.list_laws.proofs.SumLaws.{distinct_as_long}
 use Rattle.oem_changes.proofs.DeterminedLaws.{one_database_after}
 use Rattle.guide_query.proofs.OneListOfLines.{one_list_of_lines}
 use Rattle.guide_query.proofs.OnePathLines.{one_browsing, one_sample}

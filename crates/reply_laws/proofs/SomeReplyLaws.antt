@@ -3,9 +3,9 @@ use Rattle.std.proofs.Common.{◌≡◌, ◌≢◌, ℕ, ◌+◌, ◌<◌, ◌�
 use Rattle.std.proofs.Common.{length, map, sum_by, Option, Some, None, refl, sym, subst}
 use Rattle.std.specs.Prelude.{ℤ, MatchOption}
 use Rattle.std.proofs.lemmas.Bool.{cases_eq, cases_lt}
-use Rattle.lore_base.specs.Databases.{OemGraph, Database, IsValid, new_database}
+use Rattle.lore_base.specs.Databases.{OemGraph, Database, IsValid}
 use Rattle.lore_base.specs.Names.{IsNameTable}
-use Rattle.lore_base.specs.GuideLimits.{PassesNodes, PassesCells}
+use Rattle.lore_base.specs.GuideLimits.{ExceedsNodes, ExceedsCells}
 use Rattle.lore_base.specs.ChangeSets.{Fits, IsGraphAfter}
 use Rattle.lore_base.specs.ChangeCauses.{Outgrows, LeadsToMore, LeadsToLarger, DatabaseCause}
 use Rattle.lore_base.specs.Verdicts.{IsClear}
@@ -21,7 +21,6 @@ use Rattle.guide_laws.proofs.LimitLaws.{fitting_passes_none, one_limit_is_passed
 use Rattle.guide_query.proofs.SomeLines.{lines_exist}
 use Rattle.guide_query.proofs.SomePathLines.{browsing_exists, sample_exists}
 use Rattle.dump_text.specs.Dumps.{printed_dump}
-use Rattle.lore_store.proofs.NewLaws.{new_valid}
 use Rattle.lore_store.proofs.ModeLaws.{valid_in_mode}
 use Rattle.lore_store.proofs.LimitLaws.{valid_limited}
 use Rattle.lorel_trees.specs.Trees as t
@@ -178,7 +177,7 @@ told_changes db statement rows are refusal told =
     told_both (told_changing statement) (told_same over.0 over.1 told)
 
 -- it is told which limit a guide passes
-told_passes_nodes : (limit : ℕ) (names : List (List ℕ × Oid)) (edges : List Edge) → IsNameTable names → IsTold (PassesNodes limit names edges)
+told_passes_nodes : (limit : ℕ) (names : List (List ℕ × Oid)) (edges : List Edge) → IsNameTable names → IsTold (ExceedsNodes limit names edges)
 told_passes_nodes limit names edges table = elim (guides_fit_or_pass limit names edges table) [
   | inl fits ↦ inr (λ nodes. fitting_passes_none limit names edges fits (inl nodes))
   | inr passed ↦ elim passed [
@@ -187,7 +186,7 @@ told_passes_nodes limit names edges table = elim (guides_fit_or_pass limit names
   ]
 ]
 
-told_passes_cells : (limit : ℕ) (names : List (List ℕ × Oid)) (edges : List Edge) → IsNameTable names → IsTold (PassesCells limit names edges)
+told_passes_cells : (limit : ℕ) (names : List (List ℕ × Oid)) (edges : List Edge) → IsNameTable names → IsTold (ExceedsCells limit names edges)
 told_passes_cells limit names edges table = elim (guides_fit_or_pass limit names edges table) [
   | inl fits ↦ inr (λ cells. fitting_passes_none limit names edges fits (inr cells))
   | inr passed ↦ elim passed [
@@ -202,7 +201,7 @@ told_leads_to_more : (graph : OemGraph) (changes : Changes) (limit : ℕ) (after
 told_leads_to_more graph changes limit after leaves =
     told_same
     (λ more. (after, leaves, more))
-    (λ (h : LeadsToMore graph changes limit). subst (λ (g : OemGraph). PassesNodes limit g.names g.edges)
+    (λ (h : LeadsToMore graph changes limit). subst (λ (g : OemGraph). ExceedsNodes limit g.names g.edges)
     (one_after graph changes h.0 after h.1 leaves) h.2)
     (told_passes_nodes limit after.names after.edges leaves.names_ascend)
 
@@ -212,7 +211,7 @@ told_leads_to_larger : (graph : OemGraph) (changes : Changes) (limit : ℕ) (aft
 told_leads_to_larger graph changes limit after leaves =
     told_same
     (λ larger. (after, leaves, larger))
-    (λ (h : LeadsToLarger graph changes limit). subst (λ (g : OemGraph). PassesCells limit g.names g.edges)
+    (λ (h : LeadsToLarger graph changes limit). subst (λ (g : OemGraph). ExceedsCells limit g.names g.edges)
     (one_after graph changes h.0 after h.1 leaves) h.2)
     (told_passes_cells limit after.names after.edges leaves.names_ascend)
 
@@ -353,12 +352,12 @@ module _ (db : Database) (valid : IsValid db) (statement : StatementTree) (forme
           | inl nodes ↦ absurd (sets (
             after.graph,
             graph,
-            subst (λ (n : ℕ). PassesNodes n after.graph.names after.graph.edges) left.1.nodes nodes,
+            subst (λ (n : ℕ). ExceedsNodes n after.graph.names after.graph.edges) left.1.nodes nodes,
           ))
           | inr cells ↦ absurd (larger (
             after.graph,
             graph,
-            subst (λ (n : ℕ). PassesCells n after.graph.names after.graph.edges) left.1.nodes cells,
+            subst (λ (n : ℕ). ExceedsCells n after.graph.names after.graph.edges) left.1.nodes cells,
           ))
         ]
       ]) in
@@ -471,9 +470,6 @@ executes_always db statement valid sound =
         valid = valid;
       }
     ]
-
-pub begins_valid : IsValid new_database
-begins_valid = new_valid
 
 pub some_execution : (before : Database) (statement : StatementTree) → IsValid before → IsSound statement
     → (reply : Reply) × (after : Database) × Executes before statement reply after × IsValid after

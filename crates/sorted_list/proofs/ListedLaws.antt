@@ -1,5 +1,5 @@
 -- Which items of an ascending list are told by their comparisons, and what stays of a list without them.
-use Rattle.std.proofs.Common.{◌≡◌, ℕ, ◌<◌, ◌≤◌, ◌↔◌, true, false, not, Less, Equal, Greater, Err, List, [], ◌∷◌, length, get_or, Contains, refl, sym, ap, ◌∙◌, inl, inr, arith}
+use Rattle.std.proofs.Common.{◌≡◌, ℕ, ◌<◌, ◌↔◌, true, false, not, Less, Equal, Greater, Err, List, [], ◌∷◌, length, get_or, Contains, refl, sym, ap, ◌∙◌, inl, inr, arith}
 use Rattle.std.specs.declared.cmp.Ordering.{Ordering}
 use Rattle.std.specs.Cmp.{IsTotalOrder}
 use Rattle.std.specs.Ordering.{is_eq, ordering_index, ordering_reverse}
@@ -9,13 +9,9 @@ use Rattle.std.proofs.lemmas.Cmp.{tied_itself}
 use Rattle.std.proofs.lemmas.List.Folds.{Any-from_list_any, list_any_at, list_any_none}
 use Rattle.std.proofs.lemmas.List.Kept.{AllPairs-filter}
 use Rattle.lore_lists.proofs.MemberLaws.{Contains-same, Contains-filter, unfiltered}
+use Rattle.list_laws.proofs.OrderLaws.{Equal-from_test, comparison_rises}
 use Rattle.sorted_list.specs.SortedLists.{Ascends, IsExact}
 use Rattle.sorted_list.specs.inside.Listed.{is_listed, staying}
-
-told_equal : (o : Ordering) → is_eq o ≡ true → o ≡ Equal
-told_equal Less h = absurd (true≢false (sym h))
-told_equal Equal h = refl
-told_equal Greater h = absurd (true≢false (sym h))
 
 module _ {T : Type 0} (cmp : T → T → Ordering) (total : IsTotalOrder cmp) where
   -- what stands at a place where a search ended
@@ -26,20 +22,9 @@ module _ {T : Type 0} (cmp : T → T → Ordering) (total : IsTotalOrder cmp) wh
   pub behind : (a b : T) → cmp a b ≡ Less → cmp b a ≡ Greater
   behind a b less = total.antisymm b a ∙ ap ordering_reverse less
 
-  highest : (o : Ordering) → o ≡ Greater → {p : ℕ} → p ≤ 2 → p ≤ ordering_index o
-  highest o is small = rw is small
-
-  comparison_rises : (a b x : T) → cmp a b ≡ Less → ordering_index (cmp a x) ≤ ordering_index (cmp b x)
-  comparison_rises a b x less =
-      elim (cmp a x) as (λ o. cmp a x ≡ o → ordering_index o ≤ ordering_index (cmp b x)) [
-        | Less ↦ λ _. omega arith
-        | Equal ↦ λ tie. highest (cmp b x) (behind x b (sym (total.congr a x b tie) ∙ less)) (omega arith)
-        | Greater ↦ λ above. highest (cmp b x) (behind x b (total.trans x a b (total.antisymm x a ∙ ap ordering_reverse above) less)) (omega arith)
-      ] refl
-
   comparisons_rise : (items : List T) → Ascends cmp items → (x : T) → IsNonDecreasingBy (λ item. ordering_index (cmp item x)) items
   comparisons_rise items ascend x i j d le lt = elim (cases_lt i j) [
-    | inl before ↦ comparison_rises (get_or items i d) (get_or items j d) x (ascend i j d before lt)
+    | inl before ↦ comparison_rises cmp total (get_or items i d) (get_or items j d) x (ascend i j d before lt)
     | inr ge ↦ let same : i ≡ j = omega arith in omega (arith, ap (λ k. ordering_index (cmp (get_or items k d) x)) same)
   ]
 
@@ -60,7 +45,7 @@ module _ {T : Type 0} (cmp : T → T → Ordering) (total : IsTotalOrder cmp) wh
     pub unlisted : (items : List T) (item : T) → is_listed cmp items item ≡ true → Contains items item
     unlisted items item h =
         let any = Any-from_list_any (λ other. is_eq (cmp other item)) items h in
-        let same = exact any.1 item (told_equal _ any.4) in
+        let same = exact any.1 item (Equal-from_test _ any.4) in
         Contains-same items any.1 item same (any.0, any.2, any.3)
 
     -- what stays is kept and does not go

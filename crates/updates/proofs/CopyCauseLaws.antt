@@ -2,7 +2,9 @@
 use Rattle.std.proofs.Common.{◌≡◌, ◌≢◌, ◌⊎◌, ◌↔◌, ℕ, zero, suc, ◌+◌, ◌*◌, ◌<◌, ◌≤◌, true, false, List, [], ◌∷◌, ◌++◌, length, map, Option, Some, None, Contains, All, refl, sym, ap, subst, inl, inr, ◌∙◌, arith, true≢false}
 use Rattle.std.proofs.lemmas.List.{length-map}
 use Rattle.std.proofs.lemmas.List.Elements.{Contains-append_right, All-contains}
+use Rattle.std.proofs.lemmas.Bool.{both_ways}
 use Rattle.lore_base.proofs.MemberLaws.{Contains-none, Contains-head, Contains-tail, Contains-cases}
+use Rattle.list_laws.proofs.MemberLaws.{Contains-from_map, Contains-map}
 use Rattle.lore_base.specs.Walks.{oid_of, edge_of}
 use Rattle.lore_base.specs.Databases.{OemGraph, IsLive, IsRooted}
 use Rattle.lore_base.specs.ChangeSets.{IsGraphAfter, AreSame}
@@ -22,7 +24,7 @@ use Rattle.updates.specs.Effects.{Pair, is_atomic, targets, no_changes, copied_o
 use Rattle.updates.specs.Causes.{HasTargets}
 use Rattle.updates.specs.inside.RowTests.{any_atomic}
 use Rattle.updates.specs.inside.Forms.{grown_order, copies_by, CopyCause, copy_order}
-use Rattle.updates.proofs.RowLaws.{any_found, any_holds, not_true, atomic_found, atomic_holds, map_found, map_holds}
+use Rattle.updates.proofs.RowLaws.{any_found, any_holds, atomic_found, atomic_holds}
 use Rattle.updates.proofs.FormLaws.{adds_nothing, gives_nothing}
 use Rattle.updates.proofs.StampLaws.{count_laid_out, objects_stamped, length-stamped_objects}
 use Rattle.updates.proofs.CopyLaws.{copied_parent, copies_numbered}
@@ -50,7 +52,7 @@ module _ (table : List (List ℕ)) (graph : OemGraph) (label : List ℕ) (tree :
       let valued = atomic_found graph.objects found.0.0 found.2 in
       let then = table ++ first_uses table (label ∷ labels_of tree) in
       let root = root_there graph.next then (label_in then label) tree (targets rows) found.0.0
-      (map_holds (λ (row : Pair). row.0) rows found.0 found.1) in
+      (Contains-map (λ (row : Pair). row.0) rows found.0 found.1) in
       record {
         edge = edge_of found.0.0 (label_in then label) (oid_of root.0);
         value = valued.0;
@@ -65,9 +67,9 @@ module _ (table : List (List ℕ)) (graph : OemGraph) (label : List ℕ) (tree :
       let then = table ++ first_uses table (label ∷ labels_of tree) in
       elim (copied_parent graph.next then (label_in then label) tree inside (targets rows) adds.edge adds.added) [
         | inl target ↦ (
-            let found = map_found (λ (row : Pair). row.0) rows adds.edge.parent target in
+            let found = Contains-from_map (λ (row : Pair). row.0) rows adds.edge.parent target in
             let valued = subst (λ (oid : Oid). Contains graph.objects (oid, adds.value)) (sym found.2) adds.valued in
-            not_true _ h (any_holds (λ (row : Pair). is_atomic graph.objects row.0) rows found.0 found.1
+            both_ways _ h (any_holds (λ (row : Pair). is_atomic graph.objects row.0) rows found.0 found.1
             (atomic_holds graph.objects found.0.0 adds.value valued adds.atomic)))
         | inr made ↦ (
             let within = numbered_within graph.next (copied_objects graph.next tree (targets rows)) (copies_numbered graph.next tree (targets rows))

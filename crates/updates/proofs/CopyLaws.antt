@@ -1,15 +1,17 @@
 -- Copies of a literal grow a graph by just their objects and their edges: all are reached, and none is there before.
-use Rattle.std.proofs.Common.{◌≡◌, ◌≢◌, ◌⊎◌, ◌↔◌, ℕ, zero, suc, ◌+◌, ◌*◌, ◌<◌, ◌≤◌, List, [], ◌∷◌, ◌++◌, length, map, get_or, Contains, All, AllPairs, refl, sym, ap, subst, inl, inr, ◌∙◌, arith, Less}
+use Rattle.std.proofs.Common.{◌≡◌, ◌≢◌, ◌⊎◌, ◌↔◌, ℕ, zero, suc, ◌+◌, ◌*◌, ◌<◌, ◌≤◌, List, [], ◌∷◌, ◌++◌, length, map, get_or, Contains, All, AllPairs, refl, sym, ap, subst, inl, inr, arith, Less}
 use Rattle.std.proofs.lemmas.List.{length-map}
 use Rattle.std.proofs.lemmas.List.Elements.{Contains-append_left, Contains-append_right, Contains-append_cases, Contains-get_or, All-contains, All-nil, All-cons, All-tail, All-head, All-append, All-get_or, All-from_get_or}
 use Rattle.lore_base.proofs.MemberLaws.{Contains-none, Contains-head, Contains-tail, Contains-cases}
 use Rattle.lore_base.proofs.ListLaws.{AllPairs-append, AllPairs-head, AllPairs-tail}
 use Rattle.lore_base.proofs.WalkLaws.{Walk-within}
+use Rattle.list_laws.proofs.MemberLaws.{All-from_members, Contains-from_map, Contains-map}
+use Rattle.oem_text.proofs.NumberedLaws.{AreNumberedFrom-append, numbered_from, length-objects_of, numbered_live}
 use Rattle.lore_base.specs.Walks.{oid_of, edge_of}
 use Rattle.lore_base.specs.Databases.{OemGraph, IsLive, IsLinked, IsComplex, IsReached, IsRooted, AreAscendingEdges}
 use Rattle.lore_base.specs.ChangeSets.{NamesThen, EdgesThen, AreEdgesThen, IsReachedThen, AreNumberedFrom, IsAtHand}
 use Rattle.oem_changes.specs.Growth.{Grows}
-use Rattle.oem_changes.proofs.RootedLaws.{reached_push, All-of_members}
+use Rattle.oem_changes.proofs.RootedLaws.{reached_push}
 use Rattle.oem_changes.proofs.GrowthLaws.{ascend-distinct}
 use Rattle.lorel_trees.specs.Trees.{LiteralTree}
 use Rattle.oem_labels.specs.Labels.{first_uses, label_in}
@@ -19,25 +21,10 @@ use Rattle.updates.specs.Types.{Oid, Label, Edge, Value, Changes}
 use Rattle.updates.specs.Effects.{Pair, targets, no_changes, copied_objects, copied_edges, copying}
 use Rattle.updates.specs.Causes.{HasTargets}
 use Rattle.updates.specs.inside.Stamps.{moved, stamped_edges}
-use Rattle.updates.proofs.RowLaws.{map_found, map_holds}
 use Rattle.updates.proofs.HangLaws.{hang}
-use Rattle.updates.proofs.StampLaws.{length-numbered, stamped_there, stamped_back}
+use Rattle.updates.proofs.StampLaws.{stamped_there, stamped_back}
 
 -- ---- numbers
-AreNumberedFrom-append : (next : ℕ) (front back : List (Oid × Value)) → AreNumberedFrom next front
-    → AreNumberedFrom (next + length front) back → AreNumberedFrom next (front ++ back)
-AreNumberedFrom-append next [] back h k = let same : next + 0 ≡ next = omega arith in subst (λ n. AreNumberedFrom n back) same k
-AreNumberedFrom-append next (object ∷ front) back h k =
-    let same : next + length (object ∷ front) ≡ (next + 1) + length front = omega arith in
-    (h.0, AreNumberedFrom-append (next + 1) front back h.1 (subst (λ n. AreNumberedFrom n back) same k))
-
-numbered_from : (next : ℕ) (values : List Value) → AreNumberedFrom next (numbered next values)
-numbered_from next [] = tt
-numbered_from next (value ∷ others) = (refl, numbered_from (next + 1) others)
-
-length-objects_of : (next : ℕ) (tree : LiteralTree) → length (objects_of next tree) ≡ length (bodies tree)
-length-objects_of next tree = length-numbered next (map (λ (body : Body). body.value) (bodies tree)) ∙ length-map (bodies tree) (λ (body : Body). body.value)
-
 pub copies_numbered : (next : ℕ) (tree : LiteralTree) (parents : List Oid) → AreNumberedFrom next (copied_objects next tree parents)
 copies_numbered next tree [] = tt
 copies_numbered next tree (parent ∷ others) =
@@ -57,18 +44,6 @@ All-numbered R next (value ∷ others) h =
     (All-numbered R (next + 1) others
     (λ k low. let same : next + suc k ≡ (next + 1) + k = omega arith in subst (λ n. R (oid_of n)) same (h (suc k) (omega (arith, low)))))
 
--- and each of these numbers is there
-numbered_live : (next : ℕ) (values : List Value) (k : ℕ) → k < length values → IsLive (numbered next values) (oid_of (next + k))
-numbered_live next [] k low = absurd (omega (arith, low))
-numbered_live next (value ∷ others) zero low =
-    let same : next ≡ next + 0 = omega arith in
-    subst (λ n. IsLive (numbered next (value ∷ others)) (oid_of n)) same (value, Contains-head (oid_of next, value) (numbered (next + 1) others))
-numbered_live next (value ∷ others) (suc k) low =
-    let same : (next + 1) + k ≡ next + suc k = omega arith in
-    let inner = numbered_live (next + 1) others k (omega (arith, low)) in
-    subst (λ n. IsLive (numbered next (value ∷ others)) (oid_of n)) same
-    (inner.0, Contains-tail (oid_of next, value) (numbered (next + 1) others) (oid_of ((next + 1) + k), inner.0) inner.1)
-
 -- ---- what goes along edges from the targets comes to all objects of the copies
 module _ (R : Oid → Type 0) (between : List Edge) (table : List (List ℕ)) (label : Label) (tree : LiteralTree)
     (step : (edge : Edge) → Contains between edge → R edge.parent → R edge.child) where
@@ -78,7 +53,7 @@ module _ (R : Oid → Type 0) (between : List Edge) (table : List (List ℕ)) (l
   led next arc child is at =
       subst (Contains (edges_of next table tree))
       (ap (λ (t : Target). edge_of (oid_of (next + arc.parent)) (label_in table arc.label) (oid_of (next + place_of (bodies tree) t))) is)
-      (map_holds (edge_at next table (bodies tree)) (arcs_of tree) arc at)
+      (Contains-map (edge_at next table (bodies tree)) (arcs_of tree) arc at)
 
   copy_reached : (next : ℕ) → ((edge : Edge) → Contains (edges_of next table tree) edge → Contains between edge) → R (oid_of next)
       → All (λ (object : Oid × Value). R object.0) (objects_of next tree)
@@ -127,7 +102,7 @@ copied_parent next table label tree inside (parent ∷ others) edge h =
       | inl is ↦ inl (subst (λ (e : Edge). Contains (parent ∷ others) e.parent) is (Contains-head parent others))
       | inr later ↦ elim (Contains-append_cases own rest edge later) [
         | inl here ↦ (
-            let found = map_found (edge_at next table (bodies tree)) (arcs_of tree) edge here in
+            let found = Contains-from_map (edge_at next table (bodies tree)) (arcs_of tree) edge here in
             let low = All-contains (λ (arc : Arc). arc.parent < size) (arcs_of tree) found.0 inside found.1 in
             let live = numbered_live next (map (λ (body : Body). body.value) (bodies tree)) found.0.parent
             (omega (arith, length-map (bodies tree) (λ (body : Body). body.value), low)) in
@@ -160,7 +135,7 @@ distinct-append {X} xs ys h k apart =
 moved_child : (next : ℕ) (edges : List Edge) (edge : Edge) → Contains (map (moved next) edges) edge
     → (place : Edge) × Contains edges place × (edge.child.0 ≡ next + place.child.0) × (edge.parent.0 ≡ next + place.parent.0)
 moved_child next edges edge h =
-    let found = map_found (moved next) edges edge h in
+    let found = Contains-from_map (moved next) edges edge h in
     (found.0, found.1, sym (ap (λ (e : Edge). e.child.0) found.2), sym (ap (λ (e : Edge). e.parent.0) found.2))
 
 -- children have the numbers of copies
@@ -194,7 +169,7 @@ distinct-map : {X Y : Type 0} (f : X → Y) → ((a b : X) → f a ≡ f b → a
 distinct-map {X} {Y} f once [] h = λ i j d lt low. absurd (omega (arith, low))
 distinct-map {X} {Y} f once (x ∷ xs) h =
     distinct-cons (f x) (map f xs)
-    (λ there. let found = map_found f xs (f x) there in
+    (λ there. let found = Contains-from_map f xs (f x) there in
     AllPairs-head (λ (a b : X). a ≢ b) x xs h found.0 found.1 (sym (once found.0 x found.2)))
     (distinct-map f once xs (AllPairs-tail (λ (a b : X). a ≢ b) x xs h))
 
@@ -257,7 +232,7 @@ module _ (table : List (List ℕ)) (graph : OemGraph) (label : List ℕ) (tree :
 
   target_live : (parent : Oid) → Contains (targets rows) parent → IsLive graph.objects parent
   target_live parent at =
-      let found = map_found (λ (row : Pair). row.0) rows parent at in
+      let found = Contains-from_map (λ (row : Pair). row.0) rows parent at in
       subst (IsLive graph.objects) found.2 (All-contains (λ (row : Pair). IsLive graph.objects row.0) rows found.0 live found.1)
 
   live_number : (oid : Oid) → IsLive graph.objects oid → oid.0 < graph.next
@@ -274,7 +249,7 @@ module _ (table : List (List ℕ)) (graph : OemGraph) (label : List ℕ) (tree :
     named = refl;
     unnamed = refl;
     numbered = copies_numbered graph.next tree (targets rows);
-    parents = All-of_members (λ (edge : Edge). IsAtHand graph copies edge.parent) copies.added (λ edge at.
+    parents = All-from_members (λ (edge : Edge). IsAtHand graph copies edge.parent) copies.added (λ edge at.
         elim (copied_parent graph.next then_table (label_in then_table label) tree inside (targets rows) edge at) [
           | inl target ↦ inl (target_live edge.parent target)
           | inr made ↦ inr made
@@ -282,14 +257,14 @@ module _ (table : List (List ℕ)) (graph : OemGraph) (label : List ℕ) (tree :
     reached = λ between linked.
         copies_reached (IsReachedThen graph.names copies between) between then_table (label_in then_table label) tree
         (λ edge at held. reached_push graph.names copies between edge.parent edge.label edge.child at held) graph.next (targets rows)
-        (All-of_members (IsReachedThen graph.names copies between) (targets rows) (λ parent at.
+        (All-from_members (IsReachedThen graph.names copies between) (targets rows) (λ parent at.
         let there = target_live parent at in
         reached_before graph copies between linked refl refl refl parent
         (All-contains (λ (o : Oid × Value). IsReached graph.names graph.edges o.0) graph.objects (parent, there.0) rooted.reached there.1)))
         (λ edge at. (linked.exact edge).1 (inl at));
     distinct = stamped_distinct graph.next graph.next (length (bodies tree)) (label_in then_table label) edges
         (ascend-distinct edges ascend) below some (omega arith) (targets rows)
-        (All-of_members (λ (parent : Oid). parent.0 < graph.next) (targets rows) (λ parent at. live_number parent (target_live parent at)));
+        (All-from_members (λ (parent : Oid). parent.0 < graph.next) (targets rows) (λ parent at. live_number parent (target_live parent at)));
     exact = λ edge. (
       λ at. (
         stamped_there then_table (label_in then_table label) tree edges same graph.next (targets rows) edge at,

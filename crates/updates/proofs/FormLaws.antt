@@ -1,6 +1,7 @@
 -- Why the changes of a form of update are refused, and when they aren't.
 use Rattle.std.proofs.Common.{◌≡◌, ◌≢◌, ◌⊎◌, ℕ, ◌+◌, ◌<◌, ◌≤◌, Bool, true, false, if◌then◌else◌, List, [], ◌∷◌, ◌++◌, length, map, Option, Some, None, Contains, refl, sym, ap, subst, inl, inr, ◌∙◌, arith, true≢false}
 use Rattle.std.specs.List.{filter}
+use Rattle.std.proofs.lemmas.Bool.{both_ways}
 use Rattle.lore_base.specs.Databases.{OemGraph}
 use Rattle.lore_base.specs.Verdicts.{IsFirst, IsClear}
 use Rattle.lore_base.specs.ChangeSets.{HasChildren}
@@ -9,12 +10,13 @@ use Rattle.lore_base.specs.Walks.{edge_of}
 use Rattle.lore_base.proofs.MemberLaws.{Contains-none, Contains-same}
 use Rattle.oem_labels.specs.Labels.{first_uses, label_in}
 use Rattle.lore_base.proofs.ToldLaws.{told_complex, complex_decides, atom_only}
+use Rattle.list_laws.proofs.MemberLaws.{Contains-from_map, Contains-map}
 use Rattle.updates.specs.Types.{Oid, Label, Edge, Value, Whole, Chars, Flag, Complex, Changes, Refusal, LABELS, NEXT_NUMBER}
 use Rattle.updates.specs.Types.refusals
 use Rattle.updates.specs.Effects.{Pair, is_atomic, targets, takers, assigning, links, linking, unlinking, no_changes}
 use Rattle.updates.specs.inside.RowTests.{has_child, any_parent, hides_children, links_atom, any_atomic_link}
 use Rattle.updates.specs.inside.Forms.{form_order}
-use Rattle.updates.proofs.RowLaws.{any_found, any_holds, not_true, atomic_found, atomic_holds, child_found, child_holds, map_found, map_holds, link_found, link_holds}
+use Rattle.updates.proofs.RowLaws.{any_found, any_holds, atomic_found, atomic_holds, child_found, child_holds, link_found, link_holds}
 
 -- ---- assignments
 hides_by : (graph : OemGraph) (value : Value) (rows : List Pair) (changes : Changes) → changes.values ≡ map (λ oid. (oid, value)) (targets rows) → value ≢ Complex
@@ -23,7 +25,7 @@ hides_by graph value rows changes is atomic row there parent = record {
   oid = row.0;
   value = value;
   valued = subst (λ (l : List (Oid × Value)). Contains l (row.0, value)) (sym is)
-      (map_holds (λ (oid : Oid). (oid, value)) (targets rows) row.0 (map_holds (λ (r : Pair). r.0) rows row there));
+      (Contains-map (λ (oid : Oid). (oid, value)) (targets rows) row.0 (Contains-map (λ (r : Pair). r.0) rows row there));
   atomic = atomic;
   parent = child_found graph.edges row.0 parent;
 }
@@ -50,8 +52,8 @@ hides graph value rows h = elim (told_complex value) [
 given_target : (value : Value) (rows : List Pair) (oid : Oid) (given : Value) → Contains {X = Oid × Value} (map (λ o. (o, value)) (targets rows)) (oid, given)
     → (row : Pair) × Contains rows row × (row.0 ≡ oid)
 given_target value rows oid given h =
-    let pair = map_found (λ (o : Oid). (o, value)) (targets rows) (oid, given) h in
-    let row = map_found (λ (r : Pair). r.0) rows pair.0 pair.1 in
+    let pair = Contains-from_map (λ (o : Oid). (o, value)) (targets rows) (oid, given) h in
+    let row = Contains-from_map (λ (r : Pair). r.0) rows pair.0 pair.1 in
     (row.0, row.1, row.2 ∙ ap (λ (p : Oid × Value). p.0) pair.2)
 
 unhidden_by : (graph : OemGraph) (value : Value) (rows : List Pair) (changes : Changes) → changes.values ≡ map (λ oid. (oid, value)) (targets rows)
@@ -66,13 +68,13 @@ pub unhidden : (graph : OemGraph) (value : Value) (rows : List Pair) → hides_c
 unhidden graph value rows h hidden = elim (told_complex value) [
   | inl complex ↦ (
       let valued = subst (λ (v : Value). Contains {X = Oid × Value} (map (λ oid. (oid, v)) (takers graph.objects v (targets rows))) (hidden.oid, hidden.value)) complex hidden.valued in
-      let pair = map_found (λ (oid : Oid). (oid, Complex)) (filter (is_atomic graph.objects) (targets rows)) (hidden.oid, hidden.value) valued in
+      let pair = Contains-from_map (λ (oid : Oid). (oid, Complex)) (filter (is_atomic graph.objects) (targets rows)) (hidden.oid, hidden.value) valued in
       hidden.atomic (sym (ap (λ (p : Oid × Value). p.1) pair.2)))
   | inr atom ↦ (
       let none = sym (ap (λ (b : Bool). if b then false else any_parent graph.edges rows) (atom_only value atom)) ∙ h in
       unhidden_by graph value rows (assigning graph.objects value (targets rows))
       (ap (λ (oids : List Oid). map (λ oid. (oid, value)) oids) (taken graph.objects value (targets rows) atom))
-      (λ row there parent. not_true _ none (any_holds (λ (r : Pair). has_child graph.edges r.0) rows row there parent)) hidden)
+      (λ row there parent. both_ways _ none (any_holds (λ (r : Pair). has_child graph.edges r.0) rows row there parent)) hidden)
 ]
 
 -- ---- links
@@ -98,7 +100,7 @@ link_adds_none table graph label rows h adds =
     let found = link_found (label_in (table ++ first_uses table (label ∷ [])) label) rows adds.edge adds.added in
     let parent : adds.edge.parent ≡ found.0 = sym (ap (λ (edge : Edge). edge.parent) found.3) in
     let valued = subst (λ (oid : Oid). Contains graph.objects (oid, adds.value)) parent adds.valued in
-    not_true _ h (any_holds (links_atom graph.objects) rows (found.0, Some found.1) found.2
+    both_ways _ h (any_holds (links_atom graph.objects) rows (found.0, Some found.1) found.2
     (atomic_holds graph.objects found.0 adds.value valued adds.atomic))
 
 -- ---- changes that add no edge, give no value, make no object

@@ -1,17 +1,12 @@
 -- One row more, where copies are stamped.
 use Rattle.std.proofs.Common.{◌≡◌, ℕ, suc, ◌+◌, ◌*◌, ◌<◌, ◌≤◌, List, [], ◌∷◌, ◌++◌, None, length, map, get_or, drop, append_assoc, length-drop, add-one, refl, sym, ap, subst, ◌∙◌, arith}
 use Rattle.std.proofs.Math.Seq.{drop-cons}
+use Rattle.list_laws.proofs.PartLaws.{drop_more_read}
 use Rattle.updates.specs.Types.{Oid, Label, Edge, Value}
 use Rattle.lore_base.specs.Walks.{oid_of, edge_of}
 use Rattle.oem_text.specs.Literals.{numbered}
 use Rattle.updates.specs.Effects.{Pair, targets}
 use Rattle.updates.specs.inside.Stamps.{moved, stamped_objects, stamped_edges}
-
--- the rows that are left begin with the one at hand
-pub rows_left : (rows : List Pair) (i : ℕ) (row : Pair) → i < length rows → row ≡ get_or rows i row → drop i rows ≡ row ∷ drop (i + 1) rows
-rows_left rows i row low is =
-    let next : suc i ≡ i + 1 = sym (add-one i) in
-    drop-cons rows i row low ∙ ap (λ (r : Pair). r ∷ drop (suc i) rows) (sym is) ∙ ap (λ (n : ℕ). row ∷ drop n rows) next
 
 pub objects_more : (made added whole : List (Oid × Value)) (base size : ℕ) (values : List Value) (rows : List Pair) (i : ℕ)
     → i < length rows → size ≡ length values → added ≡ made ++ numbered base values
@@ -37,7 +32,7 @@ edges_more made rooted added whole base size label edges rows i row low is root 
     ap (λ (l : List Edge). l ++ rest) (more ∙ ap (λ (l : List Edge). l ++ own) root)
     ∙ ap (λ (l : List Edge). l ++ rest) (append_assoc made (first ∷ []) own)
     ∙ append_assoc made (first ∷ own) rest
-    ∙ ap (λ (l : List Pair). made ++ stamped_edges base size label edges (targets l)) (sym (rows_left rows i row low is))
+    ∙ ap (λ (l : List Pair). made ++ stamped_edges base size label edges (targets l)) (sym (drop_more_read rows i row low is))
     ∙ before
 
 -- and room is left for the copies of the others

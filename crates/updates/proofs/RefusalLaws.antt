@@ -3,13 +3,14 @@
 use Rattle.std.proofs.Common.{◌≡◌, ◌≢◌, ◌⊎◌, ◌↔◌, ℕ, zero, suc, ◌+◌, ◌*◌, ◌<◌, ◌≤◌, true, false, List, [], ◌∷◌, ◌++◌, length, map, Some, Contains, All, refl, sym, ap, subst, ◌∙◌, arith}
 use Rattle.std.proofs.lemmas.List.{length-map}
 use Rattle.std.proofs.lemmas.List.Elements.{All-contains}
+use Rattle.list_laws.proofs.MemberLaws.{All-from_members, Contains-from_map, Contains-map}
+use Rattle.oem_text.proofs.LayoutLaws.{texts-of_layout}
 use Rattle.lore_base.specs.Walks.{oid_of, edge_of}
 use Rattle.lore_base.specs.Databases.{OemGraph, IsRooted, AreAscendingEdges}
 use Rattle.lore_base.specs.ChangeSets.{AreSame}
 use Rattle.lore_base.specs.ChangeCauses.{AddsToAtom, ChangeCause}
 use Rattle.lore_base.specs.Verdicts.{IsFirst, IsClear}
 use Rattle.oem_changes.specs.Growth.{Grows}
-use Rattle.oem_changes.proofs.RootedLaws.{All-of_members}
 use Rattle.lorel_trees.specs.Trees.{LiteralTree}
 use Rattle.oem_labels.specs.Labels.{first_uses, label_in}
 use Rattle.oem_text.specs.Literals.{Body, Arc, bodies, arcs_of, labels_of}
@@ -23,8 +24,7 @@ use Rattle.updates.specs.inside.RowTests.{any_atomic}
 use Rattle.updates.specs.inside.Forms.{grown_order, copies_by, CopyCause, copy_order}
 use Rattle.updates.specs.inside.Stamps.{stamped_objects, stamped_edges, IsStamp}
 use Rattle.updates.specs.declared.stamps.Stamp.{Stamp}
-use Rattle.updates.proofs.RowLaws.{map_found, map_holds}
-use Rattle.updates.proofs.StampLaws.{count_laid_out, texts_laid_out, objects_stamped, length-stamped_edges, stamped_there, stamped_back}
+use Rattle.updates.proofs.StampLaws.{count_laid_out, objects_stamped, length-stamped_edges, stamped_there, stamped_back}
 use Rattle.updates.proofs.CopyLaws.{copies_grow}
 use Rattle.updates.proofs.CopyCauseLaws.{copy_adds, copy_adds_none, copies_many, grown_atom, grown_spent, grown_full, grown_many_objects, grown_many_edges, grown_clear, copy_told, copy_clear, some_copies}
 
@@ -50,7 +50,7 @@ module _ (tree : LiteralTree) (layout : LaidOut) (is : layout ≡ layout_of tree
   count_is = ap (λ (l : LaidOut). length l.values) is ∙ count_laid_out tree
 
   pub texts_are : texts_of layout ≡ labels_of tree
-  texts_are = ap (λ (l : LaidOut). texts_of l) is ∙ texts_laid_out tree
+  texts_are = ap (λ (l : LaidOut). texts_of l) is ∙ texts-of_layout tree
 
   pub some_body : 0 < length (bodies tree)
   some_body = omega (arith, joined.some, count_is)
@@ -58,18 +58,18 @@ module _ (tree : LiteralTree) (layout : LaidOut) (is : layout ≡ layout_of tree
   below : (arc : Arc) → Contains (arcs_of tree) arc → IsBelow (length layout.values) (placed_arc (bodies tree) arc)
   below arc at =
       All-contains (IsBelow (length layout.values)) layout.arcs (placed_arc (bodies tree) arc) joined.joined
-      (subst (λ (l : LaidOut). Contains l.arcs (placed_arc (bodies tree) arc)) (sym is) (map_holds (placed_arc (bodies tree)) (arcs_of tree) arc at))
+      (subst (λ (l : LaidOut). Contains l.arcs (placed_arc (bodies tree) arc)) (sym is) (Contains-map (placed_arc (bodies tree)) (arcs_of tree) arc at))
 
   pub arcs_inside : All (λ (arc : Arc). arc.parent < length (bodies tree)) (arcs_of tree)
-  arcs_inside = All-of_members (λ (arc : Arc). arc.parent < length (bodies tree)) (arcs_of tree)
+  arcs_inside = All-from_members (λ (arc : Arc). arc.parent < length (bodies tree)) (arcs_of tree)
       (λ arc at. let low = (below arc at).parent in omega (arith, low, count_is))
 
 -- edges between places join places of objects
 pub stamp_inside : (table : List (List ℕ)) (text : List ℕ) (layout : LaidOut) (stamp : Stamp) → IsJoined layout → IsStamp table text layout stamp
     → All (λ (edge : Edge). (edge.parent.0 < length layout.values) × (edge.child.0 < length layout.values)) stamp.edges
 stamp_inside table text layout stamp joined h =
-    All-of_members (λ (edge : Edge). (edge.parent.0 < length layout.values) × (edge.child.0 < length layout.values)) stamp.edges (λ edge at.
-    let found = map_found (edge_from 0 (table ++ stamp.texts)) layout.arcs edge ((h.edges edge).0 at) in
+    All-from_members (λ (edge : Edge). (edge.parent.0 < length layout.values) × (edge.child.0 < length layout.values)) stamp.edges (λ edge at.
+    let found = Contains-from_map (edge_from 0 (table ++ stamp.texts)) layout.arcs edge ((h.edges edge).0 at) in
     let low = All-contains (IsBelow (length layout.values)) layout.arcs found.0 joined.joined found.1 in
     let parent : 0 + found.0.parent ≡ edge.parent.0 = ap (λ (e : Edge). e.parent.0) found.2 in
     let child : 0 + found.0.child ≡ edge.child.0 = ap (λ (e : Edge). e.child.0) found.2 in
@@ -131,7 +131,7 @@ module _ (table : List (List ℕ)) (graph : OemGraph) (label : List ℕ) (tree :
         grows : Grows graph copies fresh
         grows = copies_grow table graph label tree rows rooted live stamp.edges (some_body tree layout is joined) (arcs_inside tree layout is joined)
             members stamped.ascend
-            (All-of_members (λ (edge : Edge). edge.child.0 < length (bodies tree)) stamp.edges (λ edge at.
+            (All-from_members (λ (edge : Edge). edge.child.0 < length (bodies tree)) stamp.edges (λ edge at.
             let low = All-contains (λ (e : Edge). (e.parent.0 < length layout.values) × (e.child.0 < length layout.values)) stamp.edges edge
             (stamp_inside table label layout stamp joined stamped) at in
             omega (arith, low.1, count_is tree layout is joined)))

@@ -1,8 +1,9 @@
 -- What tests of rows say of the graph and of the changes that come from the rows.
-use Rattle.std.proofs.Common.{◌≡◌, ◌≢◌, ◌⊎◌, ℕ, zero, Bool, true, false, not, IsTrue, ◌↔◌, ◌||◌, ◌&&◌, if◌then◌else◌, eqb, List, [], ◌∷◌, ◌++◌, map, Option, Some, None, Contains, refl, sym, ap, subst, inl, inr, ◌∙◌, arith, true≢false}
+use Rattle.std.proofs.Common.{◌≡◌, ◌≢◌, ℕ, zero, Bool, true, false, not, IsTrue, ◌↔◌, ◌||◌, ◌&&◌, if◌then◌else◌, eqb, List, [], ◌∷◌, ◌++◌, Option, Some, None, Contains, refl, sym, ap, subst, inl, inr, ◌∙◌, arith, true≢false}
 use Rattle.std.specs.List.{list_any, flat_map}
 use Rattle.std.proofs.lemmas.List.Elements.{Contains-append_left, Contains-append_right, Contains-append_cases}
 use Rattle.std.proofs.lemmas.Bool.Decides.{nat_tests}
+use Rattle.std.proofs.lemmas.Bool.{or_cases, or_right, false_from_ne_true, and_parts, and_from}
 use Rattle.lore_base.proofs.MemberLaws.{Contains-none, Contains-head, Contains-tail, Contains-cases}
 use Rattle.lore_base.proofs.ToldLaws.{told_complex, complex_decides, complex_only, atom_only}
 use Rattle.updates.specs.Types.{Oid, Label, Edge, Value, Complex}
@@ -11,14 +12,6 @@ use Rattle.lore_base.specs.Databases.{IsLive, is_complex}
 use Rattle.lore_base.specs.ChangeSets.{HasChildren}
 use Rattle.updates.specs.Effects.{Pair, is_atomic, targets, link_of, links}
 use Rattle.updates.specs.inside.RowTests.{has_child, links_atom}
-
-or_cases : (a b : Bool) → (a || b) ≡ true → (a ≡ true) ⊎ (b ≡ true)
-or_cases true b h = inl refl
-or_cases false b h = inr h
-
-or_later : (a b : Bool) → b ≡ true → (a || b) ≡ true
-or_later true b h = refl
-or_later false b h = h
 
 -- ---- some item passes
 pub any_found : {X : Type 0} (test : X → Bool) (xs : List X) → list_any test xs ≡ true → (x : X) × Contains xs x × (test x ≡ true)
@@ -34,23 +27,8 @@ any_holds {X} test [] x h passes = absurd (Contains-none x h)
 any_holds {X} test (y ∷ xs) x h passes =
     elim (Contains-cases y xs x h) [
       | inl same ↦ ap (λ b. b || list_any test xs) (ap test same ∙ passes)
-      | inr later ↦ or_later (test y) (list_any test xs) (any_holds test xs x later passes)
+      | inr later ↦ or_right (test y) (list_any test xs) (any_holds test xs x later passes)
     ]
-
-pub is_false : (b : Bool) → (b ≡ true → ⊥) → b ≡ false
-is_false true h = absurd (h refl)
-is_false false h = refl
-
-pub not_true : (b : Bool) → b ≡ false → b ≡ true → ⊥
-not_true b none some = true≢false (sym some ∙ none)
-
-and_parts : (a b : Bool) → (a && b) ≡ true → (a ≡ true) × (b ≡ true)
-and_parts true b h = (refl, h)
-and_parts false b h = absurd (true≢false (sym h))
-
-and_both : (a b : Bool) → a ≡ true → b ≡ true → (a && b) ≡ true
-and_both true b h k = k
-and_both false b h k = absurd (true≢false (sym h))
 
 -- ---- values
 atomic_test : (value : Value) → (if is_complex value then false else true) ≡ true → value ≢ Complex
@@ -81,20 +59,20 @@ pub atomic_holds : (objects : List (Oid × Value)) (oid : Oid) (value : Value) �
     → is_atomic objects oid ≡ true
 atomic_holds objects oid value there atomic =
     any_holds (λ (object : Oid × Value). eqb object.0.0 oid.0 && (if is_complex object.1 then false else true)) objects (oid, value) there
-    (and_both (eqb oid.0 oid.0) (if is_complex value then false else true) (own_number oid) (atomic_passes value atomic))
+    (and_from (eqb oid.0 oid.0) (if is_complex value then false else true) (own_number oid) (atomic_passes value atomic))
 
 -- told by the one value that the object has, or by none
 pub atomic_is : (objects : List (Oid × Value)) (oid : Oid) (value : Value) → Contains objects (oid, value)
     → ((other : Value) → Contains objects (oid, other) → other ≡ value) → not (is_complex value) ≡ is_atomic objects oid
 atomic_is objects oid value there only = elim (told_complex value) [
   | inl complex ↦ ap not ((complex_decides value).1 complex)
-      ∙ sym (is_false (is_atomic objects oid) (λ h. let found = atomic_found objects oid h in found.2 (only found.0 found.1 ∙ complex)))
+      ∙ sym (false_from_ne_true (is_atomic objects oid) (λ h. let found = atomic_found objects oid h in found.2 (only found.0 found.1 ∙ complex)))
   | inr atom ↦ ap not (atom_only value atom) ∙ sym (atomic_holds objects oid value there atom)
 ]
 
 pub atomic_none : (objects : List (Oid × Value)) (oid : Oid) → (IsLive objects oid → ⊥) → false ≡ is_atomic objects oid
 atomic_none objects oid none =
-    sym (is_false (is_atomic objects oid) (λ h. let found = atomic_found objects oid h in none (found.0, found.1)))
+    sym (false_from_ne_true (is_atomic objects oid) (λ h. let found = atomic_found objects oid h in none (found.0, found.1)))
 
 -- ---- whether an edge leaves an object
 pub child_found : (edges : List Edge) (oid : Oid) → has_child edges oid ≡ true → HasChildren edges oid
@@ -109,25 +87,9 @@ child_holds edges oid h =
 
 pub child_is : (b : Bool) (edges : List Edge) (oid : Oid) → IsTrue b ↔ HasChildren edges oid → b ≡ has_child edges oid
 child_is true edges oid h = sym (child_holds edges oid (h.0 refl))
-child_is false edges oid h = sym (is_false (has_child edges oid) (λ k. true≢false (sym (h.1 (child_found edges oid k)))))
+child_is false edges oid h = sym (false_from_ne_true (has_child edges oid) (λ k. true≢false (sym (h.1 (child_found edges oid k)))))
 
 -- ---- members of the lists that come from rows
-pub map_found : {X Y : Type 0} (f : X → Y) (xs : List X) (y : Y) → Contains (map f xs) y → (x : X) × Contains xs x × (f x ≡ y)
-map_found {X} {Y} f [] y h = absurd (Contains-none y h)
-map_found {X} {Y} f (x ∷ xs) y h =
-    elim (Contains-cases (f x) (map f xs) y h) [
-      | inl same ↦ (x, Contains-head x xs, same)
-      | inr later ↦ let found = map_found f xs y later in (found.0, Contains-tail x xs found.0 found.1, found.2)
-    ]
-
-pub map_holds : {X Y : Type 0} (f : X → Y) (xs : List X) (x : X) → Contains xs x → Contains (map f xs) (f x)
-map_holds {X} {Y} f [] x h = absurd (Contains-none x h)
-map_holds {X} {Y} f (y ∷ xs) x h =
-    elim (Contains-cases y xs x h) [
-      | inl same ↦ subst (λ (z : X). Contains (f y ∷ map f xs) (f z)) same (Contains-head (f y) (map f xs))
-      | inr later ↦ Contains-tail (f y) (map f xs) (f x) (map_holds f xs x later)
-    ]
-
 pub link_found : (label : Label) (rows : List Pair) (edge : Edge) → Contains (links label rows) edge
     → (parent child : Oid) × Contains rows (parent, Some child) × (edge_of parent label child ≡ edge)
 link_found label [] edge h = absurd (Contains-none edge h)

@@ -3,24 +3,19 @@ use Rattle.std.proofs.Common.{◌≡◌, ◌≢◌, ◌⊎◌, ◌↔◌, ℕ, z
 use Rattle.std.proofs.lemmas.List.{length-map}
 use Rattle.std.proofs.lemmas.List.Elements.{Contains-append_left, Contains-append_right, Contains-append_cases, All-contains}
 use Rattle.lore_base.proofs.MemberLaws.{Contains-none, Contains-head, Contains-tail, Contains-cases}
+use Rattle.list_laws.proofs.PartLaws.{map-map}
+use Rattle.list_laws.proofs.MemberLaws.{Contains-from_map, Contains-map}
+use Rattle.oem_text.proofs.NumberedLaws.{length-numbered}
 use Rattle.lore_base.specs.Walks.{oid_of, edge_of}
 use Rattle.lorel_trees.specs.Trees.{LiteralTree}
 use Rattle.oem_labels.specs.Labels.{label_in}
-use Rattle.oem_text.specs.Literals.{Body, Arc, bodies, arcs_of, labels_of, numbered, edge_at, objects_of, edges_of}
-use Rattle.oem_text.specs.Layouts.{PlacedArc, LaidOut, placed_arc, layout_of, texts_of, edge_from, edges_from}
+use Rattle.oem_text.specs.Literals.{Body, Arc, bodies, arcs_of, numbered, edge_at, objects_of, edges_of}
+use Rattle.oem_text.specs.Layouts.{PlacedArc, LaidOut, placed_arc, layout_of, edge_from, edges_from}
 use Rattle.updates.specs.Types.{Oid, Label, Edge, Value}
 use Rattle.updates.specs.Effects.{copied_objects, copied_edges}
 use Rattle.updates.specs.inside.Stamps.{moved, stamped_objects, stamped_edges}
-use Rattle.updates.proofs.RowLaws.{map_found, map_holds}
-
-pub map-map : {X Y Z : Type 0} (g : Y → Z) (f : X → Y) (xs : List X) → map g (map f xs) ≡ map (λ x. g (f x)) xs
-map-map {X} {Y} {Z} g f [] = refl
-map-map {X} {Y} {Z} g f (x ∷ xs) = ap (λ (l : List Z). g (f x) ∷ l) (map-map g f xs)
 
 -- ---- texts
-pub texts_laid_out : (tree : LiteralTree) → texts_of (layout_of tree) ≡ labels_of tree
-texts_laid_out tree = map-map (λ (arc : PlacedArc). arc.label) (placed_arc (bodies tree)) (arcs_of tree)
-
 -- ---- objects
 pub count_laid_out : (tree : LiteralTree) → length (layout_of tree).values ≡ length (bodies tree)
 count_laid_out tree = length-map (bodies tree) (λ (body : Body). body.value)
@@ -32,10 +27,6 @@ objects_stamped next tree (parent ∷ others) =
     ap (λ (l : List (Oid × Value)). objects_of next tree ++ l)
     (ap (λ (n : ℕ). stamped_objects (next + n) (layout_of tree).values others) (count_laid_out tree)
     ∙ objects_stamped (next + length (bodies tree)) tree others)
-
-pub length-numbered : (next : ℕ) (values : List Value) → length (numbered next values) ≡ length values
-length-numbered next [] = refl
-length-numbered next (value ∷ others) = ap (λ (n : ℕ). suc n) (length-numbered (next + 1) others)
 
 pub length-stamped_objects : (next : ℕ) (values : List Value) (parents : List Oid)
     → length (stamped_objects next values parents) ≡ length parents * length values
@@ -63,7 +54,7 @@ edges_moved base table (arc ∷ arcs) =
 pub edges_laid_out : (next : ℕ) (table : List (List ℕ)) (tree : LiteralTree)
     → edges_of next table tree ≡ map (moved next) (edges_from 0 table (layout_of tree))
 edges_laid_out next table tree =
-    sym (map-map (edge_from next table) (placed_arc (bodies tree)) (arcs_of tree))
+    sym (map-map (placed_arc (bodies tree)) (edge_from next table) (arcs_of tree))
     ∙ edges_moved next table (layout_of tree).arcs
 
 pub length-stamped_edges : (next size : ℕ) (label : Label) (edges : List Edge) (parents : List Oid)
@@ -83,16 +74,16 @@ module _ (table : List (List ℕ)) (label : Label) (tree : LiteralTree) (edges :
   -- the edges of one copy
   copy_there : (next : ℕ) (edge : Edge) → Contains (map (moved next) edges) edge → Contains (edges_of next table tree) edge
   copy_there next edge h =
-      let found = map_found (moved next) edges edge h in
+      let found = Contains-from_map (moved next) edges edge h in
       subst (λ (l : List Edge). Contains l edge) (sym (edges_laid_out next table tree))
       (subst (Contains (map (moved next) (edges_from 0 table (layout_of tree)))) found.2
-      (map_holds (moved next) (edges_from 0 table (layout_of tree)) found.0 ((same found.0).0 found.1)))
+      (Contains-map (moved next) (edges_from 0 table (layout_of tree)) found.0 ((same found.0).0 found.1)))
 
   copy_back : (next : ℕ) (edge : Edge) → Contains (edges_of next table tree) edge → Contains (map (moved next) edges) edge
   copy_back next edge h =
-      let found = map_found (moved next) (edges_from 0 table (layout_of tree)) edge
+      let found = Contains-from_map (moved next) (edges_from 0 table (layout_of tree)) edge
       (subst (λ (l : List Edge). Contains l edge) (edges_laid_out next table tree) h) in
-      subst (Contains (map (moved next) edges)) found.2 (map_holds (moved next) edges found.0 ((same found.0).1 found.1))
+      subst (Contains (map (moved next) edges)) found.2 (Contains-map (moved next) edges found.0 ((same found.0).1 found.1))
 
   pub stamped_there : (next : ℕ) (parents : List Oid) (edge : Edge)
       → Contains (stamped_edges next (length (bodies tree)) label edges parents) edge

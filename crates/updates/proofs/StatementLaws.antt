@@ -1,5 +1,6 @@
 -- What a statement changes and why it is refused, told by what its form changes and why that is refused.
 use Rattle.std.proofs.Common.{◌≡◌, ◌≢◌, ℕ, List, [], ◌∷◌, Option, Some, None, Result, Ok, Err, OnOk, IfOk, IfErr, refl, sym, ap, subst, inl, inr}
+use Rattle.std.proofs.lemmas.Result.{IfOk-weaker, IfErr-weaker}
 use Rattle.lore_base.specs.Databases.{OemGraph}
 use Rattle.lore_base.specs.ChangeSets.{AreSame}
 use Rattle.lore_base.specs.ChangeCauses.{ChangeCause}
@@ -82,14 +83,6 @@ pub ok_then : {T E : Type 0} (result : Result T E) (P Q : Type 0) → (P → Q) 
 ok_then {T} {E} (Ok value) P Q then h = then h
 ok_then {T} {E} (Err fault) P Q then h = h
 
-pub ok_if_then : {T E : Type 0} (result : Result T E) (P Q : T → Type 0) → ((value : T) → P value → Q value) → IfOk result P → IfOk result Q
-ok_if_then {T} {E} (Ok value) P Q then h = then value h
-ok_if_then {T} {E} (Err fault) P Q then h = h
-
-pub err_then : {T E : Type 0} (result : Result T E) (P Q : E → Type 0) → ((fault : E) → P fault → Q fault) → IfErr result P → IfErr result Q
-err_then {T} {E} (Ok value) P Q then h = h
-err_then {T} {E} (Err fault) P Q then h = then fault h
-
 -- what is ensured of the answer to a statement
 pub record IsAnswer (table : List (List ℕ)) (graph : OemGraph) (statement : StatementTree) (rows : List Pair) (result : Result Changes UpdateFault) : Type 0 where
   pub same : IfOk result (AreSame (changes_by table graph statement rows))
@@ -102,11 +95,11 @@ pub plain_answer : (table : List (List ℕ)) (graph : OemGraph) (statement : Sta
     → IfErr result (λ fault. IsToldBy (ChangeCause table graph changes) form_order (refusal_of fault))
     → IsAnswer table graph statement rows result
 plain_answer table graph statement rows result changes plain is same ok err = record {
-  same = ok_if_then result (AreSame changes) (AreSame (changes_by table graph statement rows))
+  same = IfOk-weaker result (AreSame changes) (AreSame (changes_by table graph statement rows))
       (λ found h. subst (λ (c : Changes). AreSame c found) is h) same;
   ok = ok_then result (IsClear (ChangeCause table graph changes) form_order) (IsClear (Cause table graph statement rows) (order statement))
       (plain_clear table graph rows changes statement plain is) ok;
-  err = err_then result (λ fault. IsToldBy (ChangeCause table graph changes) form_order (refusal_of fault))
+  err = IfErr-weaker result (λ fault. IsToldBy (ChangeCause table graph changes) form_order (refusal_of fault))
       (λ fault. IsToldBy (Cause table graph statement rows) (order statement) (refusal_of fault))
       (λ fault h. plain_told table graph rows changes statement plain is (refusal_of fault) h) err;
 }
@@ -117,12 +110,12 @@ pub literal_answer : (table : List (List ℕ)) (graph : OemGraph) (target : Root
     → IfErr result (λ fault. IsToldBy (CopyCause table graph label literal rows) copy_order (refusal_of fault))
     → IsAnswer table graph (add_new target label literal tail) rows result
 literal_answer table graph target label literal tail rows result same ok err = record {
-  same = ok_if_then result (AreSame (copies_by table graph label literal rows)) (AreSame (changes_by table graph (add_new target label literal tail) rows))
+  same = IfOk-weaker result (AreSame (copies_by table graph label literal rows)) (AreSame (changes_by table graph (add_new target label literal tail) rows))
       (literal_same table graph target label literal tail rows) same;
   ok = ok_then result (IsClear (CopyCause table graph label literal rows) copy_order)
       (IsClear (Cause table graph (add_new target label literal tail) rows) (order (add_new target label literal tail)))
       (literal_clear table graph target label literal tail rows) ok;
-  err = err_then result (λ fault. IsToldBy (CopyCause table graph label literal rows) copy_order (refusal_of fault))
+  err = IfErr-weaker result (λ fault. IsToldBy (CopyCause table graph label literal rows) copy_order (refusal_of fault))
       (λ fault. IsToldBy (Cause table graph (add_new target label literal tail) rows) (order (add_new target label literal tail)) (refusal_of fault))
       (λ fault h. literal_told table graph target label literal tail rows (refusal_of fault) h) err;
 }

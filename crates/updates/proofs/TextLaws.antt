@@ -2,18 +2,18 @@
 use Rattle.std.proofs.Common.{◌≡◌, ◌≢◌, ◌↔◌, IsTrue, ℕ, ◌+◌, ◌<◌, ◌≤◌, Bool, true, false, if◌then◌else◌, List, [], ◌∷◌, ◌++◌, Option, Some, slice_get, length, ◌*◌, length-append, append-nil, append_assoc, Contains, AllPairs, refl, sym, ap, subst, inl, inr, ◌∙◌, arith, true≢false}
 use Rattle.std.specs.List.{list_any}
 use Rattle.std.specs.Str.{bytes_eq}
-use Rattle.std.proofs.lemmas.Bool.{cases_lt}
-use Rattle.std.proofs.lemmas.Option.{slice_get-get_or, slice_get_within, get_or_from_slice_get}
+use Rattle.std.proofs.lemmas.Bool.{cases_lt, false_from_ne_true}
 use Rattle.std.proofs.lemmas.List.Elements.{All-head}
+use Rattle.list_laws.proofs.PlaceLaws.{Contains-from_place, place_of_member}
+use Rattle.oem_labels.proofs.PlaceLaws.{label_in-at}
 use Rattle.oem_labels.specs.Labels.{first_uses, place_in, label_in}
 use Rattle.oem_labels.proofs.LabelLaws.{known_text, is_known, first_uses-append, first_uses_cover}
 use Rattle.oem_text.specs.Layouts.{LaidOut, texts_of, edges_from, NumberedTexts, table_of, with_texts, count_with}
-use Rattle.oem_text.proofs.NumberLaws.{place_in-append, label_in-at}
+use Rattle.oem_text.proofs.NumberLaws.{place_in-append}
 use Rattle.updates.specs.Types.{Label, Edge}
 use Rattle.lore_base.specs.Databases.{AreAscendingEdges}
 use Rattle.updates.specs.inside.Stamps.{IsStamp}
 use Rattle.updates.specs.Effects.{Pair, links}
-use Rattle.updates.proofs.RowLaws.{is_false}
 
 -- ---- tests of limits
 pub over : (b : Bool) (P : Type 0) → IsTrue b ↔ P → b ≡ true → P
@@ -39,25 +39,19 @@ grown_under b limit before copies each from many size begun counted sized told i
     subst (λ n. n + copies * each ≤ limit) begun (subst (λ n. from + n * each ≤ limit) counted (subst (λ n. from + many * n ≤ limit) sized one))
 
 -- ---- a label by its text
-Contains-at : (texts : List (List ℕ)) (i : ℕ) (text : List ℕ) → slice_get texts i ≡ Some text → Contains texts text
-Contains-at texts i text h = (i, slice_get_within texts i text h, get_or_from_slice_get texts i text text h)
-
-place_from : (texts : List (List ℕ)) (text : List ℕ) → Contains texts text → (i : ℕ) × (slice_get texts i ≡ Some text)
-place_from texts text h = (h.0, slice_get-get_or texts h.0 text h.1 ∙ ap (λ (t : List ℕ). Some t) h.2)
-
 -- the edges of rows by the text of their label
 pub known_links : (texts : List (List ℕ)) (label : Label) (text : List ℕ) (rows : List Pair) → AllPairs (λ a b. a ≢ b) texts
     → slice_get texts label.0 ≡ Some text
     → links label rows ≡ (if list_any (bytes_eq text) texts then links (label_in texts text) rows else [])
 known_links texts label text rows distinct at =
     ap (λ (l : Label). links l rows) (label_in-at texts label text distinct at)
-    ∙ sym (ap (λ b. if b then links (label_in texts text) rows else []) (is_known texts text (Contains-at texts label.0 text at)))
+    ∙ sym (ap (λ b. if b then links (label_in texts text) rows else []) (is_known texts text (Contains-from_place texts label.0 text at)))
 
 pub unknown_links : (texts : List (List ℕ)) (text : List ℕ) (rows : List Pair) → ((label : Label) → slice_get texts label.0 ≢ Some text)
     → [] ≡ (if list_any (bytes_eq text) texts then links (label_in texts text) rows else [])
 unknown_links texts text rows none =
     sym (ap (λ b. if b then links (label_in texts text) rows else [])
-    (is_false (list_any (bytes_eq text) texts) (λ h. let at = place_from texts text (known_text texts text h) in none (record { 0 = at.0 }) at.1)))
+    (false_from_ne_true (list_any (bytes_eq text) texts) (λ h. let at = place_of_member texts text (known_text texts text h) in none (record { 0 = at.0 }) at.1)))
 
 -- the numbers of a table alone
 abbrev pub start : List (List ℕ) → NumberedTexts

@@ -4,16 +4,11 @@ use Rattle.std.proofs.lemmas.Bool.Decides.{nat_tests, Decides-eqb}
 use Rattle.std.proofs.lemmas.List.Elements.{Contains-append_left, Contains-append_right, Contains-append_cases}
 use Rattle.lore_base.specs.Walks.{edge_of}
 use Rattle.lore_base.proofs.MemberLaws.{Contains-same}
-use Rattle.oem_changes.proofs.ClosureLaws.{Contains-mapped, mapped_from}
 use Rattle.lore_base.proofs.ToldLaws.{IsTold, told_by, told_same, told_both, told_oid}
+use Rattle.list_laws.proofs.MemberLaws.{Contains-map, Contains-from_map}
 use Rattle.value_changes.specs.Types.{Oid, Edge}
 use Rattle.value_changes.specs.declared.pairs.Pair.{Pair}
 use Rattle.value_changes.specs.inside.Pairs.{pair_of, AreKept, IsPairOf, IsThere}
-
-pub same_oid : (a b : Oid) → (a.0 == b.0) ≡ true → a ≡ b
-same_oid a b h =
-    let number : a.0 ≡ b.0 = grind (arith, nat_tests) in
-    λ i. record { 0 = number i }
 
 pub same_pair : (a b : Pair) → ((a.label.0 == b.label.0) && (a.object.0 == b.object.0)) ≡ true → a ≡ b
 same_pair a b h =
@@ -46,8 +41,8 @@ entered Passes pair = (
 
 pub paired : (edges : List Edge) (pair : Pair) → Contains (map pair_of edges) pair ↔ IsPairOf (Contains edges) pair
 paired edges pair = (
-  λ at. mapped_from pair_of edges pair at,
-  λ h. Contains-same (map pair_of edges) (pair_of h.0) pair h.2 (Contains-mapped pair_of edges h.0 h.1),
+  λ at. Contains-from_map pair_of edges pair at,
+  λ h. Contains-same (map pair_of edges) (pair_of h.0) pair h.2 (Contains-map pair_of edges h.0 h.1),
 )
 
 -- the pairs of edges that are kept, and of those that are fresh

@@ -3,7 +3,7 @@ use Rattle.std.proofs.Common.{◌↔◌, List, ◌++◌, map, Contains, subst, i
 use Rattle.std.proofs.lemmas.List.Elements.{Contains-append_left, Contains-append_right, Contains-append_cases}
 use Rattle.lore_base.specs.Databases.{IsLive}
 use Rattle.lore_base.proofs.MemberLaws.{Contains-same}
-use Rattle.oem_changes.proofs.ClosureLaws.{Contains-mapped, mapped_from}
+use Rattle.list_laws.proofs.MemberLaws.{Contains-map, Contains-from_map}
 use Rattle.value_changes.specs.Types.{Oid, Edge, Value}
 use Rattle.value_changes.specs.inside.Touched.{HasParent, IsTouched}
 
@@ -11,17 +11,17 @@ pub given-listed : (given : List (Oid × Value)) (oid : Oid)
     → Contains (map (λ (object : Oid × Value). object.0) given) oid ↔ IsLive given oid
 given-listed given oid = (
   λ at. (
-      let from = mapped_from (λ (object : Oid × Value). object.0) given oid at in
+      let from = Contains-from_map (λ (object : Oid × Value). object.0) given oid at in
       (from.0.1, subst (λ (o : Oid). Contains given (o, from.0.1)) from.2 from.1)),
-  λ live. Contains-mapped (λ (object : Oid × Value). object.0) given (oid, live.0) live.1,
+  λ live. Contains-map (λ (object : Oid × Value). object.0) given (oid, live.0) live.1,
 )
 
 children : (edges : List Edge) (oid : Oid)
     → Contains (map (λ (edge : Edge). edge.child) edges) oid ↔ HasParent edges oid
 children edges oid = (
-  λ at. mapped_from (λ (edge : Edge). edge.child) edges oid at,
+  λ at. Contains-from_map (λ (edge : Edge). edge.child) edges oid at,
   λ h. Contains-same (map (λ (edge : Edge). edge.child) edges) h.0.child oid h.2
-      (Contains-mapped (λ (edge : Edge). edge.child) edges h.0 h.1),
+      (Contains-map (λ (edge : Edge). edge.child) edges h.0 h.1),
 )
 
 pub touched-listed : (lost fresh : List Edge) (given : List Oid) (oid : Oid)

@@ -1,5 +1,7 @@
 -- What becomes of an order, and of the list of entries that the orders stand for, where entries go and come.
 use Rattle.std.proofs.Common.{◌≡◌, ◌≢◌, inl, inr, List, All, Contains, subst, refl, sym}
+use Rattle.std.proofs.lemmas.List.Elements.{All-contains}
+use Rattle.list_laws.proofs.MemberLaws.{All-from_members}
 use Rattle.index_traits.specs.Entries.{AreAscendingEntries, entry_of}
 use Rattle.sorted_list.specs.SortedLists.{IsThen, IsChange, IsLessWith}
 use Rattle.value_index.specs.Types.{Value, Complex, ValueEntry, Entry}
@@ -7,7 +9,6 @@ use Rattle.value_index.specs.Values.{FitsEntries}
 use Rattle.value_index.specs.inside.Keys.{keyed, ListsKeys, IsWhole, IsText, IsFlag, IsReading, IsFlagReading}
 use Rattle.value_index.specs.inside.Orders.{Orders, AreOrders, AreCountedOrders, in_order}
 use Rattle.value_index.proofs.EntryLaws.{one_own}
-use Rattle.value_index.proofs.ListLaws.{All-member, All-members}
 use Rattle.value_index.proofs.OrderLaws.{ascend-in_order, atomic-in_order, in_order-exact, orders-like}
 
 -- the keys of one kind
@@ -17,7 +18,7 @@ module _ {K : Type 0} (HasKey : Value → K → Type 0) (kept gone come : List V
   key_goes : (entry : Entry K) → Contains going entry → Contains list entry
   key_goes entry at =
       let own = (goings entry.label entry.key entry.object).0 at in
-      (lists entry.label entry.key entry.object).1 (own.0, All-member (λ e. Contains kept e) gone fits.change.kept_ones _ own.1, own.2)
+      (lists entry.label entry.key entry.object).1 (own.0, All-contains (λ e. Contains kept e) gone _ fits.change.kept_ones own.1, own.2)
 
   key_comes : (entry : Entry K) → Contains coming entry → Contains list entry → (Contains going entry → ⊥) → ⊥
   key_comes entry at there stays =
@@ -27,13 +28,13 @@ module _ {K : Type 0} (HasKey : Value → K → Type 0) (kept gone come : List V
       let old = (lists label entry.key object).0 there in
       let old_stays : Contains gone (entry_of label old.0 object) → ⊥ = λ leaves. stays ((goings label entry.key object).1 (old.0, leaves, old.2)) in
       let same : new.0 ≡ old.0 = fits.one_value (entry_of label new.0 object) (entry_of label old.0 object) (inl new.1) (inr (old.1, old_stays)) refl in
-      All-member (λ e. ¬ (Contains kept e × (¬ Contains gone e))) come fits.change.new_ones _ new.1
+      All-contains (λ e. ¬ (Contains kept e × (¬ Contains gone e))) come _ fits.change.new_ones new.1
       (subst (λ (v : Value). Contains kept (entry_of label v object) × (¬ Contains gone (entry_of label v object))) (sym same) (old.1, old_stays))
 
   pub keys-change : IsChange list going coming
   keys-change = record {
-    kept_ones = All-members (λ entry. Contains list entry) going key_goes;
-    new_ones = All-members (λ entry. ¬ (Contains list entry × (¬ Contains going entry))) coming (λ entry at old. key_comes entry at old.0 old.1);
+    kept_ones = All-from_members (λ entry. Contains list entry) going key_goes;
+    new_ones = All-from_members (λ entry. ¬ (Contains list entry × (¬ Contains going entry))) coming (λ entry at old. key_comes entry at old.0 old.1);
   }
 
   pub keys-then : (after : List (Entry K)) → IsLessWith list going coming after → ListsKeys HasKey (IsThen kept gone come) after
@@ -50,7 +51,7 @@ module _ {K : Type 0} (HasKey : Value → K → Type 0) (kept gone come : List V
         (lists label key object).1 (own.0, old.0, own.2),
         λ leaves.
             let other = (goings label key object).0 leaves in
-            let there = All-member (λ e. Contains kept e) gone fits.change.kept_ones _ other.1 in
+            let there = All-contains (λ e. Contains kept e) gone _ fits.change.kept_ones other.1 in
             let same : other.0 ≡ own.0 = one_own kept ascend label object other.0 own.0 there old.0 in
             old.1 (subst (λ (v : Value). Contains gone (entry_of label v object)) same other.1),
       ))
@@ -87,7 +88,7 @@ module _ (kept gone come : List ValueEntry) (ascend : AreAscendingEntries kept) 
 
   then_atomic : (entry : ValueEntry) → IsThen kept gone come entry → entry.value ≢ Complex
   then_atomic entry either = elim either [
-    | inl new ↦ All-member (λ e. e.value ≢ Complex) come fits.atomic entry new
+    | inl new ↦ All-contains (λ e. e.value ≢ Complex) come entry fits.atomic new
     | inr old ↦ atomic entry old.0
   ]
 
@@ -114,8 +115,8 @@ module _ (kept gone come : List ValueEntry) (ascend : AreAscendingEntries kept) 
 pub atomic_gone : (orders : Orders) (kept gone : List ValueEntry) → in_order orders ≡ kept → All (Contains kept) gone
     → All (λ entry. entry.value ≢ Complex) gone
 atomic_gone orders kept gone kept_is all =
-    All-members (λ entry. entry.value ≢ Complex) gone (λ entry at.
-    atomic-in_order orders entry (subst (λ (l : List ValueEntry). Contains l entry) (sym kept_is) (All-member (λ e. Contains kept e) gone all entry at)))
+    All-from_members (λ entry. entry.value ≢ Complex) gone (λ entry at.
+    atomic-in_order orders entry (subst (λ (l : List ValueEntry). Contains l entry) (sym kept_is) (All-contains (λ e. Contains kept e) gone entry all at)))
 
 -- The orders as the entries are seen.
 

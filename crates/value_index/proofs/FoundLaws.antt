@@ -11,9 +11,10 @@ use Rattle.lore_base.specs.TargetSets.{ListsInOrder}
 use Rattle.lore_base.specs.Comparisons.{Compares}
 use Rattle.lore_base.proofs.MemberLaws.{Contains-none, Contains-same}
 use Rattle.lore_base.proofs.TargetLaws.{ListsInOrder-unique}
+use Rattle.list_laws.proofs.PartLaws.{take_more_read}
 use Rattle.value_index.specs.Types.{Oid, Label, Op, Value, ValueEntry}
 use Rattle.value_index.specs.inside.Matches.{IsMatch, CountsFound}
-use Rattle.value_index.proofs.ListLaws.{AllPairs-before, taken}
+use Rattle.value_index.proofs.ListLaws.{AllPairs-before}
 
 second_rises : (p q n m : ℕ) → p ≡ q → ordering_then (nat_cmp p q) (nat_cmp n m) ≡ Less → n < m
 second_rises p q n m same h = grind (arith, nat_tests)
@@ -81,13 +82,13 @@ module _ (label : Label) (op : Op) (value : Value) where
     found_more : IsMatch label op value entry → (oids : List Oid) → ListsInOrder (IsFound (take i entries) label op value) oids
         → ListsInOrder (IsFound (take (i + 1) entries) label op value) (oids ++ entry.object ∷ [])
     found_more match oids lists =
-        rw (taken entries i entry lt here)
+        rw (take_more_read entries i entry lt here)
         (found-push (take i entries) entry oids lists
         (λ other at. rw here (AllPairs-before (λ a b. entry_cmp a b ≡ Less) entries ascend i entry lt other at)) match)
 
     found_same : (IsMatch label op value entry → ⊥) → (oids : List Oid) → ListsInOrder (IsFound (take i entries) label op value) oids
         → ListsInOrder (IsFound (take (i + 1) entries) label op value) oids
-    found_same other oids lists = rw (taken entries i entry lt here) (found-skip (take i entries) entry oids lists other)
+    found_same other oids lists = rw (take_more_read entries i entry lt here) (found-skip (take i entries) entry oids lists other)
 
     -- one entry more of a list, where what is found is put behind a list or counted
     pub extends_more : IsMatch label op value entry → (old buf new : List Oid)

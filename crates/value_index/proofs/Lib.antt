@@ -1,5 +1,4 @@
 pub mod ListLaws
-pub mod InsertLaws
 pub mod KeyLaws
 pub mod CompareLaws
 pub mod RunLaws

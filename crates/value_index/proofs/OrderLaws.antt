@@ -1,20 +1,20 @@
 -- The one list of entries that the orders stand for: which entries it holds, and that they ascend.
 use Rattle.std.proofs.Common.{◌≡◌, ◌≢◌, ◌↔◌, inl, inr, ℕ, ℤ, Bool, Less, List, [], ◌++◌, map, All, Contains, subst, refl, sym, ◌∙◌}
-use Rattle.std.proofs.lemmas.List.Elements.{Contains-append_left, Contains-append_right, Contains-append_cases}
+use Rattle.std.proofs.lemmas.List.Elements.{Contains-append_left, Contains-append_right, Contains-append_cases, All-contains}
 use Rattle.lore_base.proofs.ListLaws.{AllPairs-unique}
 use Rattle.lore_base.proofs.MemberLaws.{Contains-none, Contains-same}
+use Rattle.list_laws.proofs.MemberLaws.{Contains-map, Contains-from_map}
 use Rattle.index_traits.specs.Entries.{AreAscendingEntries, entry_of, entry_cmp}
 use Rattle.value_index.specs.Types.{Oid, Label, Value, Whole, Chars, Flag, Complex, ValueEntry, Entry}
 use Rattle.value_index.specs.inside.Keys.{keyed, ListsKeys, IsWhole, IsText, IsFlag, IsReading, IsFlagReading}
 use Rattle.value_index.specs.inside.Orders.{Orders, orders_of, AreOrders, value_entry, value_entries, in_order}
 use Rattle.value_index.proofs.EntryLaws.{same_label, same_object, same_entry, in-with, new-with, ascend-with, ascend-none, less_once, one_own}
-use Rattle.value_index.proofs.ListLaws.{mapped, unmapped, All-member}
 
 -- the entries of keys that are values
 module _ {K : Type 0} (make : K → Value) (list : List (Entry K)) (entry : ValueEntry) where
   part-from : Contains (map (value_entry make) list) entry → (key : K) × Contains list (keyed entry.label key entry.object) × (entry.value ≡ make key)
   part-from at =
-      let own = unmapped (value_entry make) list entry at in
+      let own = Contains-from_map (value_entry make) list entry at in
       subst (λ (e : ValueEntry). (key : K) × Contains list (keyed e.label key e.object) × (e.value ≡ make key)) own.2 (own.0.key, own.1, refl)
 
   part-to : (key : K) → Contains list (keyed entry.label key entry.object) → entry.value ≡ make key → Contains (map (value_entry make) list) entry
@@ -22,7 +22,7 @@ module _ {K : Type 0} (make : K → Value) (list : List (Entry K)) (entry : Valu
       let back = sym is in
       Contains-same (map (value_entry make) list) (value_entry make (keyed entry.label key entry.object)) entry
       (λ i. record { label = entry.label; value = back i; object = entry.object })
-      (mapped (value_entry make) list (keyed entry.label key entry.object) at)
+      (Contains-map (value_entry make) list (keyed entry.label key entry.object) at)
 
   -- are atomic where these are
   part-atomic : ((key : K) → make key ≡ Complex → ⊥) → Contains (map (value_entry make) list) entry → entry.value ≢ Complex
@@ -131,7 +131,7 @@ module _ (entries : List ValueEntry) (ascend : AreAscendingEntries entries) (ato
       (subst (λ (l : Label). Contains entries (entry_of l b.value b.object)) (sym label) second))
 
   split-exact : (entry : ValueEntry) → Contains (in_order orders) entry ↔ Contains entries entry
-  split-exact = in_order-exact (Contains entries) (All-member (λ e. e.value ≢ Complex) entries atomic) split-single orders are
+  split-exact = in_order-exact (Contains entries) (λ entry at. All-contains (λ e. e.value ≢ Complex) entries entry atomic at) split-single orders are
 
   -- the orders stand for them
   pub split-same : in_order orders ≡ entries

@@ -1,7 +1,7 @@
 -- The run of a label, an operator and a key among ascending entries: one piece of them.
 use Rattle.std.proofs.Common.{◌≡◌, ◌≢◌, ◌↔◌, AllPairs, Contains, ℕ, ◌+◌, ◌<◌, ◌≤◌, Bool, true, false, nat_eq, nat_cmp}
-use Rattle.std.proofs.Common.{Less, Equal, Greater, List, [], ◌∷◌, ◌++◌, length, get_or, take, drop, All, refl, sym}
-use Rattle.std.proofs.Common.{ap, subst, ◌∙◌, inl, inr, arith, length-take, length-drop}
+use Rattle.std.proofs.Common.{Less, Equal, Greater, List, [], ◌++◌, length, get_or, take, drop, refl, sym}
+use Rattle.std.proofs.Common.{ap, subst, ◌∙◌, inl, inr, arith, length-drop}
 use Rattle.std.specs.declared.cmp.Ordering.{Ordering}
 use Rattle.std.specs.Ordering.{ordering_then, ordering_index, is_eq}
 use Rattle.std.specs.Cmp.{IsTotalOrder}
@@ -9,9 +9,8 @@ use Rattle.std.specs.List.{filter, AllWithin}
 use Rattle.std.specs.List.Sorted.{IsNonDecreasingBy, IsPartitionedBy, IsPartitionPoint}
 use Rattle.std.proofs.lemmas.Bool.{cases_lt}
 use Rattle.std.proofs.lemmas.Bool.Decides.{nat_tests}
-use Rattle.std.proofs.lemmas.Cmp.{alike_right}
-use Rattle.std.proofs.lemmas.List.{append-nil, get_or-take, get_or-drop, take-append-drop}
-use Rattle.std.proofs.lemmas.List.Elements.{All-tail, filter-append}
+use Rattle.std.proofs.lemmas.List.{append-nil, get_or-drop, take-append-drop}
+use Rattle.std.proofs.lemmas.List.Elements.{filter-append}
 use Rattle.value_index.specs.Types.{Oid, Label, Op, Eq, Ne, Lt, Le, Gt, Ge, Like, Entry}
 use Rattle.value_index.specs.inside.Runs.{key_cmp, AscendByKey, side_of, side_in, run_in, objects_in}
 use Rattle.value_index.specs.inside.Keys.{keyed}
@@ -22,28 +21,10 @@ use Rattle.std.proofs.lemmas.Cmp.{tied_itself}
 use Rattle.std.proofs.lemmas.List.{get_or-map, length-map}
 use Rattle.std.proofs.lemmas.List.Elements.{Contains-get_or}
 use Rattle.std.proofs.lemmas.List.Kept.{AllPairs-filter}
-use Rattle.value_index.proofs.KeyLaws.{key_total, equal_is, first_same, rest_equal}
-use Rattle.value_index.proofs.ListLaws.{mapped, unmapped}
-
--- a filter keeps a list whose items all pass, and nothing where none does
-filter-passed : {X : Type 0} (p : X → Bool) (xs : List X) → All (λ x. p x ≡ true) xs → filter p xs ≡ xs
-filter-passed p [] h = refl
-filter-passed p (x ∷ xs) h =
-    rw (h 0 x (omega arith)) (ap (λ l. x ∷ l) (filter-passed p xs (All-tail (λ y. p y ≡ true) x xs h)))
-
-filter-failed : {X : Type 0} (p : X → Bool) (xs : List X) → All (λ x. p x ≡ false) xs → filter p xs ≡ []
-filter-failed p [] h = refl
-filter-failed p (x ∷ xs) h =
-    rw (h 0 x (omega arith)) (filter-failed p xs (All-tail (λ y. p y ≡ false) x xs h))
-
-All-front : {X : Type 0} (P : X → Type 0) (xs : List X) (n : ℕ) → AllWithin P xs 0 n → All P (take n xs)
-All-front P xs n h k d lt =
-    let below : k < n = omega (arith, length-take n xs) in
-    subst P (sym (get_or-take n xs k d below)) (h k d (omega arith) below)
-
-All-back : {X : Type 0} (P : X → Type 0) (xs : List X) (n : ℕ) → AllWithin P xs n (length xs) → All P (drop n xs)
-All-back P xs n h k d lt =
-    subst P (sym (get_or-drop n xs k d)) (h (n + k) d (omega arith) (omega (arith, length-drop n xs)))
+use Rattle.list_laws.proofs.OrderLaws.{Equal-from_test, comparison_rises}
+use Rattle.list_laws.proofs.MemberLaws.{Contains-map, Contains-from_map}
+use Rattle.list_laws.proofs.PartLaws.{filter_all, filter_none, All-take_within, All-drop_within}
+use Rattle.value_index.proofs.KeyLaws.{key_total, first_same, rest_equal}
 
 -- which side it is, by its number
 in_test : (o : Ordering) → nat_eq (ordering_index o) 1 ≡ true → is_eq o ≡ true
@@ -86,11 +67,11 @@ module _ {X : Type 0} (side : X → Ordering) (xs : List X) where
       let rest = drop start xs in
       let p : X → Bool = λ x. is_eq (side x) in
       let before : filter p (take start xs) ≡ [] =
-      filter-failed p (take start xs) (λ k d lt. before_test _ (All-front (λ x. nat_eq (ordering_index (side x)) 0 ≡ true) xs start low.0 k d lt)) in
+      filter_none p (take start xs) (λ k d lt. before_test _ (All-take_within (λ x. nat_eq (ordering_index (side x)) 0 ≡ true) xs start low.0 k d lt)) in
       let behind : filter p (drop len rest) ≡ [] =
-      filter-failed p (drop len rest) (λ k d lt. out_test _ (All-back (λ x. nat_eq (ordering_index (side x)) 1 ≡ false) rest len high.1 k d lt)) in
+      filter_none p (drop len rest) (λ k d lt. out_test _ (All-drop_within (λ x. nat_eq (ordering_index (side x)) 1 ≡ false) rest len high.1 k d lt)) in
       let run : filter p (take len rest) ≡ take len rest =
-      filter-passed p (take len rest) (λ k d lt. in_test _ (All-front (λ x. nat_eq (ordering_index (side x)) 1 ≡ true) rest len high.0 k d lt)) in
+      filter_all p (take len rest) (λ k d lt. in_test _ (All-take_within (λ x. nat_eq (ordering_index (side x)) 1 ≡ true) rest len high.0 k d lt)) in
       let parts : filter p xs ≡ filter p (take start xs) ++ filter p rest = ap (filter p) (sym (take-append-drop start xs)) ∙ filter-append p (take start xs) rest in
       let parts_rest : filter p rest ≡ filter p (take len rest) ++ filter p (drop len rest) = ap (filter p) (sym (take-append-drop len rest)) ∙ filter-append p (take len rest) (drop len rest) in
       sym (parts ∙ ap (λ l. l ++ filter p rest) before ∙ parts_rest ∙ ap (λ l. filter p (take len rest) ++ l) behind ∙ append-nil _ ∙ run)
@@ -109,21 +90,12 @@ labels_rise : (p q n : ℕ) (o first second : Ordering) → ordering_then (nat_c
 labels_rise p q n o first second less later = grind (arith, nat_tests)
 
 module _ {K : Type 0} (cmp : K → K → Ordering) (total : IsTotalOrder cmp) where
-  -- keys that do not fall compare with another so that these orders do not fall
-  key_rises : (a b key : K) → cmp a b ≡ Less → ordering_index (cmp a key) ≤ ordering_index (cmp b key)
-  key_rises a b key less =
-      elim (cmp b key) as (λ o. cmp b key ≡ o → ordering_index (cmp a key) ≤ ordering_index o) [
-        | Less ↦ λ is. omega (arith, ap ordering_index (total.trans a b key less is))
-        | Equal ↦ λ is. omega (arith, ap ordering_index (sym (alike_right total b key a is) ∙ less))
-        | Greater ↦ λ is. elim (cmp a key) as (λ o. ordering_index o ≤ 2) [ Less ↦ omega arith | Equal ↦ omega arith | Greater ↦ omega arith ]
-      ] refl
-
   module _ (label : Label) (op : Op) (key : K) where
     keys_rise : (a b : K) (o : Ordering) → ordering_then (cmp a b) o ≡ Less
         → ordering_index (side_of op (cmp a key)) ≤ ordering_index (side_of op (cmp b key))
     keys_rise a b o h =
         elim (cmp a b) as (λ p. cmp a b ≡ p → ordering_then p o ≡ Less → ordering_index (side_of op (cmp a key)) ≤ ordering_index (side_of op (cmp b key))) [
-          | Less ↦ λ is _. side_of-rises op (cmp a key) (cmp b key) (key_rises a b key is)
+          | Less ↦ λ is _. side_of-rises op (cmp a key) (cmp b key) (comparison_rises cmp total a b key is)
           | Equal ↦ λ is _. side_of-kept op (cmp a key) (cmp b key) (total.congr a b key is)
           | Greater ↦ λ _ not_less. absurd (omega (arith, ap ordering_index not_less))
         ] refl h
@@ -187,7 +159,7 @@ module _ {K : Type 0} (cmp : K → K → Ordering) (label : Label) (op : Op) (ke
   run-members probed entry = (
     λ at. (
         let kept = unfiltered (λ e. is_eq (side_in cmp label op key e)) entries entry at in
-        let side = equal_is (side_in cmp label op key entry) kept.1 in
+        let side = Equal-from_test (side_in cmp label op key entry) kept.1 in
         let number : entry.label.0 ≡ label.0 = first_same _ _ (side_of op (cmp entry.key key)) side in
         let order : side_of op (cmp entry.key key) ≡ Equal = rest_equal (nat_cmp entry.label.0 label.0) _ side in
         (kept.0, ap (λ n. record { 0 = n }) number, admits_in op probed (cmp entry.key key) order)),
@@ -205,11 +177,11 @@ module _ {K : Type 0} (cmp : K → K → Ordering) (label : Label) (op : Op) (ke
         ↔ ((own : K) × Contains entries (keyed label own oid) × Admits op (cmp own key))
     run-objects oid = (
       λ at. (
-          let entry = unmapped (λ (e : Entry K). e.object) (run_in cmp label op key entries) oid at in
+          let entry = Contains-from_map (λ (e : Entry K). e.object) (run_in cmp label op key entries) oid at in
           let held = (run-members probed entry.0).0 entry.1 in
           let same : entry.0 ≡ keyed label entry.0.key oid = λ i. record { label = held.1 i; key = entry.0.key; object = entry.2 i } in
           (entry.0.key, Contains-same entries entry.0 _ same held.0, held.2)),
-      λ found. mapped (λ (e : Entry K). e.object) (run_in cmp label op key entries) (keyed label found.0 oid)
+      λ found. Contains-map (λ (e : Entry K). e.object) (run_in cmp label op key entries) (keyed label found.0 oid)
           ((run-members probed (keyed label found.0 oid)).1 (found.1, refl, found.2)),
     )
 
@@ -244,5 +216,5 @@ module _ {K : Type 0} (cmp : K → K → Ordering) (label : Label) (op : Op) (ke
       pub run-once : AllPairs (λ a b. a ≢ b) (objects_in (run_in cmp label op key entries))
       run-once i j d lt len =
           let run = run_in cmp label op key entries in
-          let there = unmapped (λ (e : Entry K). e.object) run _ (Contains-get_or (objects_in run) j d len) in
+          let there = Contains-from_map (λ (e : Entry K). e.object) run _ (Contains-get_or (objects_in run) j d len) in
           once_at i j d lt len there.0

@@ -12,8 +12,7 @@ use Rattle.dataguide.specs.inside.NodeTables.{listed}
 use Rattle.dataguide.specs.inside.Entering.{IsEntered, AreEntered}
 use Rattle.lore_base.specs.Lists.{Extends}
 use Rattle.dataguide.specs.Touched.{IsTouched}
-use Rattle.dataguide.specs.ReadCosts.{reads_of}
-use Rattle.dataguide.specs.inside.Arcs.{AreSteps}
+use Rattle.set_steps.specs.SetSteps.{AreSteps, reads_of}
 use Rattle.lore_base.specs.declared.limits.TheConstants.{CELLS}
 use Rattle.std.specs.List.{AllZip}
 

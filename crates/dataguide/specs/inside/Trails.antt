@@ -6,7 +6,7 @@ use Rattle.lore_base.specs.TargetSets.{LabelPath, LeadsTo, LeavesTo, IsStep}
 use Rattle.dataguide.specs.Types.{Oid, Label, Edge, Node, GuideNode}
 use Rattle.lore_base.specs.PathOrder.{ComesBefore}
 use Rattle.dataguide.specs.Guides.{sets_of, HasSet, AscendByLabel}
-use Rattle.dataguide.specs.inside.Arcs.{AreSteps}
+use Rattle.set_steps.specs.SetSteps.{AreSteps}
 use Rattle.dataguide.specs.inside.Entering.{AreEntered}
 
 -- a set with the path that it was found by

@@ -2,7 +2,7 @@
 use Rattle.std.specs.Prelude.{ℕ, ◌<◌, List, [], ◌∷◌, length}
 use Rattle.lore_store.specs.Types.{Refusal, NAMES, OBJECTS, EDGES}
 use Rattle.lore_store.specs.Types.refusals
-use Rattle.lore_base.specs.GuideLimits.{PassesNodes, PassesCells}
+use Rattle.lore_base.specs.GuideLimits.{ExceedsNodes, ExceedsCells}
 use Rattle.lore_base.specs.Databases.{OemGraph}
 
 -- the graph has more names, objects or edges than a database holds
@@ -14,8 +14,8 @@ SizeCause graph _ = ⊥
 
 -- the guide of the graph passes a limit, of which the one on nodes is the database's and not the graph's
 abbrev pub SetsCause : ℕ → OemGraph → Refusal → Type 0
-SetsCause limit graph refusals.GuideNodes = PassesNodes limit graph.names graph.edges
-SetsCause limit graph refusals.GuideCells = PassesCells limit graph.names graph.edges
+SetsCause limit graph refusals.GuideNodes = ExceedsNodes limit graph.names graph.edges
+SetsCause limit graph refusals.GuideCells = ExceedsCells limit graph.names graph.edges
 SetsCause limit graph _ = ⊥
 
 -- the order in which these causes are tried

@@ -1,12 +1,13 @@
 use Rattle.std.proofs.Common.{◌≡◌, ◌<◌, List, length, get_or, Some, subst, sym, refl, ◌∙◌, arith}
 use Rattle.std.specs.List.{slice_get}
 use Rattle.std.proofs.lemmas.Option.{slice_get_read}
+use Rattle.plan_ops.proofs.DescribeLawsRows.{within_more}
 use Rattle.lorel_bound.specs.declared.bound.Range.{Range}
 use Rattle.lorel_bound.specs.Runnable.{IsWithin, IsCellWithin}
 use Rattle.answers.specs.Types.{CellOf, RANGES}
 use Rattle.answers.specs.inside.Showing.{IsMadeReady, IsReadyWithin}
 use Rattle.answers.specs.declared.ready_cells.ReadyCell.TheVariants as ready
-use Rattle.answers.proofs.BoundLaws.{few_ranges, slot_fits, start_wider, start_fits, leaves_fit}
+use Rattle.answers.proofs.BoundLaws.{few_ranges, slot_fits, start_fits, leaves_fit}
 use Rattle.answers.proofs.ready_cells.ready_cell.Goals as goal
 
 pub bounds-as_slice-slot : goal.bounds-as_slice-slot
@@ -44,5 +45,5 @@ returns-in_ok-words-in-PathOf-clause-made g c =
 
 pub returns-in-Object-clause-within : goal.returns-in-Object-clause-within
 returns-in-Object-clause-within g c =
-    start_wider (length c.args.bound.now.ranges) RANGES c.in-Object.start (few_ranges c.args.bound.now c.requires.runnable)
+    within_more (length c.args.bound.now.ranges) RANGES c.in-Object.start (few_ranges c.args.bound.now c.requires.runnable)
     (subst (IsCellWithin (length c.args.bound.now.ranges)) c.in-Object.is c.requires.within)

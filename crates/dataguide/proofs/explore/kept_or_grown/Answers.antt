@@ -1,15 +1,13 @@
-use Rattle.std.proofs.Common.{◌≡◌, ◌<◌, List, [], map, length, All, AllPairs, sym, ap, ◌∙◌, subst, arith}
+use Rattle.std.proofs.Common.{◌≡◌, List, [], map, All, sym, ap, ◌∙◌, subst, arith}
 use Rattle.std.proofs.lemmas.List.{nil_from_length}
-use Rattle.std.proofs.lemmas.List.Elements.{All-contains}
+use Rattle.list_laws.proofs.PlaceLaws.{place_of_member}
 use Rattle.dataguide.specs.Types.{Oid, Label, Node, Origin, Kept}
 use Rattle.dataguide.specs.Guides.{node_number, AscendByLabel}
 use Rattle.dataguide.specs.Deltas.{IsOrigin}
-use Rattle.dataguide.specs.inside.Arcs.{AreSteps, AreGroups}
+use Rattle.set_steps.specs.SetSteps.{AreSteps}
 use Rattle.dataguide.specs.inside.Founds.{steps_of}
 use Rattle.dataguide.specs.inside.Gains.{IsThere, AreUnions}
-use Rattle.dataguide.proofs.PlaceLaws.{at-Contains}
 use Rattle.dataguide.proofs.CleanLaws.{kept-row, kept-steps, kept-origins, kept-there, kept-ascend}
-use Rattle.dataguide.proofs.GroupLaws.{steps-from}
 use Rattle.dataguide.proofs.GainLaws.{nothing-gained, union-steps}
 use Rattle.dataguide.proofs.explore.kept_or_grown.Goals as goal
 
@@ -22,7 +20,7 @@ returns-then-len-eq0-clause-steps g c =
     let guide = change.guide.now in
     let there = c.args.there.now in
     let stood = c.requires.stood in
-    let at = at-Contains guide.nodes there c.requires.there in
+    let at = place_of_member guide.nodes there c.requires.there in
     let after = g.A.Adjacent.edges change.after.now in
     let gained = c.in_ok-gained.gained in
     let none : gained ≡ [] = nil_from_length gained (omega (arith, c.len.ensures, c.if-len-eq0.true)) in
@@ -37,7 +35,7 @@ returns-then-len-eq0-clause-there g c =
     let guide = c.args.change.now.guide.now in
     let there = c.args.there.now in
     let stood = c.requires.stood in
-    let at = at-Contains guide.nodes there c.requires.there in
+    let at = place_of_member guide.nodes there c.requires.there in
     subst (λ (l : List (Label × Origin)). All (λ (t : Label × Origin). IsOrigin guide.nodes t.1) l)
     (sym (c.in_ok-targets.ensures ∙ ap (map as_target) c.as_slice.ensures))
     (kept-origins guide stood.names stood.before stood.stands (node_number at.0) there at.1)
@@ -46,16 +44,16 @@ pub united_targets-requires-clause-there : goal.united_targets-requires-clause-t
 united_targets-requires-clause-there g c =
     let guide = c.args.change.now.guide.now in
     let stood = c.requires.stood in
-    let at = at-Contains guide.nodes c.args.there.now c.requires.there in
-    subst (λ (l : List (Label × Node)). All (IsThere guide.nodes) l) (sym c.as_slice-3.ensures)
+    let at = place_of_member guide.nodes c.args.there.now c.requires.there in
+    subst (λ (l : List (Label × Node)). All (IsThere guide.nodes) l) (sym c.as_slice-2.ensures)
     (kept-there guide stood.names stood.before stood.stands (node_number at.0) c.args.there.now at.1)
 
 pub united_targets-requires-clause-edges : goal.united_targets-requires-clause-edges
 united_targets-requires-clause-edges g c =
     let guide = c.args.change.now.guide.now in
     let stood = c.requires.stood in
-    let at = at-Contains guide.nodes c.args.there.now c.requires.there in
-    subst (λ (l : List (Label × Node)). AscendByLabel l) (sym c.as_slice-3.ensures)
+    let at = place_of_member guide.nodes c.args.there.now c.requires.there in
+    subst (λ (l : List (Label × Node)). AscendByLabel l) (sym c.as_slice-2.ensures)
     (kept-ascend guide stood.names stood.before stood.stands (node_number at.0) c.args.there.now at.1)
 
 pub returns-clause-steps : goal.returns-clause-steps
@@ -64,16 +62,14 @@ returns-clause-steps g c =
     let guide = change.guide.now in
     let there = c.args.there.now in
     let stood = c.requires.stood in
-    let at = at-Contains guide.nodes there c.requires.there in
+    let at = place_of_member guide.nodes there c.requires.there in
     let after = g.A.Adjacent.edges change.after.now in
     let gained = c.in_ok-gained.gained in
     let row = c.in_ok-row.row.items in
     let before = kept-row guide stood.names stood.before stood.stands (node_number at.0) there at.1 in
-    let grouped = subst (λ (l : List (Label × Oid)). AreGroups l row) c.as_slice-2.ensures c.in_ok-row.ensures in
-    let steps = steps-from change.fresh.now gained c.take.new.self.arcs row c.in_ok-take.ensures grouped in
     let targets = c.in_ok-targets-2.targets.items in
-    let unions = subst (λ (r : List (Label × List Oid)). AreUnions guide.nodes there.edges r targets) c.as_slice-4.ensures.value
-    (subst (λ (l : List (Label × Node)). AreUnions guide.nodes l c.as_slice-4.result.now targets) c.as_slice-3.ensures
+    let unions = subst (λ (r : List (Label × List Oid)). AreUnions guide.nodes there.edges r targets) c.as_slice-3.ensures.value
+    (subst (λ (l : List (Label × Node)). AreUnions guide.nodes l c.as_slice-3.result.now targets) c.as_slice-2.ensures
     c.in_ok-targets-2.ensures) in
     union-steps guide change.dirty.now change.grown.now change.fresh.now after stood there.set c.requires.clean gained
-    c.in_ok-gained.ensures.exact there.edges row c.in_ok-targets-2.targets.items before steps unions
+    c.in_ok-gained.ensures.exact there.edges row c.in_ok-targets-2.targets.items before c.in_ok-row.ensures unions

@@ -1,12 +1,12 @@
 use Rattle.std.proofs.Common.{List, inl, inr, sym, ◌∙◌, subst, refl}
 use Rattle.std.proofs.lemmas.Bool.{false≢true}
+use Rattle.list_laws.proofs.PlaceLaws.{Contains-from_place}
 use Rattle.dataguide.specs.Types.{Oid, Kept}
 use Rattle.dataguide.specs.Touched.{Meet}
 use Rattle.dataguide.specs.Guides.{sets_of}
 use Rattle.dataguide.specs.Deltas.{origin_set}
-use Rattle.dataguide.specs.inside.Arcs.{AreSteps}
+use Rattle.set_steps.specs.SetSteps.{AreSteps}
 use Rattle.dataguide.specs.inside.Founds.{steps_of, Costs}
-use Rattle.dataguide.proofs.PlaceLaws.{Contains-at}
 use Rattle.dataguide.proofs.ReadLaws.{kept-is, clean-untouched}
 use Rattle.dataguide.proofs.explore.kept_or_read.Goals as goal
 
@@ -32,7 +32,7 @@ returns-then-meets-clause-reads g c =
 
 pub kept_or_grown-requires-clause-there : goal.kept_or_grown-requires-clause-there
 kept_or_grown-requires-clause-there g c =
-    Contains-at c.args.change.now.guide.now.nodes c.args.node.0 c.node_of-there.result.now c.node_of-there.ensures
+    Contains-from_place c.args.change.now.guide.now.nodes c.args.node.0 c.node_of-there.result.now c.node_of-there.ensures
 
 pub kept_or_grown-requires-clause-clean : goal.kept_or_grown-requires-clause-clean
 kept_or_grown-requires-clause-clean g c = λ m. false≢true (sym c.if-meets.false ∙ c.meets.ensures.1 m)

@@ -1,7 +1,7 @@
 use Rattle.std.proofs.Common.{List, All, sym, ap, ◌∙◌, subst}
 use Rattle.dataguide.specs.Types.{Oid, Label, Origin}
 use Rattle.dataguide.specs.Deltas.{IsOrigin}
-use Rattle.dataguide.specs.inside.Arcs.{AreSteps}
+use Rattle.set_steps.specs.SetSteps.{AreSteps}
 use Rattle.dataguide.specs.inside.Founds.{steps_of}
 use Rattle.dataguide.proofs.ReadLaws.{fresh-steps, fresh-origins}
 use Rattle.dataguide.proofs.explore.read_targets.Goals as goal
@@ -9,7 +9,7 @@ use Rattle.dataguide.proofs.explore.read_targets.Goals as goal
 pub returns-clause-steps : goal.returns-clause-steps
 returns-clause-steps g c = λ kept.
     subst (λ (l : List (Label × List Oid)). AreSteps (g.A.Adjacent.edges c.args.graph.now) c.args.set.now l)
-    (sym (ap (steps_of kept) c.in_ok-targets.ensures ∙ fresh-steps kept c.in_ok-row.row.items)) c.in_ok-row.ensures.are
+    (sym (ap (steps_of kept) c.in_ok-targets.ensures ∙ fresh-steps kept c.in_ok-row.row.items)) c.in_ok-row.ensures.row
 
 pub returns-clause-there : goal.returns-clause-there
 returns-clause-there g c = λ kept.

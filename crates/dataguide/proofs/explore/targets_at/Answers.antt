@@ -1,7 +1,7 @@
 use Rattle.std.proofs.Common.{List, Some, inl, ap, ◌∙◌, subst}
 use Rattle.dataguide.specs.Types.{Oid, Kept, Fresh}
 use Rattle.dataguide.specs.Guides.{sets_of}
-use Rattle.dataguide.specs.inside.Arcs.{AreSteps}
+use Rattle.set_steps.specs.SetSteps.{AreSteps}
 use Rattle.dataguide.specs.inside.Founds.{steps_of, Costs}
 use Rattle.dataguide.proofs.ReadLaws.{origin-is, origin-within, fresh-touched}
 use Rattle.dataguide.proofs.explore.targets_at.Goals as goal

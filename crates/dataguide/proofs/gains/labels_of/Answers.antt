@@ -1,12 +1,13 @@
 use Rattle.std.proofs.Common.{◌++◌, List, get_or, ap, ◌∙◌}
+use Rattle.list_laws.proofs.OrderLaws.{less_from_cmp}
 use Rattle.dataguide.specs.Types.{Label}
 use Rattle.dataguide.specs.inside.Gains.{labels_in}
-use Rattle.dataguide.proofs.GainLaws.{label-below, same-label, in-rows}
+use Rattle.dataguide.proofs.GainLaws.{same-label, in-rows}
 use Rattle.dataguide.proofs.gains.labels_of.Goals as goal
 
 pub returns-clause-ascend : goal.returns-clause-ascend
 returns-clause-ascend c = λ i j d less within.
-    label-below (get_or c.sort_set.new.self i d).0 (get_or c.sort_set.new.self j d).0
+    less_from_cmp (get_or c.sort_set.new.self i d).0 (get_or c.sort_set.new.self j d).0
     (c.sort_set.ensures.ascend i j d less within)
 
 pub returns-clause-members : goal.returns-clause-members

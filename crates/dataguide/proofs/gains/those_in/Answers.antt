@@ -1,7 +1,6 @@
 use Rattle.std.proofs.Common.{◌↔◌, ◌+◌, ◌++◌, [], ◌∷◌, List, Contains, get_or, take, sym, ◌∙◌, subst}
 use Rattle.std.proofs.lemmas.Bool.{false≢true}
 use Rattle.std.proofs.lemmas.List.{take_all, take_more}
-use Rattle.lore_base.specs.TargetSets.{ListsInOrder}
 use Rattle.lore_base.proofs.TargetLaws.{ListsInOrder-same}
 use Rattle.dataguide.specs.Types.{Oid}
 use Rattle.dataguide.proofs.GainLaws.{passes-more, passes-less}

@@ -1,7 +1,7 @@
 use Rattle.std.proofs.Common.{◌∙◌}
 use Rattle.std.proofs.lemmas.List.Elements.{All-contains}
 use Rattle.dataguide.specs.inside.Gains.{IsThere}
-use Rattle.dataguide.proofs.GainLaws.{union-step, union-kept, union-none, node-within}
+use Rattle.dataguide.proofs.GainLaws.{union-step, union-kept, union-none}
 use Rattle.dataguide.proofs.gains.united.Goals as goal
 
 pub returns-in-Some-clause-set : goal.returns-in-Some-clause-set

@@ -1,4 +1,4 @@
-use Rattle.std.proofs.Common.{◌≡◌, All, map, take}
+use Rattle.std.proofs.Common.{◌≡◌, All, take}
 use Rattle.dataguide.specs.Deltas.{origin_set, IsOrigin}
 use Rattle.dataguide.specs.inside.Gains.{IsUnion, labels_in}
 use Rattle.dataguide.proofs.gains.united_targets.Given as goal

@@ -1,6 +1,6 @@
 use Rattle.std.proofs.Common.{ltb, sym, ◌∙◌, rules}
 use Rattle.std.proofs.lemmas.List.Sorted.{IsPartitionPoint-from_clause, IsPartitionedBy-ltb}
-use Rattle.dataguide.proofs.ChildLaws.{labels-rise, edge-there, edge-past, edge-apart}
+use Rattle.set_steps.proofs.RowLaws.{labels-rise, edge-there, edge-past, edge-apart}
 use Rattle.dataguide.proofs.nodes.next_by.Goals as goal
 
 pub returns-in-Some-clause-found : goal.returns-in-Some-clause-found

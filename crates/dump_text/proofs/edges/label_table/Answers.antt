@@ -1,5 +1,6 @@
 use Rattle.std.proofs.Common.{ℕ, List, [], ◌∷◌, ◌++◌, sym, ap, ◌∙◌}
-use Rattle.dump_text.proofs.EntryLaws.{take_one, found_twice, one_apart}
+use Rattle.list_laws.proofs.PartLaws.{take_more_read}
+use Rattle.dump_text.proofs.EntryLaws.{found_twice, one_apart}
 use Rattle.dump_text.proofs.edges.label_table.Goals as goal
 
 pub returns-in-Some-clause-none : goal.returns-in-Some-clause-none
@@ -14,7 +15,7 @@ texts-preserved c =
     let low = c.texts-test.true in
     record {
       table = c.in_ok-push-in-None.ensures.ok ∙ ap (λ (l : List (List ℕ)). l ++ text ∷ []) c.texts.invariant.table
-          ∙ sym (take_one texts c.texts.text-index text low c.text-item.is);
+          ∙ sym (take_more_read texts c.texts.text-index text low c.text-item.is);
       distinct = one_apart texts c.texts.table c.texts.text-index text low c.text-item.is c.texts.invariant.table
           c.in-None.ensures.none c.texts.invariant.distinct;
     }

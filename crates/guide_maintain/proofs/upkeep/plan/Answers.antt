@@ -1,6 +1,7 @@
-use Rattle.std.proofs.Common.{◌++◌, List, Result, Ok, Err, IfOk, IfErr, Contains, sym, subst}
+use Rattle.std.proofs.Common.{◌++◌, List, Result, Ok, Err, IfOk, Contains, sym, subst}
 use Rattle.std.proofs.lemmas.List.{map-append}
 use Rattle.std.proofs.lemmas.List.Elements.{Contains-append_left}
+use Rattle.std.proofs.lemmas.Result.{IfErr-weaker}
 use Rattle.lore_base.specs.declared.edges.Oid.{Oid}
 use Rattle.lore_base.specs.declared.edges.Edge.{Edge}
 use Rattle.dataguide.specs.Touched.{parents_of}
@@ -19,10 +20,6 @@ ok-both : {T E : Type 0} (r : Result T E) (P Q R : T → Type 0) → ((x : T) �
 ok-both (Ok x) P Q R both one other = both x one other
 ok-both (Err e) P Q R both one other = tt
 
-err-weaker : {T E : Type 0} (r : Result T E) (P Q : E → Type 0) → ((e : E) → P e → Q e) → IfErr r P → IfErr r Q
-err-weaker (Ok x) P Q weaker is = tt
-err-weaker (Err e) P Q weaker is = weaker e is
-
 pub returns-clause-within : goal.returns-clause-within
 returns-clause-within g c =
     let kept = sets_of c.args.guide.now.nodes in
@@ -39,7 +36,7 @@ returns-clause-refused g c =
     let kept = sets_of c.args.guide.now.nodes in
     let lost = c.args.lost.now in
     let fresh = c.args.fresh.now in
-    err-weaker c.plan.result _ _ (λ fault reads no_memory.
+    IfErr-weaker c.plan.result _ _ (λ fault reads no_memory.
     some_reads_are_within kept (parents_of lost) (parents_of (lost ++ fresh)) c.args.limit c.args.names.now
     (g.A.Adjacent.edges c.args.after.now) c.args.steps.now c.plan.new.steps (reads no_memory) (lost-parents lost fresh))
     c.plan.ensures.reads

@@ -1,7 +1,8 @@
 use Rattle.std.proofs.Common.{ℕ, ◌+◌, List, drop, subst}
 use Rattle.std.proofs.lemmas.List.{drop_all}
+use Rattle.list_laws.proofs.PartLaws.{drop_more_read}
 use Rattle.guide_query.specs.inside.PathNodes.{HasComeTo}
-use Rattle.guide_query.proofs.PathLaws.{drop_text, come_further, comes_nowhere, come_end}
+use Rattle.guide_query.proofs.PathLaws.{come_further, comes_nowhere, come_end}
 use Rattle.guide_query.proofs.path_nodes.node_along.Goals as goal
 
 pub texts-init : goal.texts-init
@@ -16,7 +17,7 @@ returns-in-None c = λ names edges name is start.
     let text = c.text-item.result in
     let come =
     subst (λ (l : List (List ℕ)). HasComeTo guide.nodes names edges labels name texts l c.texts.node)
-    (drop_text texts i text c.texts-test.true c.text-item.is) (c.texts.invariant.come names edges name is start) in
+    (drop_more_read texts i text c.texts-test.true c.text-item.is) (c.texts.invariant.come names edges name is start) in
     comes_nowhere guide labels names edges is name texts (drop (i + 1) texts) text c.texts.node come
     (λ set has. c.in-None.ensures names edges set is has)
 
@@ -30,7 +31,7 @@ texts-preserved c = record {
       let text = c.text-item.result in
       let come =
       subst (λ (l : List (List ℕ)). HasComeTo guide.nodes names edges labels name texts l c.texts.node)
-      (drop_text texts i text c.texts-test.true c.text-item.is) (c.texts.invariant.come names edges name is start) in
+      (drop_more_read texts i text c.texts-test.true c.text-item.is) (c.texts.invariant.come names edges name is start) in
       come_further guide labels names edges is name texts (drop (i + 1) texts) text c.texts.node c.in-Some.next come
       (λ set has. c.in-Some.ensures names edges set is has);
 }

@@ -1,11 +1,11 @@
 use Rattle.std.proofs.Common.{◌≡◌, List, ◌++◌, sym, ap, subst, ◌∙◌, Less}
+use Rattle.list_laws.proofs.PairLaws.{AllPairs-back}
 use Rattle.lore_base.specs.Walks.{edge_cmp}
 use Rattle.lore_base.specs.Databases.{AreAscendingEdges}
 use Rattle.oem_graph.specs.Types.{Edge}
 use Rattle.oem_graph.specs.declared.planned_items.PlannedItems.{PlannedItems}
 use Rattle.oem_graph.specs.Plans.{list_then}
 use Rattle.oem_graph.specs.inside.Planned.{planned}
-use Rattle.oem_graph.proofs.PartLaws.{AllPairs-back}
 use Rattle.oem_graph.proofs.edge_runs.runs_then.Goals as goal
 
 pub run_in-requires-in-Behind : goal.run_in-requires-in-Behind

@@ -1,10 +1,11 @@
 use Rattle.std.proofs.Common.{Some, ap, rules}
 use Rattle.std.proofs.lemmas.List.Sorted.{answers_always}
-use Rattle.oem_graph.proofs.ObjectLaws.{one_value, found_value, none_live}
+use Rattle.index_traits.proofs.ObjectLaws.{one_value_of}
+use Rattle.oem_graph.proofs.ObjectLaws.{found_value, none_live}
 use Rattle.oem_graph.proofs.object_lists.value_in.Goals as goal
 
 pub returns-in-Some-clause-only : goal.returns-in-Some-clause-only
-returns-in-Some-clause-only c value at = ap Some (one_value _ c.requires _ _ _ c.in-Some.ensures at)
+returns-in-Some-clause-only c value at = ap Some (one_value_of _ c.requires _ _ _ c.in-Some.ensures at)
 
 pub returns-in-Ok-clause-found : goal.returns-in-Ok-clause-found
 returns-in-Ok-clause-found c =
@@ -13,7 +14,7 @@ returns-in-Ok-clause-found c =
 
 pub returns-in-Ok-clause-only : goal.returns-in-Ok-clause-only
 returns-in-Ok-clause-only c value at =
-    ap Some (one_value _ c.requires _ _ _ (returns-in-Ok-clause-found c) at)
+    ap Some (one_value_of _ c.requires _ _ _ (returns-in-Ok-clause-found c) at)
 
 pub returns-in-Err-clause-none : goal.returns-in-Err-clause-none
 returns-in-Err-clause-none c =

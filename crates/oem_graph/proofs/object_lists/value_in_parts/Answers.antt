@@ -1,9 +1,10 @@
 use Rattle.std.proofs.Common.{◌<◌, Some, ap, inl, inr}
 use Rattle.std.proofs.lemmas.Option.{IfSome_then}
 use Rattle.std.proofs.lemmas.List.Elements.{Contains-append_cases, Contains-append_left, Contains-append_right}
+use Rattle.list_laws.proofs.PairLaws.{AllPairs-front, AllPairs-back}
+use Rattle.index_traits.proofs.ObjectLaws.{one_value_of}
 use Rattle.oem_graph.specs.Types.{Oid, Value}
-use Rattle.oem_graph.proofs.PartLaws.{AllPairs-front, AllPairs-back}
-use Rattle.oem_graph.proofs.ObjectLaws.{one_value, none-parts}
+use Rattle.oem_graph.proofs.ObjectLaws.{none-parts}
 use Rattle.oem_graph.proofs.object_lists.value_in_parts.Goals as goal
 
 pub value_in-requires : goal.value_in-requires
@@ -17,7 +18,7 @@ returns-in-Some-clause-found c = Contains-append_right c.args.kept.now c.args.mo
 
 pub returns-in-Some-clause-only : goal.returns-in-Some-clause-only
 returns-in-Some-clause-only c value at =
-    ap Some (one_value _ c.requires _ _ _ (returns-in-Some-clause-found c) at)
+    ap Some (one_value_of _ c.requires _ _ _ (returns-in-Some-clause-found c) at)
 
 pub returns-in-None-clause-found : goal.returns-in-None-clause-found
 returns-in-None-clause-found c =

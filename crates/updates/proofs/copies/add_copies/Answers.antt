@@ -1,4 +1,5 @@
 use Rattle.std.proofs.Common.{◌≡◌, ◌+◌, ◌*◌, ◌<◌, ◌≤◌, [], ◌∷◌, List, Option, IfSome, IfNone, All, length, refl, sym, ap, subst, ◌∙◌, arith, true≢false}
+use Rattle.std.proofs.lemmas.Result.{IfErr-weaker}
 use Rattle.oem_labels.specs.Labels.{first_uses}
 use Rattle.oem_text.specs.Layouts.{texts_of}
 use Rattle.lore_base.specs.ChangeCauses.{ChangeCause}
@@ -12,7 +13,6 @@ use Rattle.updates.specs.inside.Forms.{grown_order, CopyCause, copy_order}
 use Rattle.updates.specs.inside.Stamps.{IsStamp, stamped_objects, stamped_edges}
 use Rattle.updates.specs.declared.stamps.Stamp.{Stamp}
 use Rattle.updates.proofs.TextLaws.{grown_over, grown_under}
-use Rattle.updates.proofs.StatementLaws.{err_then}
 use Rattle.updates.proofs.CopyCauseLaws.{copy_told}
 use Rattle.updates.proofs.RefusalLaws.{one_copy, some_row, none_copied, stamp_inside, told_atom, told_spent, told_full, told_objects, told_edges, told_clear, told_same}
 use Rattle.updates.proofs.copies.add_copies.Goals as goal
@@ -25,7 +25,7 @@ returns-then-is_empty-clause-err c =
     let tree = literal_tree c.args.literal.now in
     let rows = c.args.rows.now in
     let none = c.is_empty.ensures.0 c.if-is_empty.true in
-    err_then c.no_copy.result (λ fault. IsToldBy (ChangeCause table graph no_changes) grown_order (refusal_of fault))
+    IfErr-weaker c.no_copy.result (λ fault. IsToldBy (ChangeCause table graph no_changes) grown_order (refusal_of fault))
     (λ fault. IsToldBy (CopyCause table graph label tree rows) copy_order (refusal_of fault))
     (λ fault told. copy_told table graph label tree rows no_changes (none_copied table graph label tree rows none) c.in-Ok.ensures.ok (refusal_of fault) told)
     c.no_copy.ensures.err

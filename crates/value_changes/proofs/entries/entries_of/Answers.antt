@@ -1,5 +1,6 @@
 use Rattle.std.proofs.Common.{◌≡◌, Some, None, List, subst}
 use Rattle.std.proofs.lemmas.List.{take_all}
+use Rattle.std.proofs.lemmas.Option.{same_Some}
 use Rattle.index_traits.specs.Entries.{entry_cmp}
 use Rattle.value_changes.specs.Types.{Value}
 use Rattle.value_changes.specs.declared.pairs.Pair.{Pair}
@@ -12,9 +13,6 @@ use Rattle.value_changes.proofs.entries.entries_of.Goals.{in-Some+in_ok-try_copy
 pub pairs-init : goal.pairs-init
 pairs-init g c = rw c.in_ok-entries.ensures (entries-none _)
 
-the_same : (a b : Value) → Some a ≡ Some b → a ≡ b
-the_same a b h = cc
-
 not_none : (a : Value) → None ≡ Some a → ⊥
 not_none a h = cc
 
@@ -25,7 +23,7 @@ pairs-preserved g c =
           (entries-more (g.V.ValueOf.objects c.args.values.now) c.args.pairs.now c.pairs.entries c.pairs.pair-index _
           c.pairs-test.true c.pairs.invariant c.requires _ _ w.in-Some.value.now w.in_ok-push.ensures.ok
           w.in_ok-try_copy.ensures w.in-Some.ensures.found w.in-Some.ensures.atomic
-          (λ other at atomic. the_same w.in-Some.value.now other (w.in-Some.ensures.only other at atomic)))
+          (λ other at atomic. same_Some w.in-Some.value.now other (w.in-Some.ensures.only other at atomic)))
       | in_default w ↦ rw w.entries-is
           (entries-less (g.V.ValueOf.objects c.args.values.now) c.args.pairs.now c.pairs.entries c.pairs.pair-index _
           c.pairs-test.true c.pairs.invariant

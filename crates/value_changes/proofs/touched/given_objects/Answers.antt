@@ -1,9 +1,9 @@
 use Rattle.std.proofs.Common.{◌↔◌, List, map, Contains, sym, ap, subst, ◌∙◌}
 use Rattle.std.proofs.lemmas.List.{take_all}
+use Rattle.index_traits.proofs.ObjectLaws.{same_oid}
 use Rattle.lore_base.specs.Databases.{IsLive}
 use Rattle.value_changes.specs.Types.{Oid, Value}
 use Rattle.value_changes.specs.inside.Touched.{oid_cmp}
-use Rattle.value_changes.proofs.PairLaws.{same_oid}
 use Rattle.value_changes.proofs.SortedLaws.{set-sorted}
 use Rattle.value_changes.proofs.TouchedLaws.{given-listed}
 use Rattle.value_changes.proofs.touched.given_objects.Goals as goal

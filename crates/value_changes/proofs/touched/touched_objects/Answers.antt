@@ -1,7 +1,7 @@
 use Rattle.std.proofs.Common.{◌↔◌, List, ◌++◌, map, Contains, sym, ap, subst, ◌∙◌}
+use Rattle.index_traits.proofs.ObjectLaws.{same_oid}
 use Rattle.value_changes.specs.Types.{Oid, Edge}
 use Rattle.value_changes.specs.inside.Touched.{oid_cmp, IsTouched}
-use Rattle.value_changes.proofs.PairLaws.{same_oid}
 use Rattle.value_changes.proofs.SortedLaws.{set-sorted}
 use Rattle.value_changes.proofs.TouchedLaws.{touched-listed}
 use Rattle.value_changes.proofs.touched.touched_objects.Goals as goal

@@ -3,7 +3,7 @@ use Rattle.std.specs.List.{sum_by}
 use Rattle.std.proofs.lemmas.Result.{err_from_is_err_and}
 use Rattle.lore_base.specs.PathOrder.{AreInPathOrder}
 use Rattle.dataguide.specs.Types.{GuideNode}
-use Rattle.dataguide.specs.ReadCosts.{reads_of}
+use Rattle.set_steps.specs.SetSteps.{reads_of}
 use Rattle.dataguide.specs.Guides.{GuideGraph, StandsFor, sets_of}
 use Rattle.dataguide.specs.Touched.{ReadsTouched, ReadsSome}
 use Rattle.dataguide.specs.Deltas.{guide_then}

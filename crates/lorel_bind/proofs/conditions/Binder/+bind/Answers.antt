@@ -1,9 +1,10 @@
 use Rattle.std.proofs.Common.{◌∙◌, length, map, sym, ap, subst, IfOk, refl}
+use Rattle.list_laws.proofs.ZipLaws.{AllZip-map}
 use Rattle.lorel_trees.specs.Trees.{cond_tree}
 use Rattle.lorel_bound.specs.Bound.{bound_cond, bound_conds}
 use Rattle.lorel_ranges.specs.Views.{texts}
 use Rattle.lorel_bind.specs.inside.Binders.{BindsCond}
-use Rattle.lorel_bind.proofs.SlotLaws.{pairs_read, pairs_of_first, all_pairs_read}
+use Rattle.lorel_bind.proofs.SlotLaws.{pairs_read, all_pairs_read}
 use Rattle.lorel_bind.proofs.BindLaws.{bound_exists, bound_for_all, bound_each, deep_read, compare_tree, same_tree}
 use Rattle.lorel_bind.proofs.conditions.Binder.+bind.Goals as goal
 
@@ -45,6 +46,6 @@ conds-conds-preserved t c = record {
 pub conds-returns : goal.conds-returns
 conds-returns t c =
     bound_each c.args.self.now c.args.quantified.now (map cond_tree c.args.conds.now) (bound_conds c.conds.list)
-    (pairs_of_first (BindsCond c.args.self.now c.args.quantified.now) cond_tree c.args.conds.now (bound_conds c.conds.list)
+    (AllZip-map (BindsCond c.args.self.now c.args.quantified.now) cond_tree c.args.conds.now (bound_conds c.conds.list)
     (all_pairs_read (λ cond made. BindsCond c.args.self.now c.args.quantified.now (cond_tree cond) made) c.args.conds.now c.args.conds.now
     (bound_conds c.conds.list) c.conds.cond-index refl c.conds-test.false c.conds.invariant.bound))

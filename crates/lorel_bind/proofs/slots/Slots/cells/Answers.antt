@@ -1,7 +1,8 @@
 use Rattle.std.proofs.Common.{refl}
+use Rattle.list_laws.proofs.ZipLaws.{AllZip-map}
 use Rattle.lorel_ranges.specs.Views.{shown_tree, ranges_of}
 use Rattle.lorel_bind.specs.inside.Slots.{BindsCell}
-use Rattle.lorel_bind.proofs.SlotLaws.{pairs_read, all_pairs_read, pairs_of_first}
+use Rattle.lorel_bind.proofs.SlotLaws.{pairs_read, all_pairs_read}
 use Rattle.lorel_bind.proofs.slots.Slots.cells.Goals as goal
 
 pub cells-preserved : goal.cells-preserved
@@ -13,6 +14,6 @@ cells-preserved c =
 
 pub returns : goal.returns
 returns c =
-    pairs_of_first (BindsCell c.args.self.now.names.now (ranges_of c.args.self.now.fused.items)) shown_tree c.args.shown.now c.cells.cells
+    AllZip-map (BindsCell c.args.self.now.names.now (ranges_of c.args.self.now.fused.items)) shown_tree c.args.shown.now c.cells.cells
     (all_pairs_read (λ cell bound. BindsCell c.args.self.now.names.now (ranges_of c.args.self.now.fused.items) (shown_tree cell) bound)
     c.args.shown.now c.args.shown.now c.cells.cells c.cells.cell-index refl c.cells-test.false c.cells.invariant)

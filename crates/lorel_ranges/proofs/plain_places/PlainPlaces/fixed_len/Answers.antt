@@ -2,11 +2,11 @@ use Rattle.std.proofs.Common.{◌≡◌, ◌∙◌, ℕ, inl, inr, List, Some, r
 use Rattle.std.specs.List.{Contains, slice_get}
 use Rattle.std.proofs.lemmas.Bool.{cases_eq}
 use Rattle.std.proofs.lemmas.List.{length-map}
+use Rattle.list_laws.proofs.PlaceLaws.{Contains-from_place}
 use Rattle.lore_base.specs.Paths.{path_tree}
 use Rattle.lorel_ranges.specs.Places.{Place}
 use Rattle.lorel_ranges.specs.Views.{place_tree, place_trees, prefix_of}
 use Rattle.lorel_ranges.specs.inside.Indexes.{IsVariable}
-use Rattle.lorel_ranges.proofs.ListLaws.{Contains-slot}
 use Rattle.lorel_ranges.proofs.PrefixLaws.{fixed_at}
 use Rattle.lorel_ranges.proofs.FindLaws.{found_some, found_none, prefix_unvariable}
 use Rattle.lorel_ranges.proofs.plain_places.PlainPlaces.fixed_len.Goals as goal
@@ -16,7 +16,7 @@ returns-then-is_some-clause-fixed c ranges same =
     let path = place_tree c.args.path in
     let found = found_some c.find_prefix.result (λ number. slice_get (place_trees c.args.self.now) number ≡ Some (place_tree c.prefix.result))
     (sym c.if-is_some.ensures) c.find_prefix.ensures.some in
-    let there = Contains-slot (place_trees c.args.self.now) found.0 (place_tree c.prefix.result) found.1 in
+    let there = Contains-from_place (place_trees c.args.self.now) found.0 (place_tree c.prefix.result) found.1 in
     fixed_at ranges path c.prefixes.len
     (inr (subst (λ (all : List Place). Contains all (prefix_of c.prefixes.len path)) (sym same)
     (subst (λ (p : Place). Contains (place_trees c.args.self.now) p) c.prefix.ensures.place there)))

@@ -1,11 +1,11 @@
 use Rattle.std.proofs.Common.{◌≡◌, ◌∙◌, [], ◌∷◌, List, Some, map, inl, inr, refl, sym, ap, subst}
 use Rattle.std.specs.List.{Contains, slice_get}
 use Rattle.std.proofs.lemmas.List.{map-append}
+use Rattle.list_laws.proofs.PlaceLaws.{Contains-from_place}
 use Rattle.lore_base.specs.Paths.{path_tree}
 use Rattle.lorel_ranges.specs.Places.{Place, at_root, ranged}
 use Rattle.lorel_ranges.specs.Ranges.{places}
 use Rattle.lorel_ranges.specs.Views.{place_tree, place_trees, ranges_of}
-use Rattle.lorel_ranges.proofs.ListLaws.{Contains-slot}
 use Rattle.lorel_ranges.proofs.FindLaws.{found_some, found_none}
 use Rattle.lorel_ranges.proofs.MakingLaws.{map_now, pushed_range, fresh_more, absent_place}
 use Rattle.lorel_ranges.proofs.select_ranges.SelectRanges.add_variable.Goals as goal
@@ -25,7 +25,7 @@ returns-then-is_some-clause-made c =
     let place = at_root (ranged c.args.variable.now) in
     let found = found_some c.find.result (λ number. slice_get (place_trees c.args.self.now.plain) number ≡ Some place) (sym c.if-is_some.ensures) c.find.ensures.some in
     inl (
-      subst (λ (all : List Place). Contains all place) c.requires.fresh.linked.same (Contains-slot (place_trees c.args.self.now.plain) found.0 place found.1),
+      subst (λ (all : List Place). Contains all place) c.requires.fresh.linked.same (Contains-from_place (place_trees c.args.self.now.plain) found.0 place found.1),
       refl,
     )
 

@@ -1,9 +1,10 @@
 use Rattle.std.proofs.Common.{◌≢◌, ◌≤◌, ℕ, ◌+◌, [], ◌∷◌, length, Some, sym, ap, subst, ◌∙◌, arith}
 use Rattle.std.specs.List.{slice_get}
+use Rattle.oem_labels.proofs.PlaceLaws.{label_in-at}
 use Rattle.oem_text.specs.Types.{LABELS}
 use Rattle.oem_text.specs.Layouts.{NumberedTexts, table_of, with_texts, count_with}
 use Rattle.oem_text.specs.inside.Views.{numbered_texts, AreNumbered}
-use Rattle.oem_text.proofs.NumberLaws.{label_in-at, with_known, count-known, count-new, absent_right, with_new, numbered_more, label-new}
+use Rattle.oem_text.proofs.NumberLaws.{with_known, count-known, count-new, absent_right, with_new, numbered_more, label-new}
 use Rattle.oem_text.proofs.label_numbers.LabelNumbers.number.Goals as goal
 
 pub returns-in-Some-clause-label : goal.returns-in-Some-clause-label

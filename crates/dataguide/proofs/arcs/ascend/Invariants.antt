@@ -1,8 +1,0 @@
-use Rattle.std.proofs.Common.{◌≡◌, ℕ, ◌+◌, ◌<◌, Less, get_or}
-use Rattle.dataguide.specs.Types.{Oid, Label}
-use Rattle.dataguide.specs.inside.Arcs.{arc_cmp}
-use Rattle.dataguide.proofs.arcs.ascend.Given as goal
-
-abbrev pub invariant-arcs : goal.invariant-arcs
-invariant-arcs l =
-    (k : ℕ) (d : Label × Oid) → k + 1 < l.place → arc_cmp (get_or l.arcs k d) (get_or l.arcs (k + 1) d) ≡ Less

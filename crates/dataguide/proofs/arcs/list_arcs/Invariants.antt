@@ -1,6 +1,0 @@
-use Rattle.std.proofs.Common.{◌≡◌, take}
-use Rattle.dataguide.specs.inside.Arcs.{arcs_of}
-use Rattle.dataguide.proofs.arcs.list_arcs.Given as goal
-
-abbrev pub invariant-edges : goal.invariant-edges
-invariant-edges l = l.arcs ≡ arcs_of (take l.edge-index l.fn.edges)

@@ -1,9 +1,0 @@
-use Rattle.std.proofs.Common.{length}
-use Rattle.dataguide.proofs.GroupLaws.{IsGrouping}
-use Rattle.dataguide.proofs.groups.group_arcs.Given as goal
-
-abbrev pub invariant-groups : goal.invariant-groups
-invariant-groups l = IsGrouping l.fn.arcs l.rest l.groups.items
-
-abbrev pub decreases-groups : goal.decreases-groups
-decreases-groups l = length l.rest

@@ -1,0 +1,9 @@
+pub mod MemberLaws
+pub mod PlaceLaws
+pub mod PartLaws
+pub mod PairLaws
+pub mod ZipLaws
+pub mod OrderLaws
+pub mod AscentLaws
+pub mod InsertLaws
+pub mod SumLaws
