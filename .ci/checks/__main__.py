@@ -92,6 +92,8 @@ OUTSIDE = (
     ("the talk through pipes", lambda program: fault_of(sys.executable, TOP / ".ci" / "talk.py", program)),
     ("the answers of lore and of plain Python to the questions of bench/peers",
      lambda program: fault_of(TOP / "bench" / "peers", "--sizes", "50", "--check", "--program", program)),
+    ("a thousand random changes, against plain lists of edges",
+     lambda program: fault_of(TOP / "bench" / "edges", "run", program, "1", "20", "50")),
 )
 
 

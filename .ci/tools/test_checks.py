@@ -74,6 +74,15 @@ class Counters(unittest.TestCase):
             self.assertIn("crates/lore_db/src/inner/planted.rt: let blank = Blank::new(1);", counters.fault(top))
             self.assertEqual(counters.fault(top).count("planted.rt"), 1)
 
+    def test_a_module_of_tests_may_make_one(self):
+        with tempfile.TemporaryDirectory() as top:
+            source = pathlib.Path(top, "crates", "links", "src", "lib.rt")
+            source.parent.mkdir(parents=True)
+            source.with_name("tests.rt").write_text("fn count() {\n    let blank = Blank::new(1);\n}\n")
+            for text, may in (("#[cfg(test)]\nmod tests;\n", True), ("mod tests;\n", False), ("mod tests;\n#[cfg(test)]\nmod tests;\n", False)):
+                source.write_text("mod links;\n" + text)
+                self.assertEqual(counters.fault(top) is None, may, text)
+
 
 class Cases(unittest.TestCase):
     def test_a_line_of_a_case_may_stand_for_a_text_many_times(self):

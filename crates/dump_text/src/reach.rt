@@ -1,84 +1,10 @@
-ghost use Rattle.std.specs.Prelude.{◌≡◌, ◌≢◌, ◌+◌, ◌≤◌, ◌<◌, ◌↔◌, ◌++◌, length, map, All};
-ghost use Rattle.std.specs.Prelude.{AllPairs, Contains, IsTrue, IfOk, OnOk};
-ghost use Rattle.std.specs.List.{AllWithin, HoldsAt};
-ghost use Rattle.lore_base.specs.Walks.{out_of};
+ghost use Rattle.std.specs.Prelude.{◌≡◌, ◌<◌, ◌↔◌, map, All, AllPairs, Contains, IsTrue, IfOk};
 ghost use Rattle.lore_base.specs.Databases.{AreAscendingEdges, IsReached};
 ghost use Rattle.lore_base.specs.TargetSets.{ListsInOrder};
 
-use graph_search::Counter;
-use lore_base::{Edge, EdgeBuf, NoMemory, OemText, Oid, OidBuf, Value};
-use object_search::{OutArcs, reached_from};
+use lore_base::{Edge, NoMemory, OemText, Oid, OidBuf, Value};
+use object_search::{SortedEdges, reached_from};
 use std::alloc::Global;
-use std::marker::Model;
-
-// Ascending edges, which are read without being counted.
-#[derive(Drop)]
-struct EdgeList<'a> {
-    edges: &'a [Edge],
-}
-
-impl<'a> Model for EdgeList<'a> {
-    ghost use Rattle.std.specs.Prelude.{List};
-    ghost use Rattle.lore_base.specs.Databases.{AreAscendingEdges};
-    ghost use Rattle.dump_text.specs.Types.{Edge};
-
-    ghost Value = { List Edge };
-
-    ghost view = { λ l. l.edges.now };
-
-    ghost invariant = { λ l. AreAscendingEdges l.edges.now };
-}
-
-impl<'a> EdgeList<'a> {
-    // Appends the edges that leave the object.
-    fn push_run(&self, oid: Oid, buf: &mut EdgeBuf) -> Result<(), NoMemory>
-        ensures { OnOk result (buf.new ≡ buf.old ++ out_of oid self.now) }
-    {
-        buf.append(run_of(self.edges, oid))
-    }
-}
-
-impl<'a> OutArcs<()> for EdgeList<'a> {
-    ghost edges = { λ list. list };
-
-    ghost cost = { λ _ _. 0 };
-
-    fn push_out(&self, oid: Oid, buf: &mut EdgeBuf, counter: &mut ()) -> Result<(), NoMemory>
-        ensures edges { OnOk result (buf.new ≡ buf.old ++ out_of oid self.now) }
-        ensures cost { OnOk result
-            (⟦<() as Counter>⟧.count counter.new ≡ ⟦<() as Counter>⟧.count counter.old + 0) }
-    {
-        let () = *counter;
-        self.push_run(oid, buf)
-    }
-}
-
-// How many of the edges leave the object before the first one that doesn't.
-fn run_length(edges: &[Edge], oid: Oid) -> usize
-    ensures inside { result ≤ length edges.now }
-    ensures run { AllWithin (λ edge. edge.parent.0 ≡ oid.0) edges.now 0 result }
-    ensures end { result < length edges.now
-        → HoldsAt (λ edge. edge.parent.0 ≢ oid.0) edges.now result }
-{
-    'run: for (place, edge) in edges.iter().enumerate() {
-        if edge.parent.0 != oid.0 {
-            return place;
-        }
-    }
-    edges.len()
-}
-
-// The edges that leave the object: one run of the ascending edges, whose start is found by binary
-// search.
-fn run_of(edges: &[Edge], oid: Oid) -> &[Edge]
-    requires { AreAscendingEdges edges.now }
-    ensures { result.now ≡ out_of oid edges.now }
-{
-    let start = edges.partition_point(|edge| edge.parent.0 < oid.0);
-    let rest = &edges[start..];
-    let len = run_length(rest, oid);
-    &rest[..len]
-}
 
 // The objects of the names.
 fn starts_of(alloc: Global, names: &[(OemText, Oid)]) -> Result<OidBuf, NoMemory>
@@ -101,8 +27,8 @@ fn named_objects(
     ensures { IfOk result (ListsInOrder (IsReached names.now edges.now)) }
 {
     let starts = starts_of(alloc, names)?;
-    let list = EdgeList { edges };
-    reached_from(alloc, &list, starts.as_slice(), &mut ())
+    let arcs = SortedEdges::new(edges);
+    reached_from(alloc, &arcs, starts.as_slice(), &mut ())
 }
 
 // Whether the object is one of the ascending ones, found by binary search.

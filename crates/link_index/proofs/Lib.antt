@@ -1,2 +1,7 @@
 pub mod LinkLaws
+pub mod RecordLaws
+pub mod HeadLaws
+pub mod DropLaws
+pub mod ListingLaws
 pub mod RunLaws
+pub mod CommitLaws

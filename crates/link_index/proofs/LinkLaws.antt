@@ -1,5 +1,5 @@
 -- Links and the edges that they stand for.
-use Rattle.std.proofs.Common.{◌≡◌, ◌<◌, ◌↔◌, ◌==◌, ◌&&◌, true, Equal, List, map, length, get_or, Contains, All, sym, ap, ◌∙◌, inl, inr, arith}
+use Rattle.std.proofs.Common.{◌≡◌, ◌<◌, ◌↔◌, ◌==◌, ◌&&◌, true, Equal, List, map, length, get_or, Contains, All, sym, ap, subst, ◌∙◌, inl, inr, arith}
 use Rattle.std.proofs.lemmas.Bool.Decides.{nat_tests}
 use Rattle.std.proofs.lemmas.List.{get_or-map, length-map}
 use Rattle.std.proofs.lemmas.List.Elements.{All-contains, Contains-get_or}
@@ -97,3 +97,18 @@ linked-less kept gone come after edges gone_edges come_edges kept_are gone_are c
     | inr both ↦ inr (at_link kept edge both.0, λ goes. both.1 (at_edge gone (link_at edge) goes))
   ])),
 )
+
+-- links of edges that aren't kept aren't kept, and those of edges that are, are
+pub all_new : (kept come : List Link) (edges come_edges : List Edge) → edges_of kept ≡ edges → edges_of come ≡ come_edges → All (λ edge. Contains edges edge → ⊥) come_edges
+    → All (λ link. Contains kept link → ⊥) come
+all_new kept come edges come_edges kept_are come_are given k d lt at =
+    All-contains (λ edge. Contains edges edge → ⊥) come_edges (edge_at (get_or come k d)) given
+    (subst (λ (l : List Edge). Contains l (edge_at (get_or come k d))) come_are (at_edge come (get_or come k d) (Contains-get_or come k d lt)))
+    (subst (λ (l : List Edge). Contains l (edge_at (get_or come k d))) kept_are (at_edge kept (get_or come k d) at))
+
+pub all_kept : (kept gone : List Link) (edges gone_edges : List Edge) → edges_of kept ≡ edges → edges_of gone ≡ gone_edges → All (Contains edges) gone_edges → All (Contains kept) gone
+all_kept kept gone edges gone_edges kept_are gone_are given k d lt =
+    at_link kept (edge_at (get_or gone k d))
+    (subst (λ (l : List Edge). Contains l (edge_at (get_or gone k d))) (sym kept_are)
+    (All-contains (Contains edges) gone_edges (edge_at (get_or gone k d)) given
+    (subst (λ (l : List Edge). Contains l (edge_at (get_or gone k d))) gone_are (at_edge gone (get_or gone k d) (Contains-get_or gone k d lt)))))

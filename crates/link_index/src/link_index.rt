@@ -4,31 +4,45 @@ ghost use Rattle.index_traits.specs.Entries.{AreLinks, AreAscendingLinks};
 ghost use Rattle.sorted_list.specs.SortedLists.{IsLessWith};
 ghost use Rattle.link_index.specs.Links.{HasRoom};
 
-use crate::link::Link;
-use crate::link_lists::{push_edges, sorted_links};
+use crate::changes::{put_links, take_links};
+use crate::heads::Head;
+use crate::link_lists::sorted_links;
 use crate::link_plan::LinkPlan;
-use crate::link_runs::run_of;
+use crate::link_runs::push_run;
+use crate::listing::{drop_childless, list_children};
+use crate::records::LinkRecord;
 use index_traits::Links;
 use lore_base::{EdgeBuf, Label, NoMemory, Oid, Steps};
-use sorted_list::SortedList;
 use std::alloc::Global;
 use std::marker::Model;
 use std::sync::ledger::Ledger;
 
-/// The edges of a graph in the order of child, label and parent. Contracts see it as the list of
-/// them, and for how many more it has room.
+/// The edges of a graph as records in a list for each child, in the order of label and parent.
+/// Contracts see it as the list of them in the order of child, label and parent, and for how many more
+/// it has room.
 #[derive(Drop)]
 pub struct LinkIndex {
-    links: SortedList<Link>,
+    records: Vec<LinkRecord>,
+    heads: Vec<Head>,
+    // The first of the free records, which lead from one to the next.
+    free: Option<usize>,
 }
 
 impl Model for LinkIndex {
+    ghost use Rattle.std.specs.Prelude.{◌-◌, length, min, vec_capacity};
     ghost use Rattle.link_index.specs.Links.{RoomyLinks};
     ghost use Rattle.link_index.specs.inside.LinkEdges.{edges_of};
+    ghost use Rattle.link_index.specs.inside.Records.{links_of, IsLinked};
 
     ghost Value = { RoomyLinks };
 
-    ghost view = { λ i. record { links = edges_of i.links.items; room = i.links.room } };
+    ghost view = { λ i. record {
+      links = edges_of (links_of i.records.items);
+      room = min (vec_capacity i.records - length i.records.items)
+          (vec_capacity i.heads - length i.heads.items);
+    } };
+
+    ghost invariant = { λ i. IsLinked i.heads.items i.records.items };
 }
 
 impl LinkIndex {
@@ -37,7 +51,9 @@ impl LinkIndex {
         ensures { result.links ≡ [] }
     {
         LinkIndex {
-            links: SortedList::new(alloc),
+            records: Vec::new(alloc),
+            heads: Vec::new(alloc),
+            free: None,
         }
     }
 
@@ -63,11 +79,13 @@ impl LinkIndex {
         ensures room { OnOk result (HasRoom self.new plan.now) }
         ensures same { self.new.links ≡ self.old.links }
     {
-        self.links.reserve(plan.come.len())
+        self.records.reserve(plan.come.len())?;
+        self.heads.reserve(plan.come.len())?;
+        Ok(())
     }
 
-    /// Takes out the edges that go, which are kept, and puts in those that come, which aren't. Takes
-    /// no memory.
+    /// Puts in the edges that come, which aren't kept, and takes out those that go, which are. The
+    /// records of the others stay where they are. Takes no memory.
     pub fn commit(&mut self, plan: LinkPlan)
         requires kept { All (Contains self.old.links) plan.gone }
         requires new { All (λ edge. ¬ Contains self.old.links edge) plan.come }
@@ -76,7 +94,21 @@ impl LinkIndex {
         ensures links { IsLessWith self.old.links plan.gone plan.come self.new.links }
     {
         let LinkPlan { gone, come } = plan;
-        self.links.change(gone.as_slice(), come);
+        let (gone, come) = (gone.as_slice(), come.as_slice());
+        list_children(&mut self.heads, come);
+        put_links(
+            self.heads.as_mut_slice(),
+            &mut self.records,
+            &mut self.free,
+            come,
+        );
+        take_links(
+            self.heads.as_mut_slice(),
+            self.records.as_mut_slice(),
+            &mut self.free,
+            gone,
+        );
+        drop_childless(&mut self.heads, gone);
     }
 }
 
@@ -90,9 +122,15 @@ impl Links for LinkIndex {
         buf: &mut EdgeBuf,
         steps: &mut Steps<L>,
     ) -> Result<(), NoMemory> {
-        let run = run_of(self.links.as_slice(), oid, label);
-        push_edges(buf, run)?;
-        steps.tick(1 + run.len() as u64);
+        let before = buf.len();
+        push_run(
+            self.heads.as_slice(),
+            self.records.as_slice(),
+            oid,
+            label,
+            buf,
+        )?;
+        steps.tick(1 + (buf.as_slice().len() - before) as u64);
         Ok(())
     }
 }

@@ -1,6 +1,5 @@
-ghost use Rattle.std.specs.Prelude.{◌≡◌, ◌++◌, map, IfOk, OnOk, OnErr};
-ghost use Rattle.lore_base.specs.Lists.{Extends};
-ghost use Rattle.link_index.specs.inside.LinkEdges.{AreSortedLinks, edges_of, link_at};
+ghost use Rattle.std.specs.Prelude.{◌≡◌, map, IfOk};
+ghost use Rattle.link_index.specs.inside.LinkEdges.{AreSortedLinks, link_at};
 
 use crate::link::{ByChild, ByLabel, Link};
 use key_sort::set_by_keys;
@@ -27,15 +26,4 @@ fn links_of(alloc: Global, edges: &[Edge]) -> Result<Listing<Link>, NoMemory>
         links.push(Link::of(edge))?;
     }
     Ok(links)
-}
-
-// Puts the edges of these links behind those of `buf`.
-pub(crate) fn push_edges(buf: &mut EdgeBuf, links: &[Link]) -> Result<(), NoMemory>
-    ensures ok { OnOk result (buf.new ≡ buf.old ++ edges_of links.now) }
-    ensures err { OnErr result (Extends buf.old buf.new) }
-{
-    'links: for link in links {
-        buf.push(link.edge())?;
-    }
-    Ok(())
 }

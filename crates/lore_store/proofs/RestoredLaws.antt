@@ -9,6 +9,7 @@ use Rattle.oem_changes.proofs.ValidLaws.{rooted_graph}
 use Rattle.oem_labels.specs.Labels.{AreLabels, first_uses}
 use Rattle.oem_labels.proofs.TextSetLaws.{first_uses-apart}
 use Rattle.oem_graph.specs.Graphs.{IsIndexable}
+use Rattle.oem_graph.proofs.GraphLaws.{linked_ends}
 use Rattle.oem_graph.specs.Plans.{AreEdgeChanges}
 use Rattle.lore_base.specs.Databases.{IsRestorable}
 use Rattle.index_traits.specs.declared.entries.ValueEntry.{ValueEntry}
@@ -97,7 +98,11 @@ restore_cause db guides.NoMemory cause = tt
 
 module _ (db : Database) (sound : IsRestorable db) where
   pub restored_indexable : IsIndexable db.graph
-  restored_indexable = record { ordered = sound.rooted.well_formed.ordered; few_edges = omega (arith, sound.few_edges) }
+  restored_indexable = record {
+    ordered = sound.rooted.well_formed.ordered;
+    linked = linked_ends db.graph sound.rooted.well_formed;
+    few_edges = omega (arith, sound.few_edges);
+  }
 
   pub restored_labels : AreLabels db.labels
   restored_labels = record { distinct = sound.labels_distinct; few = omega (arith, sound.few_labels) }

@@ -1,1 +1,4 @@
 pub mod SearchLaws
+pub mod CostLaws
+pub mod EdgeLaws
+pub mod RunLaws

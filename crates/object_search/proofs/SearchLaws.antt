@@ -1,7 +1,6 @@
 -- A search over the children of objects finds what walks reach.
-use Rattle.std.proofs.Common.{◌≡◌, ◌↔◌, ℕ, ◌==◌, true, false, List, [], ◌∷◌, ◌++◌, get_or, map, AllPairs, Contains, Less, refl, sym, ap, ◌∙◌, subst, eq-eqb, true≢false}
+use Rattle.std.proofs.Common.{◌≡◌, ◌↔◌, ℕ, ◌==◌, true, List, [], ◌∷◌, ◌++◌, get_or, map, AllPairs, Contains, Less, refl, sym, ap, subst, eq-eqb}
 use Rattle.std.specs.Ordering.{nat_cmp}
-use Rattle.std.proofs.lemmas.List.Elements.{All-contains}
 use Rattle.lore_base.specs.Walks.{Walk, out_of, edge_of}
 use Rattle.lore_base.specs.TargetSets.{ListsInOrder}
 use Rattle.lore_base.proofs.MemberLaws.{Contains-same, Contains-filter, unfiltered}
@@ -11,6 +10,7 @@ use Rattle.graph_search.specs.Closures.{IsMet, LeadAlong, LeadsOn, IsClosure, Li
 use Rattle.object_search.specs.Types.{Oid, Label, Edge, Met}
 use Rattle.object_search.specs.Reached.{IsWalkedFrom}
 use Rattle.object_search.specs.inside.Searches.{HasMark, met_at, HasChild, same_oid}
+use Rattle.object_search.proofs.CostLaws.{met_object}
 
 -- the children of an object are what it leads to
 pub leads_to_children : (edges : List Edge) (oid : Oid) (met : Met) (old new : List (Oid × Met))
@@ -67,23 +67,15 @@ module _ (edges : List Edge) where
       → (oid : Oid) → Contains (map (λ place. place.0) found) oid ↔ IsWalkedFrom edges starts oid
   met_walked starts found closure oid = (
     λ at.
-        let place = Contains-from_map (λ (p : Oid × Met). p.0) found oid at in
-        let marked : (place.0).1.0 ≡ true = is_marked (place.0).1 (All-contains (λ (p : Oid × Met). ((mark : ℕ) → HasMark p.1 mark → ⊥) → ⊥) found place.0 closure.marked place.1) in
-        let here : IsMet HasMark found ((place.0).0, 0) = ((place.0).1, place.1, (marked, refl)) in
-        let led = (closure.exact ((place.0).0, 0)).0 here in
-        let walk = walk_of led.1 led.0 ((place.0).0, 0) led.3 in
-        ((led.0).0, walk.0, started starts led.0 led.2, subst (λ (o : Oid). Walk edges (led.0).0 walk.0 o) place.2 walk.1),
+        let here = met_object found closure.marked oid at in
+        let led = (closure.exact (oid, 0)).0 here in
+        let walk = walk_of led.1 led.0 (oid, 0) led.3 in
+        ((led.0).0, walk.0, started starts led.0 led.2, walk.1),
     λ walked.
         let way = way_of 0 walked.1 walked.0 oid walked.3 in
         let here = (closure.exact (oid, 0)).1 ((walked.0, 0), way.0, starting starts walked.0 walked.2, way.1) in
         Contains-map (λ (p : Oid × Met). p.0) found (oid, here.0) here.1,
   )
-    where
-      is_marked : (met : Met) → (((mark : ℕ) → HasMark met mark → ⊥) → ⊥) → met.0 ≡ true
-      is_marked met some = elim (met.0) as (λ b. met.0 ≡ b → b ≡ true) [
-        | true ↦ λ _. refl
-        | false ↦ λ is. absurd (some (λ mark has. true≢false (sym has.0 ∙ is)))
-      ] refl
 
 -- what was met, in the order of the numbers
 pub walked_in_order : (edges : List Edge) (starts oids sorted : List Oid) (found : List (Oid × Met))

@@ -1,3 +1,4 @@
 pub mod Types
 pub mod Reached
+pub mod EdgeTests
 pub mod inside

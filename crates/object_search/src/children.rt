@@ -1,6 +1,6 @@
-ghost use Rattle.std.specs.Prelude.{◌≡◌, ◌+◌, List, ◌++◌, map, OnOk};
+ghost use Rattle.std.specs.Prelude.{◌≡◌, ℕ, ◌+◌, List, ◌++◌, map, OnOk};
 ghost use Rattle.graph_search.specs.Closures.{LeadsOn, Lists};
-ghost use Rattle.object_search.specs.Types.{Edge as TheEdge};
+ghost use Rattle.object_search.specs.Types.{Oid as TheOid, Edge as TheEdge};
 ghost use Rattle.object_search.specs.inside.Searches.{HasMark, HasChild, same_oid};
 
 use crate::met::Met;
@@ -33,13 +33,13 @@ impl<'a, A: OutArcs<C>, C: Counter> Space<C> for Children<'a, A> {
 
     type Marks = Met;
 
-    ghost Seen = { List TheEdge };
+    ghost Seen = { List TheEdge × (TheOid → ℕ) };
 
-    ghost seen = { λ children. A.edges children.arcs.now };
+    ghost seen = { λ children. (A.edges children.arcs.now, A.cost children.arcs.now) };
 
-    ghost leads = { HasChild };
+    ghost leads = { λ seen. HasChild seen.0 };
 
-    ghost cost = { λ edges place. A.cost edges place.0 };
+    ghost cost = { λ seen place. seen.1 place.0 };
 
     fn push_next(
         &mut self,
@@ -51,8 +51,10 @@ impl<'a, A: OutArcs<C>, C: Counter> Space<C> for Children<'a, A> {
         ensures next { OnOk result (Lists HasMark (LeadsOn HasMark
             (HasChild (A.edges self.old.arcs.now)) place) out.old.items out.new.items) }
         ensures steps { OnOk result (C.count steps.new
-            ≡ C.count steps.old + A.cost (A.edges self.old.arcs.now) place.0) }
-        ensures same { A.edges self.new.arcs.now ≡ A.edges self.old.arcs.now }
+            ≡ C.count steps.old + A.cost self.old.arcs.now place.0) }
+        ensures same { ◌≡◌ {A = List TheEdge × (TheOid → ℕ)}
+            (A.edges self.new.arcs.now, A.cost self.new.arcs.now)
+            (A.edges self.old.arcs.now, A.cost self.old.arcs.now) }
     {
         self.edges.cut(0);
         self.arcs.push_out(place.0, &mut self.edges, steps)?;

@@ -15,7 +15,7 @@ pub struct GraphArcs<'a, A> {
 impl<'a, A: Adjacent, L: Ledger> OutArcs<Steps<L>> for GraphArcs<'a, A> {
     ghost edges = { λ arcs. A.edges arcs.graph.now };
 
-    ghost cost = { λ edges oid. 1 + length (out_of oid edges) };
+    ghost cost = { λ arcs oid. 1 + length (out_of oid (A.edges arcs.graph.now)) };
 
     fn push_out(&self, oid: Oid, buf: &mut EdgeBuf, steps: &mut Steps<L>) -> Result<(), NoMemory>
         ensures edges { OnOk result

@@ -5,9 +5,11 @@
 pub use graph_arcs::GraphArcs;
 pub use out_arcs::OutArcs;
 pub use reached::reached_from;
+pub use sorted_edges::SortedEdges;
 
 mod children;
 mod graph_arcs;
 mod met;
 mod out_arcs;
 mod reached;
+mod sorted_edges;

@@ -11,12 +11,12 @@ pub trait OutArcs<C: Counter> {
     ghost edges: { Self → List TheEdge };
 
     /// What it costs to read the edges that leave an object.
-    ghost cost: { List TheEdge → TheOid → ℕ };
+    ghost cost: { Self → TheOid → ℕ };
 
     /// Appends the edges that leave the object to `buf`. Where memory is refused, nothing is
     /// promised of `buf` and `counter`.
     fn push_out(&self, oid: Oid, buf: &mut EdgeBuf, counter: &mut C) -> Result<(), NoMemory>
         ensures edges { OnOk result (buf.new ≡ buf.old ++ out_of oid (edges self.now)) }
         ensures cost { OnOk result
-            (C.count counter.new ≡ C.count counter.old + cost (edges self.now) oid) };
+            (C.count counter.new ≡ C.count counter.old + cost self.now oid) };
 }

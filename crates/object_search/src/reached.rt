@@ -1,4 +1,4 @@
-ghost use Rattle.std.specs.Prelude.{◌≡◌, map, IfOk};
+ghost use Rattle.std.specs.Prelude.{◌≡◌, ◌+◌, map, sum_by, IfOk};
 ghost use Rattle.lore_base.specs.TargetSets.{ListsInOrder};
 ghost use Rattle.object_search.specs.Reached.{IsWalkedFrom};
 ghost use Rattle.object_search.specs.inside.Searches.{met_at};
@@ -32,14 +32,17 @@ fn objects_of(alloc: Global, places: &[(Oid, Met)]) -> Result<OidBuf, NoMemory>
     Ok(oids)
 }
 
-/// The objects that some walk reaches from one of the starts, ascending, the starts among them.
+/// The objects that some walk reaches from one of the starts, ascending, the starts among them. The
+/// edges that leave each of them are read once.
 pub fn reached_from<A: OutArcs<C>, C: Counter>(
     alloc: Global,
     arcs: &A,
     starts: &[Oid],
     counter: &mut C,
 ) -> Result<OidBuf, NoMemory>
-    ensures { IfOk result (ListsInOrder (IsWalkedFrom (A.edges arcs.now) starts.now)) }
+    ensures reached { IfOk result (ListsInOrder (IsWalkedFrom (A.edges arcs.now) starts.now)) }
+    ensures cost { IfOk result (λ oids. C.count counter.new
+        ≡ C.count counter.old + sum_by (A.cost arcs.now) oids) }
 {
     let mut children = Children {
         arcs,

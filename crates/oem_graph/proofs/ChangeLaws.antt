@@ -1,143 +1,90 @@
--- What a plan changes of ascending edges: those that are lost, and those that are fresh.
-use Rattle.std.proofs.Common.{◌≡◌, ◌++◌, ◌∷◌, [], ◌||◌, ◌⊎◌, inl, inr, not, cond, Bool, false, Less, List, length}
-use Rattle.std.proofs.Common.{Equal, Contains, refl, sym, ap, ◌∙◌, subst, append_assoc, arith}
-use Rattle.std.proofs.lemmas.Bool.Decides.{nat_tests}
-use Rattle.std.proofs.lemmas.List.{nil_from_length}
-use Rattle.std.proofs.lemmas.List.Elements.{Contains-append_cases, Contains-append_left, Contains-append_right}
-use Rattle.lore_base.proofs.ListLaws.{AllPairs-tail, AllPairs-head}
-use Rattle.lore_base.proofs.MemberLaws.{Contains-none, Contains-head, Contains-tail, Contains-cases, Contains-same}
+-- The edges that a plan takes away and those that it brings, and how many there are then.
+use Rattle.std.proofs.Common.{◌≡◌, ◌⊎◌, ◌↔◌, ℕ, ◌+◌, Bool, true, false, not, Less, List, length, All, Contains, refl, sym, ap, ◌∙◌, inl, inr, subst, arith}
+use Rattle.std.specs.List.{filter}
+use Rattle.std.proofs.lemmas.List.Elements.{All-contains}
+use Rattle.std.proofs.lemmas.List.Filters.{length-filter_both}
+use Rattle.std.proofs.lemmas.List.Kept.{AllPairs-filter}
+use Rattle.slab.specs.Slab.{Slab}
 use Rattle.lore_base.specs.Walks.{edge_cmp}
 use Rattle.lore_base.specs.Databases.{AreAscendingEdges}
-use Rattle.oem_graph.specs.Types.{Edge}
-use Rattle.oem_graph.specs.Plans.{AreEdgeChanges}
-use Rattle.oem_graph.specs.inside.EdgeTests.{edge_eq, is_listed}
+use Rattle.lore_base.specs.Deltas.{IsOnlyIn}
+use Rattle.lore_base.proofs.MemberLaws.{Contains-filter, unfiltered}
+use Rattle.edge_lists.specs.Views.{edges_of, is_there, those_there}
+use Rattle.edge_lists.proofs.ViewLaws as views
+use Rattle.edge_lists.proofs.ViewLaws.{edges_lie, edges_ascend}
+use Rattle.oem_graph.specs.Types.{Edge, EdgeRecord}
+use Rattle.oem_graph.specs.Plans.{put_edges, AreEdgeChanges}
+use Rattle.oem_graph.specs.inside.EdgeTests.{is_listed}
 use Rattle.oem_graph.specs.inside.Layers.{staying}
-use Rattle.oem_graph.proofs.EdgeLaws.{edge_cmp_total, ascend-back}
-use Rattle.oem_graph.proofs.SearchLaws.{listed, not_listed, cmp_self, apart}
-use Rattle.oem_graph.proofs.LayerLaws.{ascend-staying, members-staying}
+use Rattle.oem_graph.proofs.LayerLaws.{same-edges, members-staying}
+use Rattle.oem_graph.proofs.PutLaws.{members-put_edges, put-back_all, length-put_edges}
+use Rattle.oem_graph.proofs.SearchLaws.{listed, unlisted}
 
--- what is left of both lists while those of the first that the second has are left out
-pub record IsSifting (edges others only lefts rights : List Edge) : Type 0 where
-  pub left_ascend : AreAscendingEdges lefts
-  pub right_ascend : AreAscendingEdges rights
-  pub sifted : only ++ staying rights lefts ≡ staying others edges
+module _ (records : Slab EdgeRecord) (gone : List Edge) where
+  abbrev kept : List Edge
+  kept = edges_of records
 
-below-differs : (first edge : Edge) → edge_cmp first edge ≡ Less → edge_eq edge first ≡ false
-below-differs first edge less = grind (arith, nat_tests)
+  -- those of the edges that are there
+  pub members-there : (edge : Edge) → Contains (those_there records gone) edge ↔ (Contains gone edge × Contains (edges_of records) edge)
+  members-there edge = (
+    λ at. (let passed = unfiltered (is_there records) gone edge at in (passed.0, views.unlisted kept edge passed.1)),
+    λ both. Contains-filter (is_there records) gone edge both.0 (views.listed kept edge both.1),
+  )
 
--- an edge below the first of ascending edges is below each of them
-below-all : (low first : Edge) (edges : List Edge) → AreAscendingEdges (first ∷ edges) → edge_cmp low first ≡ Less
-    → (edge : Edge) → Contains (first ∷ edges) edge → edge_cmp low edge ≡ Less
-below-all low first edges ascend less edge at = elim (Contains-cases first edges edge at) [
-  | inl same ↦ subst (λ (e : Edge). edge_cmp low e ≡ Less) same less
-  | inr later ↦ edge_cmp_total.trans low first edge less (AllPairs-head (λ a b. edge_cmp a b ≡ Less) first edges ascend edge later)
-]
+  -- what stays and what goes is what there was
+  pub length-left : AreAscendingEdges gone → length (staying gone (edges_of records)) + length (those_there records gone) ≡ length (edges_of records)
+  length-left ascend =
+      let both = length-filter_both (is_listed gone) (λ e. not (is_listed gone e)) (λ e. refl) kept in
+      let same : filter (is_listed gone) kept ≡ those_there records gone =
+      same-edges (filter (is_listed gone) kept) (those_there records gone)
+      (AllPairs-filter (λ a b. edge_cmp a b ≡ Less) (is_listed gone) kept (edges_ascend records))
+      (AllPairs-filter (λ a b. edge_cmp a b ≡ Less) (is_there records) gone ascend)
+      (λ edge. (
+        λ at. (let passed = unfiltered (is_listed gone) kept edge at in (members-there edge).1 (unlisted gone edge passed.1, passed.0)),
+        λ at. (let there = (members-there edge).0 at in Contains-filter (is_listed gone) kept edge there.1 (listed gone edge there.0)),
+      )) in
+      omega (arith, both, ap length same)
 
--- an edge that is below all the edges takes none of them away
-staying-above : (first : Edge) (others edges : List Edge)
-    → ((edge : Edge) → Contains edges edge → edge_cmp first edge ≡ Less)
-    → staying (first ∷ others) edges ≡ staying others edges
-staying-above first others [] below = refl
-staying-above first others (edge ∷ edges) below =
-    let differs = below-differs first edge (below edge (Contains-head edge edges)) in
-    let rest = staying-above first others edges (λ e at. below e (Contains-tail edge edges e at)) in
-    let left = staying (first ∷ others) edges in
-    ap (λ (b : Bool). cond (not (b || is_listed others edge)) (edge ∷ left) left) differs
-    ∙ ap (λ (l : List Edge). cond (not (is_listed others edge)) (edge ∷ l) l) rest
+  -- so many there are then
+  pub length-then : (come : List Edge) → AreAscendingEdges gone
+      → length (put_edges (staying gone (edges_of records)) come) + length (those_there records gone) ≡ length (edges_of records) + length come
+  length-then come ascend = omega (arith, length-put_edges (staying gone kept) come, length-left ascend)
 
--- the first edge stays where it is below all the others
-first-stays : (first : Edge) (others edges : List Edge)
-    → ((edge : Edge) → Contains others edge → edge_cmp first edge ≡ Less)
-    → staying others (first ∷ edges) ≡ first ∷ staying others edges
-first-stays first others edges below =
-    let none = not_listed others first (λ at. let never : Less ≡ Equal = sym (below first at) ∙ cmp_self first in cc) in
-    ap (λ (b : Bool). cond (not b) (first ∷ staying others edges) (staying others edges)) none
-
--- it goes where it is among the others
-first-goes : (first : Edge) (others edges : List Edge) → Contains others first
-    → staying others (first ∷ edges) ≡ staying others edges
-first-goes first others edges at =
-    ap (λ (b : Bool). cond (not b) (first ∷ staying others edges) (staying others edges)) (listed others first at)
-
--- one step: of the first edges of both lists
-module _ (edges others only lefts rights : List Edge) (left right : Edge)
-    (sifting : IsSifting edges others only (left ∷ lefts) (right ∷ rights)) where
-  lefts_ascend : AreAscendingEdges lefts
-  lefts_ascend = AllPairs-tail (λ a b. edge_cmp a b ≡ Less) left lefts sifting.left_ascend
-
-  rights_ascend : AreAscendingEdges rights
-  rights_ascend = AllPairs-tail (λ a b. edge_cmp a b ≡ Less) right rights sifting.right_ascend
-
-  pub sifting-less : edge_cmp left right ≡ Less → IsSifting edges others (only ++ left ∷ []) lefts (right ∷ rights)
-  sifting-less less =
-      let stays = first-stays left (right ∷ rights) lefts (below-all left right rights sifting.right_ascend less) in
-      record {
-        left_ascend = lefts_ascend;
-        right_ascend = sifting.right_ascend;
-        sifted = append_assoc only (left ∷ []) (staying (right ∷ rights) lefts)
-            ∙ ap (λ (l : List Edge). only ++ l) (sym stays) ∙ sifting.sifted;
-      }
-
-  pub sifting-equal : left ≡ right → IsSifting edges others only lefts rights
-  sifting-equal same =
-      let there = Contains-same (right ∷ rights) right left (sym same) (Contains-head right rights) in
-      let goes = first-goes left (right ∷ rights) lefts there in
-      let below_lefts = AllPairs-head (λ a b. edge_cmp a b ≡ Less) left lefts sifting.left_ascend in
-      let below = subst (λ (e : Edge). (edge : Edge) → Contains lefts edge → edge_cmp e edge ≡ Less) same below_lefts in
-      let above = staying-above right rights lefts below in
-      record {
-        left_ascend = lefts_ascend;
-        right_ascend = rights_ascend;
-        sifted = ap (λ (l : List Edge). only ++ l) (sym (goes ∙ above)) ∙ sifting.sifted;
-      }
-
-  pub sifting-greater : edge_cmp right left ≡ Less → IsSifting edges others only (left ∷ lefts) rights
-  sifting-greater less =
-      let above = staying-above right rights (left ∷ lefts) (below-all right left lefts sifting.left_ascend less) in
-      record {
-        left_ascend = sifting.left_ascend;
-        right_ascend = rights_ascend;
-        sifted = ap (λ (l : List Edge). only ++ l) (sym above) ∙ sifting.sifted;
-      }
-
-staying-all : (edges : List Edge) → staying [] edges ≡ edges
-staying-all [] = refl
-staying-all (edge ∷ edges) = ap (λ (l : List Edge). edge ∷ l) (staying-all edges)
-
--- what is left of the first list comes behind, where nothing is left of the other
-pub sifting-end : (edges others only lefts rights : List Edge) → IsSifting edges others only lefts rights
-    → (length lefts ≡ 0) ⊎ (length rights ≡ 0) → only ++ lefts ≡ staying others edges
-sifting-end edges others only lefts rights sifting none = elim none [
-  | inl left ↦
-      let is = nil_from_length lefts left in
-      ap (λ (l : List Edge). only ++ l) is ∙ sym (ap (λ (l : List Edge). only ++ staying rights l) is) ∙ sifting.sifted
-  | inr right ↦
-      let all = ap (λ (l : List Edge). staying l lefts) (nil_from_length rights right) ∙ staying-all lefts in
-      ap (λ (l : List Edge). only ++ l) (sym all) ∙ sifting.sifted
-]
-
--- edges come behind those that are kept
-pub changes-behind : (kept more lost fresh : List Edge) → AreAscendingEdges (kept ++ more) → lost ≡ [] → fresh ≡ more
-    → AreEdgeChanges kept (kept ++ more) lost fresh
-changes-behind kept more lost fresh ascend none all = rw (none, all) (record {
-  lost_ascend = λ i j d lt len. absurd (omega arith);
-  lost_exact = λ edge. (
-    λ at. absurd (Contains-none edge at),
-    λ both. absurd (both.1 (Contains-append_left kept more edge both.0)),
-  );
-  fresh_ascend = ascend-back kept more ascend;
-  fresh_exact = λ edge. (
-    λ at. (Contains-append_right kept more edge at, apart kept more ascend edge at),
-    λ both. elim (Contains-append_cases kept more edge both.0) [ inl there ↦ absurd (both.1 there) | inr at ↦ at ],
-  );
-})
-
--- other edges stand in the place of those that are kept
-pub changes-whole : (kept then lost fresh : List Edge) → AreAscendingEdges kept → AreAscendingEdges then
-    → lost ≡ staying then kept → fresh ≡ staying kept then → AreEdgeChanges kept then lost fresh
-changes-whole kept then lost fresh ascend ascend_then lost_is fresh_is = rw (lost_is, fresh_is) (record {
-  lost_ascend = ascend-staying then kept ascend;
-  lost_exact = members-staying then kept;
-  fresh_ascend = ascend-staying kept then ascend_then;
-  fresh_exact = members-staying kept then;
-})
+  -- and these are lost and fresh
+  pub changes-are : (come : List Edge) → AreAscendingEdges gone → AreAscendingEdges come → All (λ edge. ¬ Contains gone edge) come
+      → AreAscendingEdges (put_edges (staying gone (edges_of records)) come)
+      → AreEdgeChanges (edges_of records) (put_edges (staying gone (edges_of records)) come) (those_there records gone) come
+  changes-are come gone_ascend come_ascend apart ascend = record {
+    lost_ascend = AllPairs-filter (λ a b. edge_cmp a b ≡ Less) (is_there records) gone gone_ascend;
+    lost_exact = λ edge. (
+      λ at.
+          let there = (members-there edge).0 at in (
+            there.1,
+            λ after. elim ((members-put_edges (staying gone kept) come edge).0 after) [
+              | inl stays ↦ ((members-staying gone kept edge).0 stays).1 there.0
+              | inr new ↦ not_gone edge new there.0
+            ],
+          ),
+      λ only. (members-there edge).1 (
+        elim (is_listed gone edge) as (λ b. is_listed gone edge ≡ b → Contains gone edge) [
+          | true ↦ λ yes. unlisted gone edge yes
+          | false ↦ λ no. absurd (only.1 ((members-put_edges (staying gone kept) come edge).1 (inl (Contains-filter (λ e. not (is_listed gone e)) kept edge only.0 (ap not no)))))
+        ] refl,
+        only.0,
+      ),
+    );
+    fresh_ascend = come_ascend;
+    fresh_exact = λ edge. (
+      λ new. (
+        (members-put_edges (staying gone kept) come edge).1 (inr new),
+        λ old. (put-back_all (staying gone kept) come ascend).1 edge new ((members-staying gone kept edge).1 (old, not_gone edge new)),
+      ),
+      λ only. elim ((members-put_edges (staying gone kept) come edge).0 only.0) [
+        | inl stays ↦ absurd (only.1 ((members-staying gone kept edge).0 stays).0)
+        | inr new ↦ new
+      ],
+    );
+  }
+    where
+      not_gone : (edge : Edge) → Contains come edge → Contains gone edge → ⊥
+      not_gone edge new = All-contains (λ (e : Edge). ¬ Contains gone e) come edge apart new

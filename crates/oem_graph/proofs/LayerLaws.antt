@@ -23,7 +23,7 @@ use Rattle.oem_graph.proofs.EdgeLaws.{edge_cmp_total, edge_same, equal_edges, as
 use Rattle.oem_graph.proofs.SearchLaws.{listed, not_listed}
 
 -- an edge before ascending ones that are all above it
-ascend-cons : (edge : Edge) (edges : List Edge)
+pub ascend-cons : (edge : Edge) (edges : List Edge)
     → ((other : Edge) → Contains edges other → edge_cmp edge other ≡ Less) → AreAscendingEdges edges
     → AreAscendingEdges (edge ∷ edges)
 ascend-cons edge edges above ascend =
@@ -133,13 +133,6 @@ members-staying lost kept edge = (
   λ both. Contains-filter (λ e. not (is_listed lost e)) kept edge both.0 (ap not (not_listed lost edge both.1)),
 )
 
-pub staying-nothing : (lost kept : List Edge) → lost ≡ [] → length kept ≤ length (staying lost kept)
-staying-nothing lost [] none = omega arith
-staying-nothing lost (edge ∷ kept) none =
-    let rest = staying-nothing lost kept none in
-    let stays : not (is_listed lost edge) ≡ true = ap not (ap (λ (l : List Edge). is_listed l edge) none) in
-    rw stays (omega (arith, rest))
-
 -- the layers ascend, and what stands in them
 pub ascend-layered : (kept lost fresh : List Edge) → AreAscendingEdges kept
     → AreAscendingEdges (layered kept lost fresh)
@@ -162,16 +155,6 @@ pub same-edges : (edges others : List Edge) → AreAscendingEdges edges → AreA
     → ((edge : Edge) → Contains edges edge ↔ Contains others edge) → edges ≡ others
 same-edges edges others ascend ascend_others same = AllPairs-unique (λ a b. edge_cmp a b ≡ Less) never-both edges others ascend ascend_others same
 
--- edges that are joined are those put into each other
-pub joined-is : (edges others all : List Edge) → AreAscendingEdges edges → AreJoined edge_cmp edge_eq edges others all
-    → all ≡ with_edges edges others
-joined-is edges others all ascend joined =
-    same-edges all (with_edges edges others) joined.ascend (ascend-with_edges edges others ascend)
-    (λ edge. (
-      λ at. (members-with_edges edges others edge).1 ((joined.members edge_same edge).0 at),
-      λ at. (joined.members edge_same edge).1 ((members-with_edges edges others edge).0 at),
-    ))
-
 pub number_of : (a b : ℕ) → (a == b) ≡ true → a ≡ b
 number_of a b h = grind (arith, nat_tests)
 
@@ -181,68 +164,3 @@ number_is a b h = grind (arith, nat_tests)
 -- a list that is told to be empty is
 pub none_there : {X : Type 0} (xs : List X) (test : Bool) → test ≡ (length xs == 0) → test ≡ true → xs ≡ []
 none_there xs test is told = nil_from_length xs (number_of (length xs) 0 (sym is ∙ told))
-
--- the run of an object in layers is made of its run in each layer
-in-run : (edges : List Edge) (oid : Oid) (edge : Edge)
-    → Contains (out_of oid edges) edge ↔ (Contains edges edge × (edge.parent.0 ≡ oid.0))
-in-run edges oid edge = (
-  λ at. (let passed = unfiltered (λ (e : Edge). e.parent.0 == oid.0) edges edge at in (passed.0, number_of _ _ passed.1)),
-  λ both. Contains-filter (λ (e : Edge). e.parent.0 == oid.0) edges edge both.0 (number_is _ _ both.1),
-)
-
--- an object has children where its run has an edge
-pub has-run : (run edges : List Edge) (oid : Oid) (empty : Bool) → run ≡ out_of oid edges
-    → empty ≡ (length run == 0) → (not empty ≡ true) ↔ HasChildren edges oid
-has-run [] edges oid empty is tested = (
-  λ yes. absurd (true≢false (sym yes ∙ ap not tested)),
-  λ has. absurd (Contains-none has.0 (subst (λ (l : List Edge). Contains l has.0) (sym is) ((in-run edges oid has.0).1 (has.1, ap (λ (o : Oid). o.0) has.2)))),
-)
-has-run (edge ∷ run) edges oid empty is tested =
-    let some : (length (edge ∷ run) == 0) ≡ false = grind (arith, nat_tests) in
-    let there = (in-run edges oid edge).0 (subst (λ (l : List Edge). Contains l edge) is (Contains-head edge run)) in
-    (λ _. (edge, there.0, ap (λ (n : ℕ). record { 0 = n }) there.1), λ _. ap not (tested ∙ some))
-
-pub layered-run : (kept lost fresh run : List Edge) (oid : Oid) → AreAscendingEdges kept
-    → AreJoined edge_cmp edge_eq (staying (out_of oid lost) (out_of oid kept)) (out_of oid fresh) run
-    → run ≡ out_of oid (layered kept lost fresh)
-layered-run kept lost fresh run oid ascend joined =
-    let whole = layered kept lost fresh in
-    same-edges run (out_of oid whole) joined.ascend
-    (AllPairs-filter (λ a b. edge_cmp a b ≡ Less) (λ (e : Edge). e.parent.0 == oid.0) whole (ascend-layered kept lost fresh ascend))
-    (λ edge.
-    let in_lost = in-run lost oid edge in
-    let in_kept = in-run kept oid edge in
-    let in_fresh = in-run fresh oid edge in
-    let in_whole = in-run whole oid edge in
-    let whole_is = members-layered kept lost fresh edge in
-    let stay = members-staying (out_of oid lost) (out_of oid kept) edge in (
-      λ at. elim ((joined.members edge_same edge).0 at) [
-        | inl here ↦
-            let parts = stay.0 here in
-            let there = in_kept.0 parts.0 in
-            in_whole.1 (whole_is.1 (inl (there.0, λ gone. parts.1 (in_lost.1 (gone, there.1)))), there.1)
-        | inr new ↦ let there = in_fresh.0 new in in_whole.1 (whole_is.1 (inr there.0), there.1)
-      ],
-      λ at.
-          let parts = in_whole.0 at in
-          (joined.members edge_same edge).1 (elim (whole_is.0 parts.0) [
-            | inl there ↦ inl (stay.1 (in_kept.1 (there.0, parts.1), λ gone. there.1 (in_lost.0 gone).0))
-            | inr new ↦ inr (in_fresh.1 (new, parts.1))
-          ]),
-    ))
-
--- where nothing is lost or fresh in the run, it is the run of those that are kept
-pub kept-run : (kept lost fresh : List Edge) (oid : Oid) → AreAscendingEdges kept → out_of oid lost ≡ []
-    → out_of oid fresh ≡ [] → out_of oid kept ≡ out_of oid (layered kept lost fresh)
-kept-run kept lost fresh oid ascend no_lost no_fresh =
-    layered-run kept lost fresh (out_of oid kept) oid ascend (record {
-      ascend = AllPairs-filter (λ a b. edge_cmp a b ≡ Less) (λ (e : Edge). e.parent.0 == oid.0) kept ascend;
-      members = λ exact edge. (
-        λ at. inl ((members-staying (out_of oid lost) (out_of oid kept) edge).1 (at, λ gone. Contains-none edge (subst (λ (l : List Edge). Contains l edge) no_lost gone))),
-        λ either. elim either [
-          | inl there ↦ ((members-staying (out_of oid lost) (out_of oid kept) edge).0 there).0
-          | inr new ↦ absurd (Contains-none edge (subst (λ (l : List Edge). Contains l edge) no_fresh new))
-        ],
-      );
-      few = omega (arith, staying-nothing (out_of oid lost) (out_of oid kept) no_lost);
-    })

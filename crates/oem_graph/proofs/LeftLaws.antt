@@ -1,6 +1,6 @@
 -- What is left of objects and edges where some objects are dead and others have new values.
 use Rattle.std.proofs.Common.{◌≡◌, ℕ, ◌<◌, ◌≤◌, ◌↔◌, ◌||◌, Bool, true, false, not, cond, nat_eq, inl}
-use Rattle.std.proofs.Common.{inr, List, [], ◌∷◌, get_or, map, AllPairs, Contains, refl, sym, ap}
+use Rattle.std.proofs.Common.{inr, List, [], ◌∷◌, get_or, AllPairs, Contains, refl, sym, ap}
 use Rattle.std.proofs.Common.{◌∙◌, subst, arith}
 use Rattle.std.specs.List.{filter}
 use Rattle.std.proofs.lemmas.Bool.{true≢false}
@@ -13,19 +13,15 @@ use Rattle.std.proofs.lemmas.Map.Keys.{IsDistinct-from_apart, IsDistinct-IsPermu
 use Rattle.lore_base.proofs.ListLaws.{AllPairs-tail, AllPairs-head}
 use Rattle.lore_base.proofs.MemberLaws.{Contains-none, Contains-head, Contains-tail, Contains-cases, Contains-same}
 use Rattle.lore_base.proofs.MemberLaws.{Contains-filter, unfiltered}
-use Rattle.list_laws.proofs.MemberLaws.{Contains-from_map, Contains-map}
 use Rattle.oem_graph.specs.Types.{Oid, Edge, Value}
-use Rattle.lore_base.specs.Databases.{AreAscendingObjects, IsLive}
-use Rattle.oem_graph.specs.inside.Left.{is_among, AreOrdered, value_then, with_value, objects_left, edges_left}
+use Rattle.lore_base.specs.Databases.{AreAscendingObjects}
+use Rattle.oem_graph.specs.inside.Left.{is_among, AreOrdered, not_dead, edges_left}
 
 eq_self : (a : ℕ) → nat_eq a a ≡ true
 eq_self a = grind (arith, nat_tests)
 
 same_oid : (a b : Oid) → nat_eq a.0 b.0 ≡ true → a ≡ b
 same_oid a b h = let number : a.0 ≡ b.0 = grind (arith, nat_tests) in ap (λ (n : ℕ). record { 0 = n }) number
-
-other_oid : (a b : ℕ) → a < b → nat_eq a b ≡ false
-other_oid a b less = grind (arith, nat_tests)
 
 nat_eq_flips : (a b : ℕ) → nat_eq a b ≡ nat_eq b a
 nat_eq_flips a b = grind (arith, nat_tests)
@@ -52,61 +48,18 @@ not_among oids oid none = elim (is_among oids oid) as (λ b. is_among oids oid �
   | false ↦ λ no. refl
 ] refl
 
--- the value that an object has then
-pub given-value : (values : List (Oid × Value)) → AreAscendingObjects values
-    → (object : Oid × Value) (value : Value) → Contains values (object.0, value) → value_then values object ≡ value
-given-value [] ascend object value at = absurd (Contains-none _ at)
-given-value (first ∷ values) ascend object value at = elim (Contains-cases first values (object.0, value) at) [
-  | inl same ↦
-      let tested : nat_eq first.0.0 object.0.0 ≡ true = ap (λ (o : Oid × Value). nat_eq o.0.0 object.0.0) same ∙ eq_self object.0.0 in
-      rw tested (ap (λ (o : Oid × Value). o.1) same)
-  | inr later ↦
-      let less : first.0.0 < object.0.0 = AllPairs-head (λ (a b : Oid × Value). a.0.0 < b.0.0) first values ascend (object.0, value) later in
-      rw (other_oid first.0.0 object.0.0 less) (given-value values (AllPairs-tail (λ (a b : Oid × Value). a.0.0 < b.0.0) first values ascend) object value later)
-]
+-- the objects that aren't dead
+pub members-not_dead : (dead : List Oid) (objects : List (Oid × Value)) (o : Oid × Value)
+    → Contains (not_dead dead objects) o ↔ (Contains objects o × (Contains dead o.0 → ⊥))
+members-not_dead dead objects o = (
+  λ at.
+      let passed = unfiltered (λ (x : Oid × Value). not (is_among dead x.0)) objects o at in
+      (passed.0, λ there. true≢false (sym passed.1 ∙ ap not (among dead o.0 there))),
+  λ both. Contains-filter (λ (x : Oid × Value). not (is_among dead x.0)) objects o both.0 (ap not (not_among dead o.0 both.1)),
+)
 
-pub old-value : (values : List (Oid × Value)) (object : Oid × Value) → (IsLive values object.0 → ⊥)
-    → value_then values object ≡ object.1
-old-value [] object none = refl
-old-value (first ∷ values) object none =
-    let rest = old-value values object (λ live. none (live.0, Contains-tail first values (object.0, live.0) live.1)) in
-    elim (nat_eq first.0.0 object.0.0) as (λ b. nat_eq first.0.0 object.0.0 ≡ b → cond b first.1 (value_then values object) ≡ object.1) [
-      | true ↦ λ same. absurd (none (first.1, Contains-same (first ∷ values) first (object.0, first.1) (ap (λ (o : Oid). (o, first.1)) (same_oid first.0 object.0 same)) (Contains-head first values)))
-      | false ↦ λ other. rest
-    ] refl
-
--- the objects that are left of a list
-pub left-object : (values : List (Oid × Value)) (dead : List Oid) (objects : List (Oid × Value)) (object : Oid × Value) → Contains (objects_left values dead objects) object
-    → (old : Oid × Value) × Contains objects old × (Contains dead old.0 → ⊥) × (with_value values old ≡ object)
-left-object values dead objects object at =
-    let from = Contains-from_map (with_value values) (filter (λ o. not (is_among dead o.0)) objects) object at in
-    let passed = unfiltered (λ (o : Oid × Value). not (is_among dead o.0)) objects from.0 from.1 in
-    (from.0, passed.0, λ there. true≢false (sym passed.1 ∙ ap not (among dead from.0.0 there)), from.2)
-
-pub object-left : (values : List (Oid × Value)) (dead : List Oid) (objects : List (Oid × Value)) (old : Oid × Value) → Contains objects old → (Contains dead old.0 → ⊥)
-    → Contains (objects_left values dead objects) (with_value values old)
-object-left values dead objects old at living =
-    Contains-map (with_value values) (filter (λ o. not (is_among dead o.0)) objects) old
-    (Contains-filter (λ (o : Oid × Value). not (is_among dead o.0)) objects old at (ap not (not_among dead old.0 living)))
-
-ascend-mapped : (values objects : List (Oid × Value)) → AreAscendingObjects objects
-    → AreAscendingObjects (map (with_value values) objects)
-ascend-mapped values objects ascend i j d lt len =
-    let long = length-map objects (with_value values) in
-    let first = get_or-map (with_value values) objects i d d (omega (arith, long)) in
-    let second = get_or-map (with_value values) objects j d d (omega (arith, long)) in
-    rw (first, second) (ascend i j d lt (omega (arith, long)))
-
-pub ascend-left : (values : List (Oid × Value)) (dead : List Oid) (objects : List (Oid × Value))
-    → AreAscendingObjects objects → AreAscendingObjects (objects_left values dead objects)
-ascend-left values dead objects ascend =
-    ascend-mapped values (filter (λ o. not (is_among dead o.0)) objects)
-    (AllPairs-filter (λ (a b : Oid × Value). a.0.0 < b.0.0) (λ (o : Oid × Value). not (is_among dead o.0)) objects ascend)
-
--- where nothing is dead and no value new, all is left
-pub all-left : (objects : List (Oid × Value)) → objects_left [] [] objects ≡ objects
-all-left [] = refl
-all-left (object ∷ objects) = ap (λ (l : List (Oid × Value)). object ∷ l) (all-left objects)
+pub ascend-not_dead : (dead : List Oid) (objects : List (Oid × Value)) → AreAscendingObjects objects → AreAscendingObjects (not_dead dead objects)
+ascend-not_dead dead objects ascend = AllPairs-filter (λ (a b : Oid × Value). a.0.0 < b.0.0) (λ (o : Oid × Value). not (is_among dead o.0)) objects ascend
 
 pub all-edges-left : (edges : List Edge) → edges_left [] edges ≡ edges
 all-edges-left [] = refl

@@ -27,14 +27,6 @@ length-objects (o ∷ others) next ascend numbered h =
     let above = number_above (o ∷ others) ascend (λ k d lt. (numbered k d lt).0) o (length others) (omega arith) in
     omega (arith, (numbered (length others) o (omega arith)).1)
 
--- no number stands at two places
-same_place : (objects : List (Oid × Value)) → AreAscendingObjects objects → (i k : ℕ) (d : Oid × Value) → i < length objects → k < length objects → (get_or objects i d).0.0 ≡ (get_or objects k d).0.0 → i ≡ k
-same_place objects ascend i k d lt_i lt_k same =
-    elim (cases_lt i k) [
-      | inl before ↦ absurd (omega (arith, ascend i k d before lt_k))
-      | inr le ↦ elim (cases_lt k i) [ inl after ↦ absurd (omega (arith, ascend k i d after lt_i)) | inr ge ↦ omega arith ]
-    ]
-
 -- what stands at a place with the object's number is the object with its value
 pub found_value : (objects : List (Oid × Value)) (oid : Oid) (place : ℕ) (d : Oid × Value) → place < length objects → nat_cmp (get_or objects place d).0.0 oid.0 ≡ Equal → Contains objects (oid, (get_or objects place d).1)
 found_value objects oid place d lt equal =
@@ -76,12 +68,3 @@ pub number_at : (next : ℕ) (made : List (Oid × Value)) → AreNumberedFrom ne
 number_at next [] h d k lt = absurd (omega arith)
 number_at next (o ∷ made) h d zero lt = omega (arith, h.0)
 number_at next (o ∷ made) h d (suc k) lt = omega (arith, number_at (next + 1) made h.1 d k (omega arith))
-
--- an object that isn't live in the second part, nor in the first where it isn't found there, isn't live in the whole
-pub none-parts : {X : Type 0} (found : Option X) (kept more : List (Oid × Value)) (oid : Oid)
-    → IfNone found (IsLive kept oid → ⊥) → (IsLive more oid → ⊥) → IfNone found (IsLive (kept ++ more) oid → ⊥)
-none-parts None kept more oid early late = λ live. elim (Contains-append_cases kept more (oid, live.0) live.1) [
-  | inl at ↦ early (live.0, at)
-  | inr at ↦ late (live.0, at)
-]
-none-parts (Some x) kept more oid early late = tt

@@ -9,26 +9,11 @@ use Rattle.lore_base.specs.Walks.{edge_cmp}
 use Rattle.lore_base.specs.Databases.{AreAscendingEdges}
 use Rattle.lore_base.specs.ChangeSets.{AreEdgesThen, IsOverlay}
 use Rattle.oem_graph.specs.Types.{Edge, Changes}
-use Rattle.oem_graph.specs.inside.EdgeTests.{edge_eq, is_listed, AreFresh, AreLost}
-use Rattle.strand_sort.specs.StrandSorts.{AreSorted}
+use Rattle.oem_graph.specs.inside.EdgeTests.{is_listed, AreFresh, AreLost}
 use Rattle.oem_graph.specs.inside.Layers.{layered}
 use Rattle.oem_graph.proofs.EdgeLaws.{edge_same}
 use Rattle.oem_graph.proofs.SearchLaws.{listed, unlisted}
 use Rattle.oem_graph.proofs.LayerLaws.{ascend-layered, members-layered}
-
--- removed edges that were sorted, each once, of which those are left that are kept
-pub lost-sorted : (kept removed sorted lost : List Edge) → AreSorted edge_cmp edge_eq removed sorted
-    → lost ≡ filter (λ edge. is_listed kept edge) sorted → AreLost kept removed lost
-lost-sorted kept removed sorted lost all is = record {
-  ascend = rw is (AllPairs-filter (λ a b. edge_cmp a b ≡ Less) (λ edge. is_listed kept edge) sorted all.ascend);
-  members = λ edge. (
-    λ at.
-        let passed = unfiltered (λ e. is_listed kept e) sorted edge (subst (λ (l : List Edge). Contains l edge) is at) in
-        ((all.members edge_same edge).0 passed.0, unlisted kept edge passed.1),
-    λ both.
-        subst (λ (l : List Edge). Contains l edge) (sym is) (Contains-filter (λ e. is_listed kept e) sorted edge ((all.members edge_same edge).1 both.0) (listed kept edge both.1)),
-  );
-}
 
 module _ (kept : List Edge) (changes : Changes) (lost fresh : List Edge) (ascend : AreAscendingEdges kept) (gone : AreLost kept changes.removed lost) (new : AreFresh kept changes.added fresh)
     (apart : All (λ edge. Contains changes.removed edge → ⊥) changes.added) where

@@ -9,12 +9,11 @@ use Rattle.std.proofs.lemmas.Bool.{cases_lt}
 use Rattle.std.proofs.lemmas.Bool.Decides.{nat_tests}
 use Rattle.std.proofs.lemmas.List.{get_or_default}
 use Rattle.oem_graph.specs.Types.{Edge}
-use Rattle.oem_graph.specs.inside.EdgeTests.{edge_eq, is_listed, AreFresh}
-use Rattle.strand_sort.specs.StrandSorts.{AreSorted}
+use Rattle.oem_graph.specs.inside.EdgeTests.{edge_eq, is_listed}
 use Rattle.lore_base.specs.Walks.{edge_cmp}
 use Rattle.lore_base.specs.Databases.{AreAscendingEdges}
 use Rattle.lore_base.proofs.MemberLaws.{Contains-none, Contains-head, Contains-tail, Contains-cases, Contains-same, Contains-filter, unfiltered}
-use Rattle.oem_graph.proofs.EdgeLaws.{edge_same, equal_edges, ascend-across}
+use Rattle.oem_graph.proofs.EdgeLaws.{edge_same, equal_edges}
 
 eq_self : (edge : Edge) → edge_eq edge edge ≡ true
 eq_self edge = grind (arith, nat_tests)
@@ -67,53 +66,3 @@ not_listed edges edge none = elim (is_listed edges edge) as (λ b. is_listed edg
   | true ↦ λ yes. absurd (none (unlisted edges edge yes))
   | false ↦ λ no. refl
 ] refl
-
-length-filtered : {X : Type 0} (test : X → Bool) (xs : List X) → length (filter test xs) ≤ length xs
-length-filtered test [] = omega arith
-length-filtered test (x ∷ xs) =
-    let others = length-filtered test xs in
-    elim (test x) as (λ b. length (cond b (x ∷ filter test xs) (filter test xs)) ≤ length (x ∷ xs)) [ true ↦ omega (arith, others) | false ↦ omega (arith, others) ]
-
--- the edges of a list that are not kept
-module _ (kept more fresh : List Edge) (is : fresh ≡ filter (λ edge. not (is_listed kept edge)) more) where
-  fresh-come : (edge : Edge) → Contains fresh edge → Contains more edge × (Contains kept edge → ⊥)
-  fresh-come edge at =
-      let passed = unfiltered (λ e. not (is_listed kept e)) more edge (subst (λ (l : List Edge). Contains l edge) is at) in
-      (passed.0, λ there. true≢false (sym passed.1 ∙ ap not (listed kept edge there)))
-
-  fresh-rest : (edge : Edge) → Contains more edge → Contains kept edge ⊎ Contains fresh edge
-  fresh-rest edge at = elim (is_listed kept edge) as (λ b. is_listed kept edge ≡ b → Contains kept edge ⊎ Contains fresh edge) [
-    | true ↦ λ yes. inl (unlisted kept edge yes)
-    | false ↦ λ no. inr (subst (λ (l : List Edge). Contains l edge) (sym is) (Contains-filter (λ e. not (is_listed kept e)) more edge at (ap not no)))
-  ] refl
-
-  fresh-ascend : AreAscendingEdges more → AreAscendingEdges fresh
-  fresh-ascend ascend = rw is (AllPairs-filter (λ a b. edge_cmp a b ≡ Less) (λ edge. not (is_listed kept edge)) more ascend)
-
-  fresh-few : length fresh ≤ length more
-  fresh-few = rw is (length-filtered (λ edge. not (is_listed kept edge)) more)
-
--- added edges that were sorted, each once, and lost those that are kept
-pub fresh-sorted : (kept added sorted fresh : List Edge) → AreSorted edge_cmp edge_eq added sorted → fresh ≡ filter (λ edge. not (is_listed kept edge)) sorted → AreFresh kept added fresh
-fresh-sorted kept added sorted fresh all is = record {
-  ascend = fresh-ascend kept sorted fresh is all.ascend;
-  come = λ edge at. (let passed = fresh-come kept sorted fresh is edge at in ((all.members edge_same edge).0 passed.0, passed.1));
-  rest = λ edge at. fresh-rest kept sorted fresh is edge ((all.members edge_same edge).1 at);
-  few = omega (arith, fresh-few kept sorted fresh is, all.few);
-}
-
--- what comes behind the edges that are kept is not among them
-pub apart : (kept more : List Edge) → AreAscendingEdges (kept ++ more) → (edge : Edge) → Contains more edge → Contains kept edge → ⊥
-apart kept more ascend edge at there =
-    let less = rw (there.2, at.2) at (ascend-across kept more ascend there.0 at.0 edge there.1 at.1) in
-    let none : Less ≡ Equal = sym less ∙ cmp_self edge in
-    cc
-
--- added edges that were sorted, each once, and come behind those that are kept
-pub fresh-behind : (kept added sorted : List Edge) → AreSorted edge_cmp edge_eq added sorted → AreAscendingEdges (kept ++ sorted) → AreFresh kept added sorted
-fresh-behind kept added sorted all ascend = record {
-  ascend = all.ascend;
-  come = λ edge at. ((all.members edge_same edge).0 at, apart kept sorted ascend edge at);
-  rest = λ edge at. inr ((all.members edge_same edge).1 at);
-  few = all.few;
-}

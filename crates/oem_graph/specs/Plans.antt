@@ -1,30 +1,48 @@
--- Plans of changes: what becomes of a graph's lists, and which graph a plan leads to.
-use Rattle.std.specs.Prelude.{ℕ, ◌≤◌, ◌↔◌, List, ◌++◌, length, Contains}
+-- Plans of changes: what becomes of a graph, and which graph a plan leads to.
+use Rattle.std.specs.Prelude.{ℕ, ◌≤◌, ◌↔◌, cond, nat_eq, nat_lt, List, [], ◌∷◌, length, Contains}
+use Rattle.std.specs.Ordering.{is_lt}
 use Rattle.oem_graph.specs.Types.{Oid, Edge, Value}
+use Rattle.lore_base.specs.Walks.{edge_cmp}
 use Rattle.lore_base.specs.Databases.{OemGraph, AreAscendingEdges}
 use Rattle.lore_base.specs.Deltas.{IsOnlyIn}
 use Rattle.oem_graph.specs.Graphs.{RoomyGraph}
+use Rattle.oem_graph.specs.inside.Left.{not_dead}
+use Rattle.oem_graph.specs.inside.Layers.{staying}
 
--- what becomes of a list: more items come behind it, or a whole list stands in its place
-pub data PlannedList (T : Type 0) : Type 0 where
-  behind : (more : List T) → PlannedList T
-  whole : (items : List T) → PlannedList T
+-- Objects.
 
--- the list that there is then
-abbrev pub list_then : {T : Type 0} → List T → PlannedList T → List T
-list_then items (behind more) = items ++ more
-list_then items (whole others) = others
+-- the objects with one more at its place, or with its value where it is there
+abbrev pub with_object : List (Oid × Value) → Oid × Value → List (Oid × Value)
+with_object [] given = given ∷ []
+with_object (first ∷ objects) given =
+    cond (nat_lt first.0.0 given.0.0) (first ∷ with_object objects given)
+    (cond (nat_eq first.0.0 given.0.0) (given ∷ objects) (given ∷ first ∷ objects))
 
--- how many items come behind
-abbrev pub count_behind : {T : Type 0} → PlannedList T → ℕ
-count_behind (behind more) = length more
-count_behind (whole others) = 0
+abbrev pub with_objects : List (Oid × Value) → List (Oid × Value) → List (Oid × Value)
+with_objects objects [] = objects
+with_objects objects (given ∷ others) = with_objects (with_object objects given) others
 
--- what becomes of each part of a graph
+-- Edges.
+
+-- the edges with one more, before the first that isn't below it; one that is there already stands there twice then
+abbrev pub put_edge : List Edge → Edge → List Edge
+put_edge [] edge = edge ∷ []
+put_edge (first ∷ edges) edge = cond (is_lt (edge_cmp first edge)) (first ∷ put_edge edges edge) (edge ∷ first ∷ edges)
+
+abbrev pub put_edges : List Edge → List Edge → List Edge
+put_edges edges [] = edges
+put_edges edges (edge ∷ others) = put_edges (put_edge edges edge) others
+
+-- Graphs.
+
+-- the names then; the objects that vanish, the values that are given, to new objects too, and the edges that go and
+-- those that come; and the next number
 pub record PlannedGraph : Type 0 where
   pub names : List (List ℕ × Oid)
-  pub objects : PlannedList (Oid × Value)
-  pub edges : PlannedList Edge
+  pub dead : List Oid
+  pub given : List (Oid × Value)
+  pub gone : List Edge
+  pub come : List Edge
   pub next : ℕ
 
 -- the objects and the edges of a graph
@@ -36,15 +54,15 @@ pub record GraphLists : Type 0 where
 abbrev pub graph_then : OemGraph → PlannedGraph → OemGraph
 graph_then before plan = record {
   names = plan.names;
-  objects = list_then before.objects plan.objects;
-  edges = list_then before.edges plan.edges;
+  objects = with_objects (not_dead plan.dead before.objects) plan.given;
+  edges = put_edges (staying plan.gone before.edges) plan.come;
   next = plan.next;
 }
 
 -- the graph keeps the room free that the plan needs
 pub record HasRoom (kept : RoomyGraph) (plan : PlannedGraph) : Type 0 where
-  pub objects : count_behind plan.objects ≤ kept.object_room
-  pub edges : count_behind plan.edges ≤ kept.edge_room
+  pub objects : length plan.given ≤ kept.object_room
+  pub edges : length plan.come ≤ kept.edge_room
 
 -- the edges that are lost in the second list, and those that are fresh in it, each in ascending order
 pub record AreEdgeChanges (edges then lost fresh : List Edge) : Type 0 where

@@ -1,4 +1,4 @@
--- The declared types of `lore_base` with their variants, and the limits, under one module.
+-- The declared types of `lore_base` and `edge_lists` with their variants, and the limits, under one module.
 pub use Rattle.lore_base.specs.declared.edges.Oid.{Oid}
 pub use Rattle.lore_base.specs.declared.edges.Label.{Label}
 pub use Rattle.lore_base.specs.declared.edges.Edge.{Edge}
@@ -26,3 +26,7 @@ pub use Rattle.lore_base.specs.declared.refusals.Refusal.TheVariants.{NotFresh, 
 pub use Rattle.lore_base.specs.declared.limits.TheConstants.{TEXT_BYTES, WORD_BYTES, OBJECTS, EDGES}
 pub use Rattle.lore_base.specs.declared.limits.TheConstants.{NEXT_NUMBER, NODES, NESTING, LEAVES, CHUNK_BYTES}
 pub use Rattle.lore_base.specs.declared.limits.TheConstants.{SCRIPT_BYTES}
+pub use Rattle.edge_lists.specs.declared.sides.Side.{Side}
+pub use Rattle.edge_lists.specs.declared.sides.Side.TheVariants.{Out, In}
+pub use Rattle.edge_lists.specs.declared.records.EdgeRecord.{EdgeRecord}
+pub use Rattle.edge_lists.specs.declared.objects.ObjectRecord.{ObjectRecord}

@@ -1,5 +1,10 @@
 -- Definitions that no public contract cites.
 pub mod EdgeTests
-pub mod Planned
+pub mod Turned
+pub mod Linked
 pub mod Layers
 pub mod Left
+pub mod Planned
+pub mod Given
+pub mod Places
+pub mod Samples

@@ -1,36 +1,40 @@
-ghost use Rattle.std.specs.Prelude.{◌≡◌, IfOk};
-ghost use Rattle.oem_graph.specs.inside.Layers.{edges_into, ListsInto};
+ghost use Rattle.std.specs.Prelude.{◌≡◌};
 
-use crate::edge_runs::run_of;
-use crate::edge_sets::layered_run;
-use index_traits::{Adjacent, Links, NaiveEdges};
-use lore_base::{Edge, EdgeBuf, Label, NoMemory, Oid, Steps};
-use std::alloc::Global;
+use crate::layers::{push_entering, push_leaving};
+use edge_lists::{EdgeRecord, ObjectRecord};
+use index_traits::{Adjacent, Links};
+use lore_base::{EdgeBuf, Label, NoMemory, Oid, Steps};
+use slab::Slab;
 use std::marker::Model;
 use std::sync::ledger::Ledger;
 
-/// The edges that there are once changes are made, without a copy of those that stay: the edges of
-/// before, which it borrows, those of them that are lost, and those that are fresh.
+/// The edges that there are once changes are made, without a copy of those that stay: the lists of
+/// before, which it borrows, those edges that are lost, and those that are fresh.
 #[derive(Drop)]
 pub struct Overlay<'a> {
-    pub(crate) kept: &'a [Edge],
+    pub(crate) objects: &'a [ObjectRecord],
+    pub(crate) records: &'a Slab<EdgeRecord>,
     pub(crate) lost: EdgeBuf,
     pub(crate) fresh: EdgeBuf,
+    // The same edges in the order of child, label and parent, turned round.
+    pub(crate) lost_in: EdgeBuf,
+    pub(crate) fresh_in: EdgeBuf,
 }
 
 impl<'a> Model for Overlay<'a> {
     ghost use Rattle.oem_graph.specs.Overlays.{OverlayEdges};
-    ghost use Rattle.oem_graph.specs.inside.Layers.{layered, AreLayers};
+    ghost use Rattle.oem_graph.specs.inside.Layers.{layered, AreOverlaid};
+    ghost use Rattle.edge_lists.specs.Views.{edges_of};
 
     ghost Value = { OverlayEdges };
 
     ghost view = { λ o. record {
-      edges = layered o.kept.now o.lost o.fresh;
+      edges = layered (edges_of o.records.now) o.lost o.fresh;
       lost = o.lost;
       fresh = o.fresh;
     } };
 
-    ghost invariant = { λ o. AreLayers o.kept.now o.lost o.fresh };
+    ghost invariant = { λ o. AreOverlaid o.objects.now o.records.now o.lost o.fresh o.lost_in o.fresh_in };
 }
 
 impl<'a> Overlay<'a> {
@@ -58,35 +62,11 @@ impl<'a> Adjacent for Overlay<'a> {
         buf: &mut EdgeBuf,
         steps: &mut Steps<L>,
     ) -> Result<(), NoMemory> {
-        let kept = run_of(self.kept, oid);
-        let lost = run_of(self.lost.as_slice(), oid);
-        let fresh = run_of(self.fresh.as_slice(), oid);
-        if lost.is_empty() && fresh.is_empty() {
-            buf.append(kept)?;
-            steps.tick(1 + kept.len() as u64);
-            return Ok(());
-        }
-        let run = layered_run(buf.allocator(), kept, lost, fresh)?;
-        buf.append(run.as_slice())?;
-        steps.tick(1 + run.len() as u64);
+        let before = buf.len();
+        let (lost, fresh) = (self.lost.as_slice(), self.fresh.as_slice());
+        push_leaving(self.objects, self.records, lost, fresh, oid, buf)?;
+        steps.tick(1 + (buf.as_slice().len() - before) as u64);
         Ok(())
-    }
-}
-
-impl<'a> Overlay<'a> {
-    // The edges then that enter the object, in ascending order, found by going over all.
-    fn entering(&self, alloc: Global, oid: Oid) -> Result<EdgeBuf, NoMemory>
-        ensures { IfOk result (λ found. ListsInto self.now.edges oid found) }
-    {
-        let kept = entering(alloc, self.kept, oid)?;
-        let fresh = entering(alloc, self.fresh.as_slice(), oid)?;
-        let found = layered_run(
-            alloc,
-            kept.as_slice(),
-            self.lost.as_slice(),
-            fresh.as_slice(),
-        )?;
-        Ok(found)
     }
 }
 
@@ -100,21 +80,10 @@ impl<'a> Links for Overlay<'a> {
         buf: &mut EdgeBuf,
         steps: &mut Steps<L>,
     ) -> Result<(), NoMemory> {
-        let found = self.entering(buf.allocator(), oid)?;
-        NaiveEdges::new(found).parents(oid, label, buf, steps)?;
+        let before = buf.len();
+        let (lost, fresh) = (self.lost_in.as_slice(), self.fresh_in.as_slice());
+        push_entering(self.objects, self.records, lost, fresh, oid, label, buf)?;
+        steps.tick(1 + (buf.as_slice().len() - before) as u64);
         Ok(())
     }
-}
-
-// The edges that enter the object, in the same order.
-fn entering(alloc: Global, edges: &[Edge], oid: Oid) -> Result<EdgeBuf, NoMemory>
-    ensures { IfOk result (λ found. found ≡ edges_into oid edges.now) }
-{
-    let mut found = EdgeBuf::new(alloc);
-    'edges: for edge in edges {
-        if edge.child.0 == oid.0 {
-            found.push(*edge)?;
-        }
-    }
-    Ok(found)
 }

@@ -1,13 +1,8 @@
-ghost use Rattle.std.specs.Prelude.{◌≡◌, ◌<◌, ◌≢◌, ◌≤◌, ◌++◌, length, IfSome, All};
-ghost use Rattle.std.specs.Bool.{OnTrue};
+ghost use Rattle.std.specs.Prelude.{◌≡◌, ◌<◌, ◌≢◌, ◌≤◌, length};
 ghost use Rattle.std.specs.List.{AllWithin, HoldsAt};
 ghost use Rattle.lore_base.specs.Databases.{AreAscendingEdges};
 ghost use Rattle.lore_base.specs.Walks.{out_of};
-ghost use Rattle.oem_graph.specs.Plans.{list_then};
-ghost use Rattle.oem_graph.specs.inside.Planned.{planned};
 
-use crate::planned_items::PlannedItems;
-use crate::run_starts::RunStarts;
 use lore_base::{Edge, Oid};
 
 // The edges that leave the object: one run of the ascending edges, whose start is found by binary
@@ -35,75 +30,4 @@ fn run_length(edges: &[Edge], oid: Oid) -> usize
         }
     }
     edges.len()
-}
-
-// The edges between these places, where they are the ones that leave the object: those before them
-// and behind them don't.
-pub(crate) fn run_at(edges: &[Edge], oid: Oid, start: usize, end: usize) -> Option<&[Edge]>
-    requires { AreAscendingEdges edges.now }
-    ensures { IfSome result (λ run. run.now ≡ out_of oid edges.now) }
-{
-    let (before, others) = edges.split_at_checked(start)?;
-    let (run, behind) = others.split_at_checked(end.saturating_sub(start))?;
-    if end_below(before, oid) && begin_above(behind, oid) && leave(run, oid) {
-        Some(run)
-    } else {
-        None
-    }
-}
-
-// Whether the parents of all are below the object, told by the last of them.
-fn end_below(edges: &[Edge], oid: Oid) -> bool
-    requires { AreAscendingEdges edges.now }
-    ensures { OnTrue result (All (λ edge. edge.parent.0 < oid.0) edges.now) }
-{
-    match edges.last() {
-        Some(last) => last.parent.0 < oid.0,
-        None => true,
-    }
-}
-
-// Whether the parents of all are above the object, told by the first of them.
-fn begin_above(edges: &[Edge], oid: Oid) -> bool
-    requires { AreAscendingEdges edges.now }
-    ensures { OnTrue result (All (λ edge. oid.0 < edge.parent.0) edges.now) }
-{
-    match edges.first() {
-        Some(first) => oid.0 < first.parent.0,
-        None => true,
-    }
-}
-
-// Whether all leave the object, told by the first and the last of them.
-fn leave(edges: &[Edge], oid: Oid) -> bool
-    requires { AreAscendingEdges edges.now }
-    ensures { OnTrue result (All (λ edge. edge.parent.0 ≡ oid.0) edges.now) }
-{
-    let Some(first) = edges.first() else {
-        return true;
-    };
-    let Some(last) = edges.last() else {
-        return true;
-    };
-    first.parent.0 == oid.0 && last.parent.0 == oid.0
-}
-
-// The edges that leave the object once the plan is in place: a first run, and one that comes behind
-// it.
-pub(crate) fn runs_then<'a>(
-    starts: &RunStarts,
-    kept: &'a [Edge],
-    plan: &'a PlannedItems<Edge>,
-    oid: Oid,
-) -> (&'a [Edge], &'a [Edge])
-    requires { AreAscendingEdges (list_then kept.now (planned plan.now)) }
-    ensures { result.0.now ++ result.1.now ≡ out_of oid (list_then kept.now (planned plan.now)) }
-{
-    match plan {
-        PlannedItems::Behind(more) => (
-            starts.run_in(kept, 0, oid),
-            starts.run_in(more.as_slice(), kept.len(), oid),
-        ),
-        PlannedItems::Whole(list) => (starts.run_in(list.as_slice(), 0, oid), &[]),
-    }
 }

@@ -1,17 +1,23 @@
-ghost use Rattle.std.specs.Prelude.{◌≡◌, IfOk};
-ghost use Rattle.oem_graph.specs.Plans.{list_then};
-ghost use Rattle.oem_graph.specs.inside.Layers.{layered, AreLayers};
-ghost use Rattle.oem_graph.specs.inside.Left.{AreAscendingOids, edges_left};
-ghost use Rattle.oem_graph.specs.inside.Planned.{planned};
+ghost use Rattle.std.specs.Prelude.{◌≡◌, [], IfOk};
+ghost use Rattle.lore_base.specs.Databases.{AreAscendingEdges};
+ghost use Rattle.oem_graph.specs.Types.{Out};
+ghost use Rattle.edge_lists.specs.Objects.{AreAscendingObjects};
+ghost use Rattle.edge_lists.specs.Chains.{AreChained};
+ghost use Rattle.oem_graph.specs.inside.Left.{AreAscendingOids, edges_left, AreGone, AreLeaving};
 
 use crate::dead_oids::is_dead;
-use crate::edge_sets::{come_behind, layered_run};
-use crate::planned_items::PlannedItems;
+use edge_lists::{EdgeRecord, ObjectRecord, Side, push_list};
 use lore_base::{Edge, EdgeBuf, NoMemory, Oid};
+use slab::Slab;
 use std::alloc::Global;
+use strand_sort::joined;
 
 // The edges whose parent isn't dead, in the same order.
-fn with_living_parents(alloc: Global, edges: EdgeBuf, dead: &[Oid]) -> Result<EdgeBuf, NoMemory>
+pub(crate) fn with_living_parents(
+    alloc: Global,
+    edges: EdgeBuf,
+    dead: &[Oid],
+) -> Result<EdgeBuf, NoMemory>
     requires { AreAscendingOids dead.now }
     ensures { IfOk result (λ left. left ≡ edges_left dead.now edges) }
 {
@@ -27,24 +33,64 @@ fn with_living_parents(alloc: Global, edges: EdgeBuf, dead: &[Oid]) -> Result<Ed
     Ok(left)
 }
 
-// What becomes of the edges that are kept, of which some are lost, others come, and those go whose
-// parent is dead. Where none goes and all come behind, the usual case of a load, none is copied.
-pub(crate) fn planned_edges(
+// The edges that go: those that are lost, and those that leave dead objects, in ascending order.
+pub(crate) fn edges_gone(
     alloc: Global,
-    kept: &[Edge],
-    lost: &[Edge],
-    fresh: EdgeBuf,
+    objects: &[ObjectRecord],
+    records: &Slab<EdgeRecord>,
+    lost: EdgeBuf,
     dead: &[Oid],
-) -> Result<PlannedItems<Edge>, NoMemory>
-    requires layers { AreLayers kept.now lost.now fresh }
+) -> Result<EdgeBuf, NoMemory>
+    requires ascend { AreAscendingObjects objects.now }
+    requires chained { AreChained Out objects.now records.now [] }
+    requires lost { AreAscendingEdges lost }
     requires dead { AreAscendingOids dead.now }
-    ensures { IfOk result (λ plan. list_then kept.now (planned plan)
-        ≡ edges_left dead.now (layered kept.now lost.now fresh)) }
+    ensures { IfOk result (AreGone records.now lost dead.now) }
 {
-    if lost.is_empty() && dead.is_empty() && come_behind(fresh.as_slice(), kept) {
-        return Ok(PlannedItems::Behind(fresh.into_items()));
+    if dead.is_empty() {
+        return Ok(lost);
     }
-    let whole = layered_run(alloc, kept, lost, fresh.as_slice())?;
-    let left = with_living_parents(alloc, whole, dead)?;
-    Ok(PlannedItems::Whole(left.into_items()))
+    let leaving = leaving_edges(alloc, objects, records, dead)?;
+    let gone = joined(alloc, lost.as_slice(), leaving.as_slice())?;
+    Ok(gone)
+}
+
+// The edges that leave these objects, in ascending order.
+fn leaving_edges(
+    alloc: Global,
+    objects: &[ObjectRecord],
+    records: &Slab<EdgeRecord>,
+    oids: &[Oid],
+) -> Result<EdgeBuf, NoMemory>
+    requires ascend { AreAscendingObjects objects.now }
+    requires chained { AreChained Out objects.now records.now [] }
+    requires oids { AreAscendingOids oids.now }
+    ensures { IfOk result (AreLeaving records.now oids.now) }
+{
+    let mut leaving = EdgeBuf::new(alloc);
+    'oids: for oid in oids {
+        push_list(objects, records, Side::Out, *oid, &mut leaving)?;
+    }
+    Ok(leaving)
+}
+
+// The keys of the edges that go: of those that are lost they were found, and the others are looked
+// for where they are taken out.
+pub(crate) fn likely_keys(
+    alloc: Global,
+    lost: &[Edge],
+    keys: &[usize],
+    gone: &[Edge],
+) -> Result<Vec<usize>, NoMemory> {
+    let mut likely = Vec::with_capacity(alloc, gone.len())?;
+    let mut place = 0;
+    'gone: for edge in gone {
+        if lost.get(place) == Some(edge) {
+            likely.push(keys.get(place).copied().unwrap_or(usize::MAX))?;
+            place += 1;
+        } else {
+            likely.push(usize::MAX)?;
+        }
+    }
+    Ok(likely)
 }

@@ -1,9 +1,10 @@
-use crate::edge_runs::runs_then;
-use crate::object_lists::{value_in, value_in_parts};
-use crate::planned_items::PlannedItems;
-use crate::run_starts::RunStarts;
+use crate::dead_oids::is_dead;
+use crate::layers::push_leaving;
+use crate::object_lists::{value_in, value_of};
+use edge_lists::{EdgeRecord, ObjectRecord};
 use index_traits::{Adjacent, ValueOf};
 use lore_base::{Edge, EdgeBuf, NoMemory, Oid, Steps, Value};
+use slab::Slab;
 use std::marker::Model;
 use std::sync::ledger::Ledger;
 
@@ -11,28 +12,31 @@ use std::sync::ledger::Ledger;
 /// them. Contracts see the two lists of them.
 #[derive(Drop)]
 pub struct GraphThen<'a> {
-    pub(crate) kept_objects: &'a [(Oid, Value)],
-    pub(crate) kept_edges: &'a [Edge],
-    pub(crate) objects: &'a PlannedItems<(Oid, Value)>,
-    pub(crate) edges: &'a PlannedItems<Edge>,
-    pub(crate) starts: &'a RunStarts,
+    pub(crate) objects: &'a [ObjectRecord],
+    pub(crate) records: &'a Slab<EdgeRecord>,
+    pub(crate) dead: &'a [Oid],
+    pub(crate) given: &'a [(Oid, Value)],
+    pub(crate) gone: &'a [Edge],
+    pub(crate) come: &'a [Edge],
 }
 
 impl<'a> Model for GraphThen<'a> {
-    ghost use Rattle.lore_base.specs.Databases.{AreAscendingObjects, AreAscendingEdges};
-    ghost use Rattle.oem_graph.specs.Plans.{GraphLists, list_then};
-    ghost use Rattle.oem_graph.specs.inside.Planned.{planned};
+    ghost use Rattle.edge_lists.specs.Objects.{object_of};
+    ghost use Rattle.edge_lists.specs.Views.{edges_of};
+    ghost use Rattle.oem_graph.specs.Plans.{GraphLists, with_objects, put_edges};
+    ghost use Rattle.oem_graph.specs.inside.Layers.{staying};
+    ghost use Rattle.oem_graph.specs.inside.Left.{not_dead};
+    ghost use Rattle.oem_graph.specs.inside.Planned.{IsRead};
+    ghost use Rattle.std.specs.Prelude.{map};
 
     ghost Value = { GraphLists };
 
     ghost view = { λ t. record {
-      objects = list_then t.kept_objects.now (planned t.objects.now);
-      edges = list_then t.kept_edges.now (planned t.edges.now);
+      objects = with_objects (not_dead t.dead.now (map object_of t.objects.now)) t.given.now;
+      edges = put_edges (staying t.gone.now (edges_of t.records.now)) t.come.now;
     } };
 
-    ghost invariant = { λ t.
-        AreAscendingObjects (list_then t.kept_objects.now (planned t.objects.now))
-        × AreAscendingEdges (list_then t.kept_edges.now (planned t.edges.now)) };
+    ghost invariant = { λ t. IsRead t.objects.now t.records.now t.dead.now t.given.now t.gone.now t.come.now };
 }
 
 impl<'a> Adjacent for GraphThen<'a> {
@@ -44,11 +48,9 @@ impl<'a> Adjacent for GraphThen<'a> {
         buf: &mut EdgeBuf,
         steps: &mut Steps<L>,
     ) -> Result<(), NoMemory> {
-        let (kept, more) = runs_then(self.starts, self.kept_edges, self.edges, oid);
-        buf.append(kept)?;
-        buf.append(more)?;
-        steps.tick(1 + kept.len() as u64);
-        steps.tick(more.len() as u64);
+        let before = buf.len();
+        push_leaving(self.objects, self.records, self.gone, self.come, oid, buf)?;
+        steps.tick(1 + (buf.as_slice().len() - before) as u64);
         Ok(())
     }
 }
@@ -57,9 +59,12 @@ impl<'a> ValueOf for GraphThen<'a> {
     ghost objects = { λ t. t.objects };
 
     fn value_of(&self, oid: Oid) -> Option<&Value> {
-        match self.objects {
-            PlannedItems::Behind(more) => value_in_parts(self.kept_objects, more.as_slice(), oid),
-            PlannedItems::Whole(objects) => value_in(objects.as_slice(), oid),
+        if let Some(value) = value_in(self.given, oid) {
+            return Some(value);
         }
+        if is_dead(self.dead, oid) {
+            return None;
+        }
+        value_of(self.objects, oid)
     }
 }

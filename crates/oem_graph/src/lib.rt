@@ -1,17 +1,17 @@
-//! The graph of an OEM database (Abiteboul et al. 1997), kept as vectors in ascending order:
-//! objects by their numbers, edges by parent, label and child.
+//! The graph of an OEM database (Abiteboul et al. 1997): objects by their numbers, and edges as records
+//! in the out lists of their parents and the in lists of their children.
 //!
-//! A reader finds an object where it stands while numbers have no gap, or by binary search, and the
-//! edges that leave it by a table of the places where they begin, or by binary search too. A change
-//! comes in three calls: `prepare` works out what comes, `reserve` takes the memory for it, and
-//! `commit` puts it in place and cannot fail.
+//! A reader finds an object where it stands while numbers have no gap, or by binary search, and follows
+//! its lists. A change comes in three calls: `prepare` works out what goes and what comes, `reserve`
+//! takes the memory for it, and `commit` puts it in place and cannot fail. It takes time by what changes
+//! and by the lists concerned.
 #![tactic(auto)]
 
 pub use edge_changes::EdgeChanges;
 pub use edge_overlay::Overlay;
 pub use graph_plan::GraphPlan;
 pub use graph_then::GraphThen;
-pub use sorted_graph::Graph;
+pub use linked_graph::Graph;
 
 mod dead_oids;
 mod edge_changes;
@@ -21,8 +21,10 @@ mod edge_sets;
 mod edges_then;
 mod graph_plan;
 mod graph_then;
+mod layers;
+mod linked_graph;
+mod object_changes;
 mod object_lists;
 mod objects_then;
-mod planned_items;
-mod run_starts;
-mod sorted_graph;
+mod places;
+mod turned;

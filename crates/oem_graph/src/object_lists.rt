@@ -1,23 +1,26 @@
-ghost use Rattle.std.specs.Prelude.{◌≡◌, ◌++◌, Contains, IfSome, IfNone, IfOk};
+ghost use Rattle.std.specs.Prelude.{◌≡◌, map, Some, Contains, IfSome, IfNone};
 ghost use Rattle.std.specs.Option.{option_copied};
 ghost use Rattle.oem_graph.specs.Types.{Value as TheValue};
 ghost use Rattle.lore_base.specs.Databases.{AreAscendingObjects, IsLive};
+ghost use Rattle.edge_lists.specs.Objects as lists;
+ghost use Rattle.edge_lists.specs.Objects.{object_of};
 
-use lore_base::{NoMemory, ObjectList, Oid, TryCopy, Value};
-use std::alloc::Global;
+use edge_lists::{ObjectRecord, place_of};
+use lore_base::{Oid, Value};
 
-// A copy of the objects, in the same order.
-pub(crate) fn copied_objects(
-    alloc: Global,
-    objects: &ObjectList,
-) -> Result<Vec<(Oid, Value)>, NoMemory>
-    ensures { IfOk result (λ copy. copy.items ≡ objects.now) }
+// The value of the object; None exactly where it isn't there.
+pub(crate) fn value_of(objects: &[ObjectRecord], oid: Oid) -> Option<&Value>
+    requires { lists.AreAscendingObjects objects.now }
+    ensures found { IfSome result
+        (λ value. Contains (map object_of objects.now) (oid, value.now)) }
+    ensures none { IfNone result (¬ IsLive (map object_of objects.now) oid) }
+    ensures only { (value : TheValue) → Contains (map object_of objects.now) (oid, value)
+        → option_copied result ≡ Some value }
 {
-    let mut copy = Vec::with_capacity(alloc, objects.len())?;
-    'objects: for object in objects.as_slice() {
-        copy.push(object.try_copy(alloc)?)?;
+    match place_of(objects, oid) {
+        Some(place) => Some(&objects[place].value),
+        None => None,
     }
-    Ok(copy)
 }
 
 // The value of the object among ascending objects; None exactly where it isn't there. It is looked
@@ -35,25 +38,6 @@ pub(crate) fn value_in(objects: &[(Oid, Value)], oid: Oid) -> Option<&Value>
     match objects.binary_search_by_key(&oid, |object| object.0) {
         Ok(place) => Some(&objects[place].1),
         Err(_) => None,
-    }
-}
-
-// The value of the object among ascending objects, of which `more` come behind `kept`; None
-// exactly where it isn't there. It is looked for among the later ones first.
-pub(crate) fn value_in_parts<'a>(
-    kept: &'a [(Oid, Value)],
-    more: &'a [(Oid, Value)],
-    oid: Oid,
-) -> Option<&'a Value>
-    requires { AreAscendingObjects (kept.now ++ more.now) }
-    ensures found { IfSome result (λ value. Contains (kept.now ++ more.now) (oid, value.now)) }
-    ensures none { IfNone result (¬ IsLive (kept.now ++ more.now) oid) }
-    ensures only { (value : TheValue) → Contains (kept.now ++ more.now) (oid, value)
-        → option_copied result ≡ Some value }
-{
-    match value_in(more, oid) {
-        Some(value) => Some(value),
-        None => value_in(kept, oid),
     }
 }
 

@@ -1,16 +1,20 @@
-ghost use Rattle.std.specs.Prelude.{◌≡◌, ◌≢◌, [], ◌++◌, AllPairs, IfOk, OnOk};
-ghost use Rattle.lore_base.specs.Databases.{AreAscendingObjects};
-ghost use Rattle.oem_graph.specs.Plans.{list_then};
-ghost use Rattle.oem_graph.specs.inside.Left as spec;
-ghost use Rattle.oem_graph.specs.inside.Left.{AreAscendingOids, AreOrdered, ListsObjectsLeft};
-ghost use Rattle.oem_graph.specs.inside.Left.{objects_left};
-ghost use Rattle.oem_graph.specs.inside.Planned.{planned};
+ghost use Rattle.std.specs.Prelude.{◌≡◌, ◌≢◌, ◌++◌, AllPairs, IfOk, OnOk};
+ghost use Rattle.oem_graph.specs.inside.Left.{AreAscendingOids, AreOrdered, ListsGiven, not_dead};
 
 use crate::dead_oids::is_dead;
-use crate::object_lists::{copied_objects, value_in};
-use crate::planned_items::PlannedItems;
 use lore_base::{Changes, NoMemory, ObjectList, Oid, TryCopy, Value};
 use std::alloc::Global;
+
+// A copy of the objects, in the same order.
+fn copied_objects(alloc: Global, objects: &ObjectList) -> Result<Vec<(Oid, Value)>, NoMemory>
+    ensures { IfOk result (λ copy. copy.items ≡ objects.now) }
+{
+    let mut copy = Vec::with_capacity(alloc, objects.len())?;
+    'objects: for object in objects.as_slice() {
+        copy.push(object.try_copy(alloc)?)?;
+    }
+    Ok(copy)
+}
 
 // The given values by ascending objects.
 fn ordered_values(alloc: Global, given: &ObjectList) -> Result<Vec<(Oid, Value)>, NoMemory>
@@ -22,58 +26,39 @@ fn ordered_values(alloc: Global, given: &ObjectList) -> Result<Vec<(Oid, Value)>
     Ok(values)
 }
 
-// The object's new value, or its old one.
-fn value_then<'a>(values: &'a [(Oid, Value)], object: &'a (Oid, Value)) -> &'a Value
-    requires { AreAscendingObjects values.now }
-    ensures { result.now ≡ spec.value_then values.now object.now }
-{
-    match value_in(values, object.0) {
-        Some(value) => value,
-        None => &object.1,
-    }
-}
-
-// Puts those of the objects behind `left` that aren't dead, with their values.
+// Puts those of the objects behind `left` that aren't dead.
 fn push_living(
     alloc: Global,
-    left: &mut Vec<(Oid, Value)>,
+    left: &mut ObjectList,
     objects: &[(Oid, Value)],
-    values: &[(Oid, Value)],
     dead: &[Oid],
 ) -> Result<(), NoMemory>
-    requires values { AreAscendingObjects values.now }
-    requires dead { AreAscendingOids dead.now }
-    ensures { OnOk result
-        (left.new.items ≡ left.old.items ++ objects_left values.now dead.now objects.now) }
+    requires { AreAscendingOids dead.now }
+    ensures { OnOk result (left.new ≡ left.old ++ not_dead dead.now objects.now) }
 {
     'objects: for object in objects {
         if !is_dead(dead, object.0) {
-            left.push((object.0, value_then(values, object).try_copy(alloc)?))?;
+            left.push(object.try_copy(alloc)?)?;
         }
     }
     Ok(())
 }
 
-// What becomes of the objects that are kept: dead ones go, others have new values, and made ones
-// come. Where none goes and no value is new, the kept ones aren't copied.
-pub(crate) fn planned_objects(
+// The values that are given to objects, by ascending objects, and behind them the made objects; of
+// both those that don't die.
+pub(crate) fn objects_given(
     alloc: Global,
-    kept: &[(Oid, Value)],
     changes: &Changes,
     dead: &[Oid],
-) -> Result<PlannedItems<(Oid, Value)>, NoMemory>
+) -> Result<ObjectList, NoMemory>
     requires once { AllPairs (λ a b. a.0 ≢ b.0) changes.now.values }
     requires dead { AreAscendingOids dead.now }
-    ensures { IfOk result (λ plan. ListsObjectsLeft kept.now changes.now dead.now
-        (list_then kept.now (planned plan))) }
+    ensures { IfOk result (ListsGiven changes.now dead.now) }
 {
-    if changes.values.is_empty() && dead.is_empty() {
-        return Ok(PlannedItems::Behind(copied_objects(alloc, &changes.made)?));
-    }
     let values = ordered_values(alloc, &changes.values)?;
-    let room = kept.len().saturating_add(changes.made.len());
-    let mut left = Vec::with_capacity(alloc, room)?;
-    push_living(alloc, &mut left, kept, values.as_slice(), dead)?;
-    push_living(alloc, &mut left, changes.made.as_slice(), &[], dead)?;
-    Ok(PlannedItems::Whole(left))
+    let room = values.len().saturating_add(changes.made.len());
+    let mut given = ObjectList::with_capacity(alloc, room)?;
+    push_living(alloc, &mut given, values.as_slice(), dead)?;
+    push_living(alloc, &mut given, changes.made.as_slice(), dead)?;
+    Ok(given)
 }

@@ -1,4 +1,7 @@
-pub mod ReachedLaws
+pub mod ListedLaws
 pub mod CutLaws
-pub mod DeadLaws
+pub mod DoubtLaws
+pub mod HeldLaws
+pub mod OldLaws
 pub mod LowerParentLaws
+pub mod SearchLaws

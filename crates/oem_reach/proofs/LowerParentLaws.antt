@@ -1,19 +1,45 @@
 -- Where each made object is a start or has a parent with a lower number, each is walked to.
-use Rattle.std.proofs.Common.{◌≡◌, ℕ, zero, suc, ◌+◌, ◌-◌, ◌<◌, ◌≤◌, ◌⊎◌, inl, inr, Bool, true, false, not, List, [], ◌∷◌, ◌++◌, length, filter, get_or, replicate, map, AllPairs, Contains, refl, sym, ap, ◌∙◌, subst, arith, true≢false}
+use Rattle.std.proofs.Common.{◌≡◌, ℕ, zero, suc, ◌+◌, ◌-◌, ◌<◌, ◌≤◌, ◌⊎◌, inl, inr, Bool, true, false, not, List, [], ◌∷◌, ◌++◌, length, get_or, Some, slice_get, replicate, map, AllPairs, Contains, refl, sym, ap, ◌∙◌, subst, arith, true≢false}
 use Rattle.std.specs.List.{list_any}
 use Rattle.std.proofs.lemmas.Bool.{cases_lt}
 use Rattle.std.proofs.lemmas.List.{get_or-replicate, length-replicate}
 use Rattle.std.proofs.lemmas.List.Folds.{list_any_at}
 use Rattle.std.proofs.Math.ListN.{get_or-eq_default}
-use Rattle.std.proofs.lemmas.List.Elements.{Contains-append_right}
-use Rattle.lore_base.specs.ChangeSets.{AreNumberedFrom}
-use Rattle.lore_base.proofs.MemberLaws.{Contains-none, Contains-filter}
-use Rattle.lore_base.proofs.WalkLaws.{Walk-append}
-use Rattle.list_laws.proofs.MemberLaws.{Contains-map}
-use Rattle.oem_reach.specs.Types.{Oid, Edge, Value}
-use Rattle.oem_reach.specs.inside.Reached.{IsWalkedFrom, is_entering, entered, AreLeft}
+use Rattle.std.proofs.lemmas.List.Elements.{All-contains}
+use Rattle.lore_base.specs.Walks.{edge_of}
+use Rattle.lore_base.specs.Databases.{OemGraph, IsRooted, IsLive}
+use Rattle.lore_base.specs.ChangeSets.{AreNumberedFrom, IsReachedThen, IsComplexThen, IsAtHand, FitsGraph, IsOverlay, AreDead}
+use Rattle.read_costs.specs.Concerned.{IsCut}
+use Rattle.lore_base.proofs.MemberLaws.{Contains-none, Contains-cases, Contains-same}
+use Rattle.lore_base.proofs.WalkLaws.{Walk-push}
+use Rattle.oem_reach.specs.Types.{Oid, Edge, Value, Changes}
+use Rattle.oem_reach.specs.inside.Doubts.{IsNamedThen}
 use Rattle.oem_reach.specs.inside.LowerParents.{IsLed, AreLed}
-use Rattle.oem_reach.proofs.DeadLaws.{numbers_from, numbers_below, entering-Decides}
+use Rattle.list_laws.proofs.MemberLaws.{Contains-map}
+use Rattle.oem_reach.proofs.CutLaws.{live_before}
+use Rattle.oem_reach.proofs.DoubtLaws.{told_reached}
+
+-- made objects have the next number or a later one
+pub numbers_from : (next : ℕ) (made : List (Oid × Value)) → AreNumberedFrom next made → (oid : Oid) → Contains (map (λ object. object.0) made) oid → next ≤ oid.0
+numbers_from next [] numbered oid at = absurd (Contains-none oid at)
+numbers_from next (object ∷ others) numbered oid at = elim (Contains-cases object.0 (map (λ o. o.0) others) oid at) [
+  | inl same ↦ omega (arith, numbered.0, ap (λ (o : Oid). o.0) same)
+  | inr later ↦ omega (arith, numbers_from (next + 1) others numbered.1 oid later)
+]
+
+pub numbers_below : (next : ℕ) (made : List (Oid × Value)) → AreNumberedFrom next made → (oid : Oid) → Contains (map (λ object. object.0) made) oid → oid.0 < next + length made
+numbers_below next [] numbered oid at = absurd (Contains-none oid at)
+numbers_below next (object ∷ others) numbered oid at = elim (Contains-cases object.0 (map (λ o. o.0) others) oid at) [
+  | inl same ↦ omega (arith, numbered.0, ap (λ (o : Oid). o.0) same)
+  | inr later ↦ omega (arith, numbers_below (next + 1) others numbered.1 oid later)
+]
+
+-- the first of them has that number
+pub first_number : (next : ℕ) (made : List (Oid × Value)) (first : Oid × Value) → Some first ≡ slice_get made 0 → AreNumberedFrom next made → first.0.0 ≡ next
+first_number next [] first at numbered = cc
+first_number next (object ∷ others) first at numbered =
+    let same : first ≡ object = cc in
+    ap (λ (o : Oid × Value). o.0.0) same ∙ numbered.0
 
 -- where one more is noted that is led to, what is noted still is
 pub noted_more : (starts : List Oid) (edges : List Edge) (first number : ℕ) (old new : List Bool) → IsLed starts edges number
@@ -54,56 +80,85 @@ all_led starts edges first count is_out blank some noted read left_out out is lo
     not_true true h = absurd (true≢false (sym h))
     not_true false _ = refl
 
-module _ (between fresh : List Edge) (starts : List Oid) (next count : ℕ)
-    (there : (edge : Edge) → Contains fresh edge → Contains between edge)
-    (enters : (edge : Edge) → Contains fresh edge → edge.parent.0 < next → next ≤ edge.child.0 → Contains starts edge.child)
-    (led : (place : ℕ) → place < count → IsLed starts fresh (next + place)) where
-  -- each number is walked to, since those below it are
-  walked_below : (bound : ℕ) (oid : Oid) → oid.0 < bound → next ≤ oid.0 → oid.0 < next + count → IsWalkedFrom between starts oid
-  walked_below zero oid low from below = absurd (omega (arith, low))
-  walked_below (suc bound) oid low from below =
-      let here : next + (oid.0 - next) ≡ oid.0 = omega (arith, from) in
-      elim (subst (IsLed starts fresh) here (led (oid.0 - next) (omega (arith, from, below)))) [
-        | inl start ↦ (start.0, [], start.1, (let is = start.2 in λ i. record { 0 = is i }))
-        | inr child ↦
-            let edge = child.0 in
-            let same : edge.child ≡ oid = (let is = child.2 in λ i. record { 0 = is i }) in
-            elim (cases_lt edge.parent.0 next) [
-              | inl old ↦ (edge.child, [], enters edge child.1 old (omega (arith, child.2, from)), same)
-              | inr new ↦
-                  let parent = walked_below bound edge.parent (omega (arith, child.3, low)) new (omega (arith, child.3, below)) in (
-                    parent.0,
-                    parent.1 ++ edge.label ∷ [],
-                    parent.2,
-                    Walk-append between parent.0 parent.1 edge.parent (edge.label ∷ []) oid parent.3 (edge.child, there edge child.1, same),
-                  )
+module _ (before : OemGraph) (changes : Changes) (between lost fresh : List Edge)
+    (rooted : IsRooted before) (fits : FitsGraph before changes) (overlay : IsOverlay before.edges changes between lost fresh)
+    (whole : (oid : Oid) → IsCut before changes between oid → ⊥) (starts : List Oid)
+    (named : (oid : Oid) → Contains starts oid → IsNamedThen before.names changes oid)
+    (led : (place : ℕ) → place < length changes.made → IsLed starts fresh (before.next + place)) where
+  -- where nothing is cut, what was there is reached
+  old_reached : (oid : Oid) → IsLive before.objects oid → IsReachedThen before.names changes between oid
+  old_reached oid live = elim (told_reached before changes between lost fresh rooted fits overlay oid live) [
+    | inl reached ↦ reached
+    | inr below ↦ absurd (whole below.0 below.2)
+  ]
+
+  -- the parent of a fresh edge, with a number below the next one, was there
+  parent_old : (edge : Edge) → Contains fresh edge → edge.parent.0 < before.next → IsLive before.objects edge.parent
+  parent_old edge at old =
+      let only = (overlay.fresh_exact edge).0 at in
+      elim ((overlay.linked.exact edge).0 only.0) [
+        | inr kept ↦ absurd (only.1 kept.0)
+        | inl added ↦
+            let ends = All-contains (λ (e : Edge). IsComplexThen before.objects changes e.parent × IsAtHand before changes e.child) changes.added edge fits.added added in
+            elim (live_before before changes rooted fits edge.parent (_, ends.0)) [
+              | inr live ↦ live
+              | inl new ↦ absurd (omega (
+                arith,
+                old,
+                numbers_from before.next changes.made fits.numbered edge.parent
+                    (Contains-map (λ (object : Oid × Value). object.0) changes.made (edge.parent, new.0) new.1),
+              ))
             ]
       ]
 
--- no made object is left where each is led to
-pub none_dead : (between fresh : List Edge) (named : List (List ℕ × Oid)) (made : List (Oid × Value)) (next first : ℕ) (starts dead : List Oid)
-    → AreNumberedFrom next made → first ≡ next → starts ≡ entered first named fresh
-    → ((edge : Edge) → Contains fresh edge → Contains between edge)
-    → ((place : ℕ) → place < length made → IsLed starts fresh (first + place)) → dead ≡ []
-    → AreLeft (Contains (map (λ object. object.0) made)) (IsWalkedFrom between (entered next named fresh)) dead
-none_dead between fresh named made next first starts dead numbered same all there led none = record {
-  ascend = subst (AllPairs (λ (a b : Oid). a.0 < b.0)) (sym none) (λ i j d below within. absurd (omega (arith, within)));
-  only = λ oid at. absurd (Contains-none oid (subst (λ (l : List Oid). Contains l oid) none at));
-  each = λ oid at. inr (walked_below between fresh all_starts next (length made) there enters from (oid.0 + 1) oid (omega arith)
-      (numbers_from next made numbered oid at) (numbers_below next made numbered oid at));
-}
-  where
-    all_starts : List Oid
-    all_starts = entered next named fresh
+  -- each made number is reached, since those below it are
+  number_reached : (bound : ℕ) (oid : Oid) → oid.0 < bound → before.next ≤ oid.0 → oid.0 < before.next + length changes.made
+      → IsReachedThen before.names changes between oid
+  number_reached zero oid low from below = absurd (omega (arith, low))
+  number_reached (suc bound) oid low from below =
+      let here : before.next + (oid.0 - before.next) ≡ oid.0 = omega (arith, from) in
+      elim (subst (IsLed starts fresh) here (led (oid.0 - before.next) (omega (arith, from, below)))) [
+        | inl start ↦
+            let same : start.0 ≡ oid = (let is = start.2 in λ i. record { 0 = is i }) in
+            let name = named oid (Contains-same starts start.0 oid same start.1) in
+            record {
+              name = name.0;
+              start = oid;
+              word = [];
+              named = name.1;
+              walked = refl;
+            }
+        | inr child ↦
+            let edge = child.0 in
+            let parent : IsReachedThen before.names changes between edge.parent = elim (cases_lt edge.parent.0 before.next) [
+              | inl old ↦ old_reached edge.parent (parent_old edge child.1 old)
+              | inr new ↦ number_reached bound edge.parent (omega (arith, child.3, low)) new (omega (arith, child.3, below))
+            ] in
+            let at = ((overlay.fresh_exact edge).0 child.1).0 in
+            record {
+              name = parent.name;
+              start = parent.start;
+              word = parent.word ++ edge.label ∷ [];
+              named = parent.named;
+              walked = Walk-push between parent.start parent.word edge.parent edge.label oid parent.walked
+                  (Contains-same between edge (edge_of edge.parent edge.label oid) (let is = child.2 in λ i. record { parent = edge.parent; label = edge.label; child = record { 0 = is i } }) at);
+            }
+      ]
 
-    is : starts ≡ all_starts
-    is = all ∙ ap (λ n. entered n named fresh) same
-
-    from : (place : ℕ) → place < length made → IsLed all_starts fresh (next + place)
-    from place within = subst (λ (l : List Oid). IsLed l fresh (next + place)) is (subst (λ n. IsLed starts fresh (n + place)) same (led place within))
-
-    enters : (edge : Edge) → Contains fresh edge → edge.parent.0 < next → next ≤ edge.child.0 → Contains all_starts edge.child
-    enters edge at old new =
-        Contains-append_right (map (λ (entry : List ℕ × Oid). entry.1) named) (map (λ (e : Edge). e.child) (filter (is_entering next) fresh)) edge.child
-        (Contains-map (λ (e : Edge). e.child) (filter (is_entering next) fresh) edge
-        (Contains-filter (is_entering next) fresh edge at ((entering-Decides next edge).1 (old, new))))
+  -- none is dead where nothing is cut and each made object is led to
+  pub none_dead : (dead : List Oid) → dead ≡ [] → AreDead before changes dead
+  none_dead dead none =
+      let out : (oid : Oid) → Contains dead oid → ⊥ = λ oid at. Contains-none oid (subst (λ (l : List Oid). Contains l oid) none at) in
+      record {
+        between = between;
+        linked = overlay.linked;
+        ascend = subst (AllPairs (λ (a b : Oid). a.0 < b.0)) (sym none) (λ i j d below within. absurd (omega (arith, within)));
+        vanish = λ oid at. absurd (out oid at);
+        stay = λ oid live. inr (elim (live_before before changes rooted fits oid live) [
+          | inr old ↦ old_reached oid old
+          | inl new ↦
+              let at = Contains-map (λ (object : Oid × Value). object.0) changes.made (oid, new.0) new.1 in
+              number_reached (oid.0 + 1) oid (omega arith) (numbers_from before.next changes.made fits.numbered oid at)
+              (numbers_below before.next changes.made fits.numbered oid at)
+        ]);
+      }

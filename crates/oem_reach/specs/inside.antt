@@ -1,3 +1,3 @@
 -- Definitions that no public contract cites.
-pub mod Reached
+pub mod Doubts
 pub mod LowerParents

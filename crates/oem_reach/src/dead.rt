@@ -1,15 +1,15 @@
-ghost use Rattle.std.specs.Prelude.{◌≡◌, ℕ, ◌++◌, map, Contains, IfOk};
+ghost use Rattle.std.specs.Prelude.{◌≡◌, IfOk, OnOk};
 ghost use Rattle.lore_base.specs.Databases.{OemGraph, IsRooted};
-ghost use Rattle.lore_base.specs.ChangeSets.{FitsGraph, IsOverlay, AreDead, IsReachedThen, AreNumberedFrom};
-ghost use Rattle.oem_reach.specs.Types.{Edge as TheEdge};
-ghost use Rattle.oem_reach.specs.inside.Reached.{IsWalkedFrom, entered, AreLeft};
+ghost use Rattle.lore_base.specs.ChangeSets.{FitsGraph, IsOverlay, AreDead};
+ghost use Rattle.oem_reach.specs.Reads.{ReadsBelow};
 
-use crate::cuts::{entered_objects, parted_objects, push_objects};
-use crate::lower_parents::are_led_to;
-use crate::near::unreached_near_first;
-use crate::reached::{reached_from, unreached};
-use index_traits::Adjacent;
+use crate::below::objects_below;
+use crate::cuts::parted_objects;
+use crate::doubts::{objects_in_doubt, objects_named, unheld_objects, with_fresh};
+use crate::lower_parents::are_all_led;
+use index_traits::{Adjacent, Links};
 use lore_base::{Changes, EdgeBuf, Names, NoMemory, OidBuf, Steps};
+use read_costs::entering_edges;
 use std::alloc::Global;
 use std::sync::ledger::Ledger;
 
@@ -18,77 +18,42 @@ use std::sync::ledger::Ledger;
 ///
 /// `names` are the names of the graph before, each of whose objects is reached from a name, and
 /// which the changes fit; `overlay` has the edges once they are made; `lost` are the edges of
-/// before that it lacks, and `fresh` those that are new in it. Where no edge is lost and no name
-/// leaves its object, made objects alone are searched, and nothing where each of them is named or
-/// has a parent with a lower number. Else the objects below cuts are searched, and after them all
-/// that names lead to, unless those below cuts are few and all found from the named objects and the
-/// children of named objects among them.
-pub fn dead_objects<A: Adjacent, L: Ledger>(
+/// before that it lacks, and `fresh` those that are new in it. Read are the objects below cuts, each
+/// once by the edges that leave it and once by those that enter it, and no other. They are searched
+/// from the cuts on, without fresh edges. Of these and the made ones those stay that are named, or
+/// that an edge enters from another object, and what such edges lead to from them.
+pub fn dead_objects<V: Adjacent + Links, L: Ledger>(
     alloc: Global,
     names: &Names,
-    overlay: &A,
+    overlay: &V,
     lost: &EdgeBuf,
     fresh: &EdgeBuf,
     changes: &Changes,
     steps: &mut Steps<L>,
 ) -> Result<OidBuf, NoMemory>
-    ensures { IfOk result (λ dead. (before : OemGraph) → IsRooted before
+    ensures dead { IfOk result (λ dead. (before : OemGraph) → IsRooted before
         → before.names ≡ names.now → FitsGraph before changes.now
-        → IsOverlay before.edges changes.now (A.edges overlay.now) lost.now fresh.now
+        → IsOverlay before.edges changes.now (V.Adjacent.edges overlay.now) lost.now fresh.now
+        → V.Links.edges overlay.now ≡ V.Adjacent.edges overlay.now
         → AreDead before changes.now dead) }
+    ensures reads { let between = V.Adjacent.edges overlay.now in
+        OnOk result ((before : OemGraph) → IsRooted before
+        → before.names ≡ names.now → FitsGraph before changes.now
+        → IsOverlay before.edges changes.now between lost.now fresh.now
+        → V.Links.edges overlay.now ≡ between
+        → ReadsBelow before changes.now between steps.old steps.new) }
 {
     let parted = parted_objects(names, lost, changes)?;
     if parted.is_empty() {
-        return dead_made(alloc, overlay, fresh, changes, steps);
+        let led = are_all_led(alloc, fresh, changes)?;
+        if led {
+            return Ok(OidBuf::new(alloc));
+        }
     }
-    dead_below(alloc, names, overlay, parted, changes, steps)
-}
-
-// Those of the made objects that are reached neither from what is named nor over fresh edges from
-// older objects. Mostly each is named or below one with a lower number; then nothing is searched.
-fn dead_made<A: Adjacent, L: Ledger>(
-    alloc: Global,
-    overlay: &A,
-    fresh: &EdgeBuf,
-    changes: &Changes,
-    steps: &mut Steps<L>,
-) -> Result<OidBuf, NoMemory>
-    ensures { IfOk result (λ dead. (next : ℕ) → AreNumberedFrom next changes.now.made
-        → ((edge : TheEdge) → Contains fresh.now edge → Contains (A.edges overlay.now) edge)
-        → AreLeft (Contains (map (λ object. object.0) changes.now.made)) (IsWalkedFrom
-        (A.edges overlay.now) (entered next changes.now.named fresh.now)) dead) }
-{
-    let count = changes.made.len();
-    let Some(first) = changes.made.get(0) else {
-        return Ok(OidBuf::new(alloc));
-    };
-    let entered = entered_objects(&changes.named, fresh, first.0)?;
-    let are_led = are_led_to(alloc, entered.as_slice(), fresh.as_slice(), first.0, count)?;
-    if are_led {
-        return Ok(OidBuf::new(alloc));
-    }
-    let mut made = OidBuf::with_capacity(alloc, count)?;
-    push_objects(&mut made, &changes.made)?;
-    unreached(alloc, overlay, made, entered.as_slice(), steps)
-}
-
-// Those of the objects below a cut, and of the made ones, that no name walks to then.
-fn dead_below<A: Adjacent, L: Ledger>(
-    alloc: Global,
-    names: &Names,
-    overlay: &A,
-    parted: OidBuf,
-    changes: &Changes,
-    steps: &mut Steps<L>,
-) -> Result<OidBuf, NoMemory>
-    ensures { IfOk result (AreLeft (IsWalkedFrom (A.edges overlay.now)
-        (parted ++ map (λ object. object.0) changes.now.made))
-        (IsReachedThen names.now changes.now (A.edges overlay.now))) }
-{
-    let mut cut = parted;
-    push_objects(&mut cut, &changes.made)?;
-    let below = reached_from(alloc, overlay, cut.as_slice(), steps)?;
-    let then = names.changed_by(changes)?;
-    let named = then.objects()?;
-    unreached_near_first(alloc, overlay, below, named.as_slice(), steps)
+    let below = objects_below(alloc, overlay, fresh, parted.as_slice(), steps)?;
+    let entering = entering_edges(alloc, overlay, below.as_slice(), steps)?;
+    let doubts = objects_in_doubt(below, &changes.made)?;
+    let named = objects_named(names, changes)?;
+    let edges = with_fresh(entering, fresh.as_slice(), doubts.as_slice())?;
+    unheld_objects(alloc, doubts.as_slice(), named.as_slice(), edges.as_slice())
 }

@@ -34,10 +34,15 @@ fn check_read(
 
 // The script has 38 bytes, whose `;` are the 12th, 25th and 38th, and one more read finds its end.
 // The piece of a read; how many reads are made; a read that fails, and the statements that are
-// replied to then.
-const READS: [(u32, u64, u64, u8); 25] = [
+// replied to then. Of each piece the first eight reads, and those round the end of a statement.
+const READS: [(u32, u64, u64, u8); 43] = [
     (1, 39, 1, 0),
     (1, 39, 2, 0),
+    (1, 39, 3, 0),
+    (1, 39, 4, 0),
+    (1, 39, 5, 0),
+    (1, 39, 6, 0),
+    (1, 39, 7, 0),
     (1, 39, 8, 0),
     (1, 39, 12, 0),
     (1, 39, 13, 1),
@@ -47,8 +52,13 @@ const READS: [(u32, u64, u64, u8); 25] = [
     (1, 39, 39, 3),
     (1, 39, 40, 3),
     (2, 20, 1, 0),
+    (2, 20, 2, 0),
+    (2, 20, 3, 0),
+    (2, 20, 4, 0),
+    (2, 20, 5, 0),
     (2, 20, 6, 0),
     (2, 20, 7, 1),
+    (2, 20, 8, 1),
     (2, 20, 13, 1),
     (2, 20, 14, 2),
     (2, 20, 20, 3),
@@ -58,9 +68,17 @@ const READS: [(u32, u64, u64, u8); 25] = [
     (13, 4, 3, 2),
     (13, 4, 4, 3),
     (13, 4, 5, 3),
+    (13, 4, 6, 3),
+    (13, 4, 7, 3),
+    (13, 4, 8, 3),
     (65_536, 2, 1, 0),
     (65_536, 2, 2, 3),
     (65_536, 2, 3, 3),
+    (65_536, 2, 4, 3),
+    (65_536, 2, 5, 3),
+    (65_536, 2, 6, 3),
+    (65_536, 2, 7, 3),
+    (65_536, 2, 8, 3),
 ];
 
 #[test]
@@ -94,27 +112,40 @@ fn check_write(
 }
 
 // Three replies of 29 bytes, in one write each where the piece has room for it. The piece of a
-// write and the write that fails; the bytes written and the statements replied to.
-const WRITES: [((u32, u64), usize, u64); 19] = [
+// write and the write that fails; the bytes written and the statements replied to. Of each piece
+// the first eight writes, and those round the end of a reply.
+const WRITES: [((u32, u64), usize, u64); 31] = [
     ((1, 1), 0, 1),
     ((1, 2), 1, 1),
+    ((1, 3), 2, 1),
+    ((1, 4), 3, 1),
+    ((1, 5), 4, 1),
+    ((1, 6), 5, 1),
+    ((1, 7), 6, 1),
     ((1, 8), 7, 1),
     ((1, 29), 28, 1),
     ((1, 30), 29, 2),
     ((1, 87), 86, 3),
+    ((1, 88), 87, 3),
     ((5, 1), 0, 1),
     ((5, 2), 5, 1),
+    ((5, 3), 10, 1),
+    ((5, 4), 15, 1),
+    ((5, 5), 20, 1),
     ((5, 6), 25, 1),
     ((5, 7), 29, 2),
     ((5, 8), 34, 2),
     ((5, 13), 58, 3),
     ((5, 18), 83, 3),
+    ((5, 19), 87, 3),
     ((4_096, 1), 0, 1),
     ((4_096, 2), 29, 2),
     ((4_096, 3), 58, 3),
-    ((1, 88), 87, 3),
-    ((5, 19), 87, 3),
     ((4_096, 4), 87, 3),
+    ((4_096, 5), 87, 3),
+    ((4_096, 6), 87, 3),
+    ((4_096, 7), 87, 3),
+    ((4_096, 8), 87, 3),
 ];
 
 #[test]

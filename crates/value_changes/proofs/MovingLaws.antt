@@ -1,48 +1,13 @@
 -- Loops over edges and over pairs, one step on.
-use Rattle.std.proofs.Common.{◌≡◌, ◌⊎◌, ◌↔◌, ℕ, ◌+◌, ◌<◌, inl, inr, Less, None, List, [], ◌∷◌, ◌++◌, length, take, get_or, Contains, sym, subst}
+use Rattle.std.proofs.Common.{◌≡◌, ◌⊎◌, ◌↔◌, ℕ, ◌+◌, ◌<◌, inl, inr, Less, List, [], ◌∷◌, ◌++◌, length, take, get_or, Contains, sym, subst}
 use Rattle.std.proofs.lemmas.List.{take_more}
-use Rattle.std.proofs.lemmas.List.Elements.{Contains-append_left, Contains-append_right, Contains-append_cases}
-use Rattle.lore_base.specs.Lists.{ExtendsBy}
-use Rattle.lore_base.specs.Walks.{ListsEntering}
 use Rattle.lore_base.proofs.MemberLaws.{Contains-none, Contains-same}
 use Rattle.value_changes.specs.Types.{Oid, Edge}
 use Rattle.value_changes.specs.declared.pairs.Pair.{Pair}
 use Rattle.sorted_list.specs.SortedLists.{Ascends}
 use Rattle.value_changes.specs.inside.Sets.{AreSetOf}
-use Rattle.value_changes.specs.inside.Pairs.{pair_cmp, AreEntering, AreKept, IsMoving}
+use Rattle.value_changes.specs.inside.Pairs.{pair_cmp, AreKept, IsMoving}
 use Rattle.value_changes.proofs.SortedLaws.{in-more, below-next, set-none, set-more, set-same}
-
--- the edges that enter one object more
-pub entering-none : (edges : List Edge) → AreEntering edges [] []
-entering-none edges = record {
-  exact = λ edge. (λ at. absurd (Contains-none edge at), λ h. absurd (Contains-none edge.child h.1));
-}
-
-entering-front : (edges old new : List Edge) (front : List Oid) (next : Oid) → AreEntering edges front old
-    → ExtendsBy (ListsEntering edges next None) old new → AreEntering edges (front ++ next ∷ []) new
-entering-front edges old new front next sofar longer =
-    let lists : ListsEntering edges next None longer.0 = longer.2 in record {
-      exact = λ edge. (
-        λ at. elim (Contains-append_cases old longer.0 edge (subst (λ (l : List Edge). Contains l edge) longer.1 at)) [
-          | inl early ↦
-              let h = (sofar.exact edge).0 early in
-              (h.0, (in-more front next edge.child).1 (inl h.1))
-          | inr late ↦
-              let h = (lists.exact edge).0 late in
-              (h.0, (in-more front next edge.child).1 (inr (sym h.1)))
-        ],
-        λ h. subst (λ (l : List Edge). Contains l edge) (sym longer.1) (elim ((in-more front next edge.child).0 h.1) [
-          | inl early ↦ Contains-append_left old longer.0 edge ((sofar.exact edge).1 (h.0, early))
-          | inr same ↦ Contains-append_right old longer.0 edge ((lists.exact edge).1 (h.0, sym same, tt))
-        ]),
-      );
-    }
-
-pub entering-more : (edges old new : List Edge) (oids : List Oid) (place : ℕ) (d : Oid) → place < length oids
-    → AreEntering edges (take place oids) old → ExtendsBy (ListsEntering edges (get_or oids place d) None) old new
-    → AreEntering edges (take (place + 1) oids) new
-entering-more edges old new oids place d lt sofar longer =
-    rw (take_more oids place d lt) (entering-front edges old new (take place oids) (get_or oids place d) sofar longer)
 
 -- the edges that are not lost
 pub kept-none : (lost : List Edge) → AreKept [] lost []

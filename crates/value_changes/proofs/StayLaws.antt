@@ -10,7 +10,8 @@ use Rattle.value_changes.specs.declared.pairs.Pair.{Pair}
 use Rattle.value_changes.specs.EntryChanges.{State, IsSettled, AreGraphChanges}
 use Rattle.value_changes.specs.inside.Sets.{AreSetOf}
 use Rattle.value_changes.specs.inside.Touched.{oid_cmp, IsTouched}
-use Rattle.value_changes.specs.inside.Pairs.{pair_cmp, AreEntering, IsPairOf, IsThere}
+use Rattle.read_costs.specs.Entering.{AreEntering}
+use Rattle.value_changes.specs.inside.Pairs.{pair_cmp, IsPairOf, IsThere}
 use Rattle.value_changes.proofs.PairLaws.{entered, told_pair}
 
 -- what is read of changes: the objects given values and those touched, the edges that enter these, and the pairs of

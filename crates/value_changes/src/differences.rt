@@ -2,10 +2,11 @@ ghost use Rattle.std.specs.Prelude.{◌≡◌, IfOk};
 ghost use Rattle.value_changes.specs.EntryChanges.{State, IsSettled, AreGraphChanges, AreEntryChanges};
 
 use crate::entries::entries_of;
-use crate::pairs::{entering_edges, moving_pairs, pairs_before, pairs_then};
+use crate::pairs::{moving_pairs, pairs_before, pairs_then};
 use crate::touched::{given_objects, touched_objects};
 use index_traits::{EntryList, Links, ValueOf};
 use lore_base::{Edge, NoMemory, Oid, Steps, Value};
+use read_costs::entering_edges;
 use std::alloc::Global;
 use std::sync::ledger::Ledger;
 

@@ -3,15 +3,13 @@ ghost use Rattle.lore_base.specs.Walks.{edge_cmp};
 ghost use Rattle.sorted_list.specs.SortedLists.{Ascends};
 ghost use Rattle.value_changes.specs.inside.Sets.{AreSetOf};
 ghost use Rattle.value_changes.specs.inside.Touched.{oid_cmp};
-ghost use Rattle.value_changes.specs.inside.Pairs.{pair_cmp, pair_of, AreEntering, AreKept};
+ghost use Rattle.value_changes.specs.inside.Pairs.{pair_cmp, pair_of, AreKept};
 ghost use Rattle.value_changes.specs.inside.Pairs.{IsPairOf, IsThere, IsMoving};
 
 use crate::bisection::is_among;
-use index_traits::Links;
 use key_sort::{Key, set_by_keys};
-use lore_base::{Edge, EdgeBuf, Label, Listing, NoMemory, Oid, Steps};
+use lore_base::{Edge, EdgeBuf, Label, Listing, NoMemory, Oid};
 use std::alloc::Global;
-use std::sync::ledger::Ledger;
 use strand_sort::sorted_set;
 
 // A label and an object that an edge with the label enters.
@@ -44,22 +42,6 @@ impl Key<Pair> for ByLabel {
 }
 
 pub(crate) type PairList = Listing<Pair>;
-
-// The edges that enter these objects.
-pub(crate) fn entering_edges<K: Links, L: Ledger>(
-    alloc: Global,
-    links: &K,
-    oids: &[Oid],
-    steps: &mut Steps<L>,
-) -> Result<EdgeBuf, NoMemory>
-    ensures { IfOk result (λ edges. AreEntering (K.edges links.now) oids.now edges) }
-{
-    let mut edges = EdgeBuf::new(alloc);
-    'oids: for oid in oids {
-        links.parents(*oid, None, &mut edges, steps)?;
-    }
-    Ok(edges)
-}
 
 // The pairs of these edges, ascending, each once.
 pub(crate) fn pairs_before(alloc: Global, entering: &[Edge]) -> Result<PairList, NoMemory>

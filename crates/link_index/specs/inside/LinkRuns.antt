@@ -1,20 +1,21 @@
--- The run of the links to one object.
-use Rattle.std.specs.Prelude.{List, filter, Option, Some, None}
-use Rattle.std.specs.Ordering.{nat_cmp, ordering_then, is_eq}
-use Rattle.std.specs.declared.cmp.Ordering.{Ordering}
-use Rattle.std.specs.declared.cmp.Ordering.TheVariants.{Equal}
-use Rattle.link_index.specs.Types.{Oid, Label}
+-- The run of the links to one child.
+use Rattle.std.specs.Prelude.{◌≡◌, Bool, true, nat_eq, List, filter, Option, Some, None}
+use Rattle.link_index.specs.Types.{Oid, Label, Edge}
 use Rattle.link_index.specs.declared.link.Link.{Link}
+use Rattle.link_index.specs.declared.records.LinkRecord.{LinkRecord}
+use Rattle.link_index.specs.inside.LinkEdges.{edges_of}
+use Rattle.link_index.specs.inside.Records.{child_of, Precedes, LiesAt}
+use Rattle.near_links.specs.Links.{IsRun}
 
--- how a label lies to the given one; where none is given each is the same
-abbrev pub label_compared : Option Label → Label → Ordering
-label_compared None label = Equal
-label_compared (Some given) label = nat_cmp label.0 given.0
+-- the link has the label, where one is given
+abbrev pub has_label : Option Label → Link → Bool
+has_label None link = true
+has_label (Some given) link = nat_eq link.label.0 given.0
 
--- how a link lies to those to the object, with the label where one is given
-abbrev pub compared : Oid → Option Label → Link → Ordering
-compared oid given link = ordering_then (nat_cmp link.child.0 oid.0) (label_compared given link.label)
+abbrev pub with_label : Option Label → List Link → List Link
+with_label given links = filter (has_label given) links
 
--- the links to the object, with the label where one is given
-abbrev pub run_to : Oid → Option Label → List Link → List Link
-run_to oid given links = filter (λ link. is_eq (compared oid given link)) links
+-- the edges are those of the links to the child in their order, with the label where one is given
+abbrev pub ListsRun : List LinkRecord → Oid → Option Label → List Edge → Type 0
+ListsRun records child given edges = (run : List Link) × IsRun child_of Precedes (LiesAt records) child run
+    × (edges ≡ edges_of (with_label given run))

@@ -1,10 +1,14 @@
 -- Edges in layers: those that are kept, without some of them, and with others.
-use Rattle.std.specs.Prelude.{◌≡◌, ◌==◌, ◌↔◌, List, [], ◌∷◌, filter, not, Contains}
+use Rattle.std.specs.Prelude.{List, [], ◌∷◌, filter, not}
 use Rattle.std.specs.BTreeSet.{insert_key}
-use Rattle.oem_graph.specs.Types.{Oid, Edge}
+use Rattle.oem_graph.specs.Types.{Edge}
 use Rattle.lore_base.specs.Walks.{edge_cmp}
 use Rattle.lore_base.specs.Databases.{AreAscendingEdges}
+use Rattle.slab.specs.Slab.{Slab}
+use Rattle.oem_graph.specs.Types.{EdgeRecord, ObjectRecord}
 use Rattle.oem_graph.specs.inside.EdgeTests.{is_listed}
+use Rattle.oem_graph.specs.inside.Linked.{AreLists}
+use Rattle.oem_graph.specs.inside.Turned.{AreTurned}
 
 -- the edges that stay where some are lost
 abbrev pub staying : List Edge → List Edge → List Edge
@@ -19,17 +23,11 @@ with_edges edges (edge ∷ others) = with_edges (insert_key edge_cmp edges edge)
 abbrev pub layered : List Edge → List Edge → List Edge → List Edge
 layered kept lost fresh = with_edges (staying lost kept) fresh
 
--- each layer ascends
-pub record AreLayers (kept lost fresh : List Edge) : Type 0 where
-  pub kept_ascend : AreAscendingEdges kept
+-- the lists are right; the lost edges and the fresh ones ascend, and are told turned round too
+pub record AreOverlaid (objects : List ObjectRecord) (records : Slab EdgeRecord) (lost fresh lost_in fresh_in : List Edge)
+    : Type 0 where
+  pub lists : AreLists objects records
   pub lost_ascend : AreAscendingEdges lost
   pub fresh_ascend : AreAscendingEdges fresh
-
--- the edges that enter an object, in the order of the list
-abbrev pub edges_into : Oid → List Edge → List Edge
-edges_into oid edges = filter (λ edge. edge.child.0 == oid.0) edges
-
--- the list holds the edges that enter the object, in ascending order
-pub record ListsInto (edges : List Edge) (oid : Oid) (found : List Edge) : Type 0 where
-  pub ascend : AreAscendingEdges found
-  pub members : (edge : Edge) → Contains found edge ↔ (Contains edges edge × (edge.child ≡ oid))
+  pub lost_turned : AreTurned lost lost_in
+  pub fresh_turned : AreTurned fresh fresh_in

@@ -13,10 +13,6 @@ pair_cmp a b = ordering_then (nat_cmp a.label.0 b.label.0) (nat_cmp a.object.0 b
 abbrev pub pair_of : Edge → Pair
 pair_of edge = record { label = edge.label; object = edge.child }
 
--- the edges of the list that enter one of these objects
-pub record AreEntering (edges : List Edge) (oids : List Oid) (entering : List Edge) : Type 0 where
-  pub exact : (edge : Edge) → Contains entering edge ↔ (Contains edges edge × Contains oids edge.child)
-
 -- the edges of the list that are not lost
 pub record AreKept (edges lost kept : List Edge) : Type 0 where
   pub exact : (edge : Edge) → Contains kept edge ↔ (Contains edges edge × (¬ Contains lost edge))

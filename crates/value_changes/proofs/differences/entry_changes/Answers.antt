@@ -20,7 +20,7 @@ returns g c old new objects edges objects_then settled settled_then changes =
       changes = changes;
       gives = c.in_ok-given.ensures;
       touches = rw c.as_slice.ensures at c.in_ok-touched.ensures;
-      enters = rw (c.as_slice-2.ensures, ← edges) at c.in_ok-entering.ensures;
+      enters = rw (c.as_slice-2.ensures, ← edges) at c.in_ok-entering.ensures.edges;
       pairs = rw c.as_slice-3.ensures at c.in_ok-old.ensures;
       pairs_then = rw c.as_slice-4.ensures at c.in_ok-new.ensures;
     } in

@@ -1,7 +1,9 @@
-use Rattle.std.proofs.Common.{length, Option, IfSome, sym, ap, subst, ◌∙◌, arith}
+use Rattle.std.proofs.Common.{length, Option, IfSome, sym, ap, subst, ◌∙◌, arith, All}
 use Rattle.lore_base.specs.Databases.{OemGraph, IsOrdered}
 use Rattle.oem_changes.proofs.ValidLaws.{rooted_graph}
+use Rattle.oem_graph.specs.Graphs.{HasEnds}
 use Rattle.oem_graph.specs.Plans.{graph_then}
+use Rattle.oem_graph.proofs.GraphLaws.{linked_ends}
 use Rattle.dataguide.specs.Deltas.{PlannedGuide, IsReady}
 use Rattle.lore_store.specs.Stores.{RoomyDatabase, PlannedDatabase, guide_then}
 use Rattle.lore_store.proofs.IndexLaws.{fits_indexes}
@@ -16,6 +18,7 @@ commit-requires-clause-leads c =
     let edges = ap (λ (g : OemGraph). length g.edges) same in
     record {
       ordered = subst (λ (g : OemGraph). IsOrdered g) (sym same) c.requires.leads.valid.restorable.rooted.well_formed.ordered;
+      linked = subst (λ (g : OemGraph). All (HasEnds g.objects) g.edges) (sym same) (linked_ends _ c.requires.leads.valid.restorable.rooted.well_formed);
       few_edges = omega (arith, edges, c.requires.leads.valid.restorable.few_edges);
     }
 

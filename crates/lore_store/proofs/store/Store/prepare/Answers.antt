@@ -43,6 +43,11 @@ returns-in_err-check_sizes-clause-err g c =
     rw (answered.1, answered.2)
     (sized_told db changes (graph_then db.graph plan) after (refusal_of c.in_err-check_sizes.field-0.0) c.in_err-check_sizes.ensures.err)
 
+pub returns-in_err-labels-clause-err : goal.returns-in_err-labels-clause-err
+returns-in_err-labels-clause-err g c =
+    let answered = err_from_is_err_and c.from_residual-in_err-labels.result c.from_residual-in_err-labels.ensures.1 in
+    rw (answered.1, answered.2) tt
+
 pub returns-clause-after : goal.returns-clause-after
 returns-clause-after g c =
     let changes = c.args.changes.now in

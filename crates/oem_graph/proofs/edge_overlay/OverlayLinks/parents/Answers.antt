@@ -1,8 +1,13 @@
-use Rattle.oem_graph.proofs.LinkLaws.{entering-all}
+use Rattle.std.proofs.Common.{subst}
+use Rattle.lore_base.specs.Walks.{ListsEntering}
+use Rattle.oem_graph.specs.Overlays.{OverlayEdges}
+use Rattle.oem_graph.proofs.TurnLaws.{entering_is}
 use Rattle.oem_graph.proofs.edge_overlay.OverlayLinks.parents.Goals as goal
 
 pub returns-clause-edges : goal.returns-clause-edges
 returns-clause-edges g c =
-    let whole = c.in_ok-found.ensures in
-    let found = c.in_ok-parents.ensures.edges in
-    (found.0, found.1, entering-all c.args.self.now.edges c.args.oid c.args.label c.in_ok-found.found found.0 whole (rw c.new.ensures at found.2))
+    let layers = c.self.inside in
+    let more = c.in_ok-push_entering.ensures.ok in
+    let lists = entering_is layers.records.now layers.lost layers.fresh layers.lost_in layers.fresh_in c.args.oid c.args.label more.0
+    c.self.invariant.lost_turned c.self.invariant.fresh_turned (rw (c.as_slice-lost.ensures, c.as_slice-fresh.ensures) at more.2) in
+    (more.0, more.1, subst (λ (v : OverlayEdges). ListsEntering v.edges c.args.oid c.args.label more.0) c.self.view_is lists)

@@ -1,0 +1,12 @@
+pub mod RecordLaws
+pub mod ObjectLaws
+pub mod ChainLaws
+pub mod EdgeLaws
+pub mod WalkLaws
+pub mod ChangeLaws
+pub mod RunLaws
+pub mod CommitLaws
+pub mod SiftLaws
+pub mod LivingLaws
+pub mod ViewLaws
+pub mod ProbeLaws

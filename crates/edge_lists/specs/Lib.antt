@@ -1,0 +1,10 @@
+pub mod Types
+pub mod Edges
+pub mod Objects
+pub mod Records
+pub mod Chains
+pub mod Views
+pub mod Runs
+pub mod Commits
+pub mod Sifts
+pub mod Probes

@@ -1,0 +1,4 @@
+pub mod NearLaws
+pub mod LinkLaws
+pub mod AheadLaws
+pub mod SlotLaws

@@ -1,9 +1,0 @@
-use Rattle.std.proofs.Common.{sym, arith}
-use Rattle.std.proofs.lemmas.Bool.{OnTrue_from}
-use Rattle.std.proofs.lemmas.Bool.Decides.{nat_tests}
-use Rattle.oem_graph.proofs.RunLaws.{all_below}
-use Rattle.oem_graph.proofs.edge_runs.end_below.Goals as goal
-
-pub returns-in-Some : goal.returns-in-Some
-returns-in-Some c =
-    OnTrue_from _ _ (λ yes. all_below c.args.edges.now c.requires c.in-Some.last.now (sym c.in-Some.ensures.value) c.args.oid.0 (grind (arith, nat_tests, yes)))

@@ -1,0 +1,152 @@
+ghost use Rattle.std.specs.Prelude.{◌≡◌, ◌<◌, ◌≤◌, ◌+◌, [], ◌∷◌, length, map, All, Contains, IfSome, IfNone};
+ghost use Rattle.std.specs.Prelude.{vec_len, vec_capacity};
+ghost use Rattle.std.specs.Bool.{OnTrue};
+ghost use Rattle.edge_lists.specs.Objects.{object_of, AreAscendingObjects, IsLive};
+ghost use Rattle.lore_base.specs.Databases as Objects;
+ghost use Rattle.oem_graph.specs.Plans.{with_objects};
+ghost use Rattle.oem_graph.specs.inside.Left.{AreAscendingOids, not_dead};
+ghost use Rattle.oem_graph.specs.inside.Given.{ArePutIn, AreDropped, IsGap};
+
+use crate::dead_oids::is_dead;
+use edge_lists::{ObjectRecord, place_of};
+use lore_base::{ObjectList, Oid, Value};
+
+// Gives objects their values; those that aren't there yet come at their places, without edges. Takes
+// no memory.
+pub(crate) fn put_objects(objects: &mut Vec<ObjectRecord>, given: ObjectList)
+    requires ascend { AreAscendingObjects objects.old.items }
+    requires room { vec_len objects.old + length given ≤ vec_capacity objects.old }
+    ensures { ArePutIn given objects.old.items objects.new.items }
+{
+    'given: for object in given.into_items() {
+        let (oid, value) = object;
+        put_object(objects, oid, value);
+    }
+}
+
+// Gives an object its value, or puts it at its place, most often behind all others.
+fn put_object(objects: &mut Vec<ObjectRecord>, oid: Oid, value: Value)
+    requires ascend { AreAscendingObjects objects.old.items }
+    requires room { vec_len objects.old < vec_capacity objects.old }
+    ensures put { ArePutIn ((oid, value) ∷ []) objects.old.items objects.new.items }
+    ensures len { vec_len objects.new ≤ vec_len objects.old + 1 }
+    ensures capacity { vec_capacity objects.new ≡ vec_capacity objects.old }
+{
+    let Some(place) = gap_of(objects.as_slice(), oid) else {
+        set_value(objects.as_mut_slice(), oid, value);
+        return;
+    };
+    let object = ObjectRecord {
+        oid,
+        value,
+        first_out: None,
+        first_in: None,
+    };
+    let Ok(()) = objects.insert(place, object) else {
+        unreachable!();
+    };
+}
+
+// Gives an object that is there its value.
+fn set_value(objects: &mut [ObjectRecord], oid: Oid, value: Value)
+    requires ascend { AreAscendingObjects objects.old }
+    requires live { IsLive objects.old oid }
+    ensures put { ArePutIn ((oid, value) ∷ []) objects.old objects.new }
+    ensures len { length objects.new ≡ length objects.old }
+{
+    if let Some(place) = place_of(objects, oid) {
+        objects[place].value = value;
+    }
+}
+
+// The place before which an object would stand; None where it is there.
+fn gap_of(objects: &[ObjectRecord], oid: Oid) -> Option<usize>
+    requires { AreAscendingObjects objects.now }
+    ensures gap { IfSome result (IsGap objects.now oid) }
+    ensures live { IfNone result (IsLive objects.now oid) }
+{
+    if are_below(objects, oid) {
+        return Some(objects.len());
+    }
+    match objects.binary_search_by_key(&oid, |object| object.oid) {
+        Ok(_) => None,
+        Err(place) => Some(place),
+    }
+}
+
+// Whether all numbers are below this one, told by the last of them.
+fn are_below(objects: &[ObjectRecord], oid: Oid) -> bool
+    requires { AreAscendingObjects objects.now }
+    ensures { OnTrue result (All (λ object. object.oid.0 < oid.0) objects.now) }
+{
+    match objects.last() {
+        Some(last) => last.oid.0 < oid.0,
+        None => true,
+    }
+}
+
+// Takes dead objects, which have no edges, out of the list. Takes no memory.
+pub(crate) fn drop_objects(objects: &mut Vec<ObjectRecord>, dead: &[Oid])
+    requires { AreAscendingOids dead.now }
+    ensures { AreDropped dead.now objects.old.items objects.new.items }
+{
+    if dead.is_empty() {
+        return;
+    }
+    objects.retain(|object| !is_dead(dead, object.oid));
+}
+
+// How many objects there are once the dead are gone and the given ones are there.
+pub(crate) fn count_objects(objects: &[ObjectRecord], dead: &[Oid], given: &[(Oid, Value)]) -> usize
+    requires objects { AreAscendingObjects objects.now }
+    requires dead { AreAscendingOids dead.now }
+    requires given { Objects.AreAscendingObjects given.now }
+    ensures { result ≡ length (with_objects (not_dead dead.now (map object_of objects.now)) given.now) }
+{
+    let left = count_left(objects, dead);
+    let mut count = left;
+    'given: for object in given {
+        count += count_new(objects, dead, object.0);
+    }
+    count
+}
+
+// How many objects there are once the dead are gone.
+fn count_left(objects: &[ObjectRecord], dead: &[Oid]) -> usize
+    requires objects { AreAscendingObjects objects.now }
+    requires dead { AreAscendingOids dead.now }
+    ensures { result ≡ length (not_dead dead.now (map object_of objects.now)) }
+{
+    let mut count = objects.len();
+    'dead: for oid in dead {
+        count -= count_live(objects, *oid);
+    }
+    count
+}
+
+// 1 where the object is there, and 0 where it isn't.
+fn count_live(objects: &[ObjectRecord], oid: Oid) -> usize
+    requires { AreAscendingObjects objects.now }
+    ensures live { result ≡ 1 → IsLive objects.now oid }
+    ensures none { result ≡ 0 → ¬ IsLive objects.now oid }
+    ensures most { result ≤ 1 }
+{
+    match place_of(objects, oid) {
+        Some(_) => 1,
+        None => 0,
+    }
+}
+
+// 1 where the object isn't there once the dead are gone, and 0 where it is.
+fn count_new(objects: &[ObjectRecord], dead: &[Oid], oid: Oid) -> usize
+    requires objects { AreAscendingObjects objects.now }
+    requires dead { AreAscendingOids dead.now }
+    ensures new { result ≡ 1 → ¬ (IsLive objects.now oid × (¬ Contains dead.now oid)) }
+    ensures old { result ≡ 0 → IsLive objects.now oid × (¬ Contains dead.now oid) }
+    ensures most { result ≤ 1 }
+{
+    if is_dead(dead, oid) {
+        return 1;
+    }
+    1 - count_live(objects, oid)
+}

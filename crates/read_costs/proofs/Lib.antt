@@ -1,0 +1,4 @@
+pub mod SumLaws
+pub mod SpentLaws
+pub mod WorkLaws
+pub mod EnteringLaws

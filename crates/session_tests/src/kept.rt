@@ -1,0 +1,210 @@
+ghost use Rattle.std.specs.Prelude.{◌≡◌, ◌<◌, ◌≤◌};
+
+use lore_base::limits::CHUNK_BYTES;
+use lore_base::{NoMemory, Steps};
+use lore_db::{Db, Reply};
+use lorel_lex::tokens;
+use lorel_parse::parse;
+use std::alloc::Global;
+use std::marker::Brand;
+use std::sync::ledger::{Blank, Ledger};
+use std::test::Fail;
+
+// Statements that are all accepted, of each form that changes a database, with a ring in it, and
+// some that ask.
+const STATEMENTS: [&[u8]; 16] = [
+    b"restore oem 2 next 1 nodes 4096 plan auto end",
+    b"load A := &1 { b 1, c &2 { back &1, b \"x\" }, c { b 2 } }",
+    b"name B := A.c.back",
+    b"update A.b := 3 where A.c.b = \"x\"",
+    b"update A.c.b := {}",
+    b"update A.c.d += &1 { e true, back &1 }",
+    b"update X.f += A from A.c X",
+    b"select path-of(P), X.f from A.#@P X where exists Y in X.d : Y.e = true",
+    b"update A.c.f -= A",
+    b"explain select A.c.d.e",
+    b"guide",
+    b"generate 1 20",
+    b"update People.club.member -= People.person",
+    b"set nodes 1000",
+    b"unname People",
+    b"set plan top",
+];
+
+// The dump behind them: both members of `A` have a copy with a ring, and all persons vanished.
+const DUMPED: &[u8] = b"oem 2
+next 202
+nodes 1000
+plan top
+label b
+label c
+label back
+label d
+label e
+label f
+label person
+label id
+label name
+label age
+label boss
+label club
+label member
+label leader
+label ring
+label next
+name A &1
+name B &1
+object &1 {}
+object &2 3
+object &3 {}
+object &4 {}
+object &5 {}
+object &6 {}
+object &7 {}
+object &8 true
+object &9 {}
+object &10 true
+edge &1 b &2
+edge &1 c &3
+edge &1 c &5
+edge &3 b &4
+edge &3 back &1
+edge &3 d &7
+edge &5 b &6
+edge &5 d &9
+edge &7 back &7
+edge &7 e &8
+edge &9 back &9
+edge &9 e &10
+end
+";
+
+// A drop that is written out is proved once; else it is proved in each function, at length.
+
+fn put_dump(reply: &Reply, dump: &mut Vec<u8>) -> Result<(), NoMemory> {
+    match reply {
+        Reply::Dump(lines) => {
+            dump.extend_from_slice(lines.as_bytes())?;
+            Ok(())
+        }
+        Reply::Refused(_) => Err(NoMemory),
+        _ => Ok(()),
+    }
+}
+
+fn note(executed: Result<Reply, NoMemory>, dump: &mut Vec<u8>) -> Result<(), NoMemory> {
+    let Ok(reply) = executed else {
+        return Err(NoMemory);
+    };
+    let noted = put_dump(&reply, dump);
+    drop(reply);
+    noted
+}
+
+// Executes a statement, and puts the lines of a dump. A text that is none counts as want of memory,
+// and so does a refusal, since all that is executed here is accepted.
+fn execute<L: Ledger>(
+    alloc: Global,
+    text: &[u8],
+    db: &mut Db,
+    steps: &mut Steps<L>,
+    dump: &mut Vec<u8>,
+) -> Result<(), NoMemory> {
+    if text.len() > CHUNK_BYTES {
+        return Err(NoMemory);
+    }
+    let parsed = match tokens(alloc, text) {
+        Ok(tokens) => parse(alloc, &tokens),
+        Err(_) => return Err(NoMemory),
+    };
+    match parsed {
+        Ok(statement) => {
+            let executed = db.execute(alloc, &statement, steps);
+            drop(statement);
+            note(executed, dump)
+        }
+        Err(_) => Err(NoMemory),
+    }
+}
+
+fn is_accepted<L: Ledger>(alloc: Global, text: &[u8], db: &mut Db, steps: &mut Steps<L>) -> bool {
+    let mut none = Vec::new(alloc);
+    execute(alloc, text, db, steps, &mut none).is_ok()
+}
+
+fn dumped_once<L: Ledger>(
+    alloc: Global,
+    db: &mut Db,
+    steps: &mut Steps<L>,
+) -> Result<Vec<u8>, NoMemory> {
+    let mut dump = Vec::new(alloc);
+    execute(alloc, b"dump", db, steps, &mut dump)?;
+    Ok(dump)
+}
+
+// The dump of the database, in a second try where memory was refused in the first.
+fn dumped<L: Ledger>(
+    alloc: Global,
+    db: &mut Db,
+    steps: &mut Steps<L>,
+) -> Result<Vec<u8>, NoMemory> {
+    match dumped_once(alloc, db, steps) {
+        Ok(bytes) => Ok(bytes),
+        Err(_) => dumped_once(alloc, db, steps),
+    }
+}
+
+// Executes a statement. Where memory was refused, the database has to be what it was; then the
+// statement is executed again.
+fn executed<L: Ledger>(
+    alloc: Global,
+    text: &[u8],
+    db: &mut Db,
+    steps: &mut Steps<L>,
+) -> Result<(), Fail> {
+    let before = dumped(alloc, db, steps)?;
+    if is_accepted(alloc, text, db, steps) {
+        return Ok(());
+    }
+    let after = dumped(alloc, db, steps)?;
+    if before.as_slice() != after.as_slice() {
+        return Err(Fail::new("a statement without memory changed something"));
+    }
+    if is_accepted(alloc, text, db, steps) {
+        Ok(())
+    } else {
+        Err(Fail::new("a statement is refused"))
+    }
+}
+
+fn database(alloc: Global) -> Result<Db, NoMemory> {
+    match Db::new(alloc) {
+        Ok(db) => Ok(db),
+        Err(_) => Db::new(alloc),
+    }
+}
+
+// Executes all statements, and gives the dump behind them.
+fn dump_behind<L: Ledger>(alloc: Global, blank: Blank) -> Result<Vec<u8>, Fail>
+    requires name { blank.name ≡ L.name }
+    requires parts { blank.parts ≡ L.parts }
+    requires some { 0 < blank.parts }
+{
+    let mut steps = Steps::<L>::new(blank);
+    let mut db = database(alloc)?;
+    for text in STATEMENTS {
+        executed(alloc, text, &mut db, &mut steps)?;
+    }
+    Ok(dumped(alloc, &mut db, &mut steps)?)
+}
+
+// It passes also where any one allocation is refused, which `bench/faults session` does.
+#[test]
+fn a_session_goes_on_where_memory_was_refused(rt: HostRuntime) -> Result<(), Fail> {
+    let dump = dump_behind::<Brand>(rt.alloc(), Blank::new(1))?;
+    if dump.as_slice() == DUMPED {
+        Ok(())
+    } else {
+        Err(Fail::new("the dump is another"))
+    }
+}
