@@ -5,6 +5,7 @@ from faults_lib.library import Library
 
 NO_MEMORY = 6
 MODES = ("", "+")
+UNNEEDED = ("", 1)  # the first allocation alone, which a run goes on without
 SHARE = 64  # points of a share of the work
 
 
@@ -15,12 +16,14 @@ class Tally:
     points: int = 0
     ended: int = 0  # with status 6
     alike: int = 0  # with the status and the replies of a run without a fault
+    spared: list = field(default_factory=list)  # which of these aren't the first allocation alone
     faults: list = field(default_factory=list)
 
     def add(self, other):
         self.points += other.points
         self.ended += other.ended
         self.alike += other.alike
+        self.spared += other.spared
         self.faults += other.faults
 
 
@@ -52,7 +55,10 @@ def tried(library, script, points):
         fault = fault_of(script, ran)
         tally.points += 1
         tally.ended += not fault and ran.status == NO_MEMORY
-        tally.alike += not fault and ran.status != NO_MEMORY
+        if not fault and ran.status != NO_MEMORY:
+            tally.alike += 1
+            if (mode, number) != UNNEEDED:
+                tally.spared.append(f"{script.name}: FAULTY_ALLOC={number}{mode}, of {ran.allocations}")
         if fault:
             tally.faults.append(f"{script.name}: FAULTY_ALLOC={number}{mode}: {fault}")
     return tally

@@ -1,4 +1,5 @@
 """Scripts that ask for much, each with the replies that it has to have, which are worked out here."""
+import functools
 import os
 import subprocess
 import sys
@@ -112,30 +113,43 @@ def dump_cases():
                [braces("A", ["a 0"] * (OBJECTS - 1)), "unname A;"] * turns, 0, (state + ok(0, 0, 0)) * turns)
 
 
+@functools.cache
 def meeting():
-    """Locals that a table of the load puts into one group, found by a program in C; None where it can't be compiled."""
+    """Numbers that a table puts into one group, found by a program in C; none where it can't be compiled."""
     program = os.path.join(os.environ.get("TMPDIR", "/tmp"), f"meeting.{os.getpid()}")
     try:
         subprocess.run(["gcc", "-O2", "-o", program, os.path.join(HERE, "meeting.c")], check=True, capture_output=True)
         found = subprocess.run([program, str(MEETING), str(GROUPS)], check=True, capture_output=True).stdout.split()
     except (OSError, subprocess.CalledProcessError):
-        return None
+        return []
     finally:
         if os.path.exists(program):
             os.remove(program)
-    return [int(number) for number in found]
+    return [int(number) for number in found][:GROUPS * GROUP_LOAD]
 
 
 def local_cases():
     there = meeting()
-    if there is None:
+    if not there:
         return
-    there = there[:GROUPS * GROUP_LOAD]
     for name, found in ((f"{len(there)} locals whose hashes meet", there),
                         (f"{len(there)} locals in turn", range(1, len(there) + 1))):
         marked = [f"a &{local} 0" for local in found]
         used = [f"b &{local}" for local in found]
         yield Case(name, [braces("A", marked + used)], 0, ok(len(there) + 1, 2 * len(there), 2))
+
+
+def object_cases():
+    there = meeting()
+    if not there:
+        return
+    for name, found in ((f"{len(there)} restored objects whose hashes meet, and a search over them", there),
+                        (f"{len(there)} restored objects in turn, and a search over them", range(2, len(there) + 2))):
+        objects = "".join(f"object &{number} 0\n" for number in found)
+        edges = "".join(f"edge &1 a &{number}\n" for number in found)
+        yield Case(name, [f"restore {head(found[-1] + 1)}label a\nname A &1\nobject &1 {{}}\n", objects, edges, "end;",
+                          "set plan top;", "select A.# where 1 = 2;"], 0,
+                   ok(len(there) + 1, len(there), 2) * 2 + rows([]))
 
 
 def long_word(letter, number):
@@ -195,6 +209,6 @@ def guide_cases():
 
 def cases():
     """All cases, one after another, since each may hold many megabytes."""
-    for group in [graph_cases, copy_cases, ring_cases, condition_cases, open_cases, dump_cases, local_cases, word_cases,
-                  guide_cases]:
+    for group in [graph_cases, copy_cases, ring_cases, condition_cases, open_cases, dump_cases, local_cases,
+                  object_cases, word_cases, guide_cases]:
         yield from group()

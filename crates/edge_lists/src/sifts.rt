@@ -14,7 +14,7 @@ use lore_base::{Edge, EdgeBuf, NoMemory};
 use slab::Slab;
 use std::alloc::Global;
 
-/// Edges that are there, beside each of them the key of its record, and edges that aren't.
+/// Edges that are there, beside each of them a key where its record may lie, and edges that aren't.
 #[derive(Drop)]
 pub struct Sifted {
     pub there: EdgeBuf,

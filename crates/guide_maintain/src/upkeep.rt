@@ -3,7 +3,7 @@ ghost use Rattle.lore_base.specs.Databases.{AreAscendingEdges};
 ghost use Rattle.lore_base.specs.PathOrder.{AreInPathOrder};
 ghost use Rattle.lore_base.specs.GuideLimits.{FitsGuide};
 ghost use Rattle.dataguide.specs.declared.faults.GuideFault.TheVariants as faults;
-ghost use Rattle.dataguide.specs.Touched.{ReadsTouched, ReadsWithin, parents_of};
+ghost use Rattle.dataguide.specs.Touched.{ReadsTouched, ReadsSome, ReadsWithin, parents_of};
 ghost use Rattle.dataguide.specs.Guides.{StandsFor, sets_of};
 ghost use Rattle.dataguide.specs.Deltas.{guide_then, nodes_then, IsReady, StoodFor};
 ghost use Rattle.dataguide.specs.GuideCauses.{GuideCause};
@@ -43,6 +43,9 @@ pub fn plan<A: Adjacent, L: Ledger>(
     ensures steps { IfOk result (λ delta. ReadsTouched (sets_of guide.now.nodes)
         (parents_of lost.now) (A.edges after.now)
         (sets_of (nodes_then guide.now.nodes delta.nodes)) steps.old steps.new) }
+    ensures reads { IfErr result (λ fault. (fault ≡ faults.NoMemory → ⊥)
+        → ReadsSome (sets_of guide.now.nodes) (parents_of lost.now) limit names.now
+        (A.edges after.now) steps.old steps.new) }
     ensures within { IfOk result (λ _. ReadsWithin (sets_of guide.now.nodes)
         (parents_of (lost.now ++ fresh.now)) names.now (A.edges after.now) steps.old steps.new) }
     ensures refused { IfErr result (λ fault. (fault ≡ faults.NoMemory → ⊥)

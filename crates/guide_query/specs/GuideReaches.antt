@@ -1,7 +1,9 @@
--- What a guide tells of paths: its nodes are walked along labels as objects are, and a node has the objects of its set.
-use Rattle.std.specs.Prelude.{◌≡◌, ◌↔◌, ℕ, List, [], ◌∷◌, Contains}
+-- What a guide tells of paths: its nodes are walked along labels as objects are, and a node has the objects
+-- of its set.
+use Rattle.std.specs.Prelude.{◌↔◌, ℕ, List, [], ◌∷◌, Contains}
 use Rattle.lore_base.specs.Paths.{PathTree, Spells, Reaches}
 use Rattle.dataguide.specs.Guides.{GuideGraph, HasSet, HasEdge}
+use Rattle.set_walk.specs.SetPaths.{LeadsAlong as LeadsBy}
 use Rattle.guide_query.specs.Types.{Oid, Label, Edge, Node, GuideNode}
 
 -- what paths are told of: a guide and label texts
@@ -11,16 +13,14 @@ pub record GuideOver : Type 0 where
 
 -- the word of labels leads from one node to another
 abbrev pub LeadsAlong : List GuideNode → Node → List Label → Node → Type 0
-LeadsAlong nodes from [] to = from ≡ to
-LeadsAlong nodes from (label ∷ word) to =
-    (next : Node) × HasEdge nodes from label next × LeadsAlong nodes next word to
+LeadsAlong nodes = LeadsBy (HasEdge nodes)
 
 -- the object is in the node's set
 abbrev pub IsMember : List GuideNode → Node → Oid → Type 0
 IsMember nodes node oid = (set : List Oid) × HasSet nodes node set × Contains set oid
 
--- the guide tells that the path reaches the object from the named one: a word that it spells leads from the node of
--- the named object alone to one that has the object
+-- the guide tells that the path reaches the object from the named one: a word that it spells leads from the
+-- node of the named object alone to one that has the object
 pub record TellsReached (told : GuideOver) (path : PathTree) (named oid : Oid) : Type 0 where
   pub entry : Node
   pub enters : HasSet told.guide.nodes entry (named ∷ [])

@@ -8,6 +8,3 @@ pub use Rattle.dataguide.specs.declared.nodes.Node.{Node}
 pub use Rattle.dataguide.specs.declared.nodes.GuideNode.{GuideNode}
 pub use Rattle.guide_query.specs.declared.origins.Origin.{Origin}
 pub use Rattle.guide_query.specs.declared.origins.Origin.TheVariants.{Unmet, Named, Step}
-pub use Rattle.path_expr.specs.declared.state_sets.States.{States}
-pub use Rattle.path_expr.specs.declared.state_sets.TheConstants.{END}
-pub use Rattle.guide_query.specs.declared.state_marks.StateMarks.{StateMarks}

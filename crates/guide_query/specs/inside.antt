@@ -1,5 +1,5 @@
 -- Definitions that no public contract cites.
 pub mod Origins
 pub mod Written
-pub mod GuideWalks
 pub mod PathNodes
+pub mod GuideSets

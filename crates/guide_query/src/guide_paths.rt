@@ -3,18 +3,18 @@ ghost use Rattle.dataguide.specs.Guides.{StandsFor};
 ghost use Rattle.guide_query.specs.Types.{Edge as TheEdge};
 ghost use Rattle.guide_query.specs.GuideReaches.{TellsOf, TellsReached};
 
-use crate::guide_walk::{GuideWalk, append_ended, starts_of};
+use crate::guide_sets::{GuideSets, set_of_one};
 use dataguide::Guide;
-use graph_search::search;
 use index_traits::Paths;
 use lore_base::{Names, NoMemory, Oid, OidBuf, Path};
 use oem_labels::LabelTable;
-use path_expr::Automaton;
+use set_walk::select_by_sets;
 use std::alloc::Global;
 use std::marker::Model;
 
-/// Paths from named objects, told by the guide: it is walked in place of the graph, so that no edge
-/// is read (Goldman and Widom 1997, path queries). Contracts see the guide and the label texts.
+/// Paths from named objects, told by the guide: it is walked in place of the graph, so that no
+/// edge is read (Goldman and Widom 1997, path queries). Contracts see the guide and the label
+/// texts.
 #[derive(Drop)]
 pub struct GuidePaths<'a> {
     guide: &'a Guide,
@@ -30,9 +30,9 @@ impl<'a> Model for GuidePaths<'a> {
 }
 
 impl<'a> GuidePaths<'a> {
-    /// The paths that this guide tells, which is that of the names. What a path reaches from a named
-    /// object is then what it reaches along the edges of the graph that the guide stands for. Takes no
-    /// memory.
+    /// The paths that this guide tells, which is that of the names. What a path reaches from a
+    /// named object is then what it reaches along the edges of the graph that the guide stands
+    /// for. Takes no memory.
     pub fn new(guide: &'a Guide, names: &'a Names, labels: &'a LabelTable) -> GuidePaths<'a>
         ensures guide { result.guide ≡ guide.now }
         ensures labels { result.labels ≡ labels.now }
@@ -54,14 +54,9 @@ impl<'a> Paths for GuidePaths<'a> {
         named: Oid,
         buf: &mut OidBuf,
     ) -> Result<(), NoMemory> {
-        let automaton = Automaton::build(alloc, path)?;
-        let mut walk = GuideWalk {
-            guide: self.guide,
-            labels: self.labels,
-            automaton: &automaton,
-        };
-        let starts = starts_of(alloc, self.guide, named, automaton.starts())?;
-        let met = search(alloc, &mut walk, starts.as_slice(), &mut ())?;
-        append_ended(alloc, self.guide, met.as_slice(), buf)
+        let sets = GuideSets { guide: self.guide };
+        let alone = set_of_one(alloc, named)?;
+        let start = self.guide.find_set(&alone);
+        select_by_sets(alloc, &sets, self.labels, path, start, buf)
     }
 }

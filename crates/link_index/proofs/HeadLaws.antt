@@ -5,7 +5,7 @@ use Rattle.std.specs.Bool.{OnTrue}
 use Rattle.std.specs.Option.{IfSome}
 use Rattle.std.proofs.lemmas.Option.{get_or_from_slice_get}
 use Rattle.std.specs.List.{insert}
-use Rattle.std.proofs.lemmas.List.Edits.{length-insert, get_or-insert_below, get_or-insert_at, get_or-insert_above}
+use Rattle.std.proofs.lemmas.List.Edits.{insert_end, length-insert, get_or-insert_below, get_or-insert_at, get_or-insert_above}
 use Rattle.std.specs.List.Sorted.{IsBinarySearchResult, IsNonDecreasingBy}
 use Rattle.std.specs.Ordering.{ordering_index}
 use Rattle.std.proofs.lemmas.Bool.{cases_eq, cases_lt, true≢false, ltb-true}
@@ -242,6 +242,11 @@ with_child heads child place ascend gap = record {
 
     listed_at : (x : Oid) (k : ℕ) → k < length new → (get_or new k (alone x)).child ≡ x → IsListed new x
     listed_at x k lt is = (k, omega (arith, lt, length-map new (λ (h : Head). h.child)), get_or-map (λ (h : Head). h.child) new k (alone x) x lt ∙ is)
+
+-- a child that is above the others is listed behind them
+pub pushed_child : (heads new : List Head) (child : Oid) → AreAscendingHeads heads → All (λ h. h.child.0 < child.0) heads → new ≡ heads ++ alone child ∷ [] → IsWithChild heads child new
+pushed_child heads new child ascend below is =
+    subst (λ (l : List Head). IsWithChild heads child l) (insert_end heads (alone child) ∙ sym is) (with_child heads child (length heads) ascend (gap_behind heads child below))
 
 pub listed_already : (heads : List Head) (child : Oid) → AreAscendingHeads heads → IsListed heads child → IsWithChild heads child heads
 listed_already heads child ascend listed = record {

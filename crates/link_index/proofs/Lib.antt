@@ -5,3 +5,4 @@ pub mod DropLaws
 pub mod ListingLaws
 pub mod RunLaws
 pub mod CommitLaws
+pub mod SampleLaws

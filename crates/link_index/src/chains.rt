@@ -64,11 +64,17 @@ pub(crate) fn start_of(records: &[LinkRecord], link: &Link, last: Option<usize>)
     }
 }
 
-// How many records are walked before later ones are looked for.
-const NEAR: usize = 128;
+// How many records of a list are walked before later ones are looked for by strides.
+const SHORT: usize = 16;
 
-// How many records are looked at for a later one.
+// How many are walked before later ones are looked for all over.
+const LONG: usize = 128;
+
+// How many records are looked at then.
 const PROBES: usize = 1_024;
+
+// More strides than a place has halves.
+const STRIDES: usize = 64;
 
 // The place of the last link that stands before this one in its child's list, which is looked for from
 // a place before that, or from the first record.
@@ -100,15 +106,46 @@ fn start_near(
     ensures { IsStart records.now link.now result }
 {
     let mut place = start;
-    'steps: for _ in 0..NEAR {
+    'steps: for walked in 0..LONG {
         let next = next_of(heads, records, link.child, place);
         let further = start_of(records, link, next);
         if further.is_none() {
             return place;
         }
-        place = further;
+        place = leapt(records, link, further, walked);
     }
     latest(records, link, place)
+}
+
+// The same place, or, where the list is no longer a short one, a later one.
+fn leapt(records: &[LinkRecord], link: &Link, place: Option<usize>, walked: usize) -> Option<usize>
+    requires { IsStart records.now link.now place }
+    ensures { IsStart records.now link.now result }
+{
+    if walked == SHORT {
+        climbed(records, link, place)
+    } else {
+        place
+    }
+}
+
+// A later place, found by ever smaller strides. That leads close to the link where its list lies in
+// order, as it does after a load.
+fn climbed(records: &[LinkRecord], link: &Link, place: Option<usize>) -> Option<usize>
+    requires { IsStart records.now link.now place }
+    ensures { IsStart records.now link.now result }
+{
+    let mut latest = place;
+    let mut stride = records.len();
+    'strides: for _ in 0..STRIDES {
+        stride /= 2;
+        if stride == 0 {
+            return latest;
+        }
+        let other = latest.unwrap_or(0).saturating_add(stride);
+        latest = later(records, link, latest, other);
+    }
+    latest
 }
 
 // The latest of the place and some that are spread over all records, of those before the link in its

@@ -134,3 +134,6 @@ impl Links for LinkIndex {
         Ok(())
     }
 }
+
+#[cfg(test)]
+mod tests;

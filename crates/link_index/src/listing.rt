@@ -21,8 +21,36 @@ pub(crate) fn list_children(heads: &mut Vec<Head>, links: &[Link])
     }
 }
 
-// Lists a child, without a record as yet where it wasn't listed.
+// Lists a child, without a record as yet where it wasn't listed. Most children come behind all that
+// are listed.
 fn list_child(heads: &mut Vec<Head>, child: Oid)
+    requires ascend { AreAscendingHeads heads.old.items }
+    requires room { vec_len heads.old < vec_capacity heads.old }
+    ensures listed { IsWithChild heads.old.items child heads.new.items }
+    ensures len { vec_len heads.new ≤ vec_len heads.old + 1 }
+    ensures capacity { vec_capacity heads.new ≡ vec_capacity heads.old }
+{
+    if are_below(heads.as_slice(), child) {
+        push_child(heads, child);
+        return;
+    }
+    insert_child(heads, child);
+}
+
+// Lists a child behind those that are listed.
+fn push_child(heads: &mut Vec<Head>, child: Oid)
+    requires ascend { AreAscendingHeads heads.old.items }
+    requires below { All (λ head. head.child.0 < child.0) heads.old.items }
+    requires room { vec_len heads.old < vec_capacity heads.old }
+    ensures listed { IsWithChild heads.old.items child heads.new.items }
+    ensures len { vec_len heads.new ≤ vec_len heads.old + 1 }
+    ensures capacity { vec_capacity heads.new ≡ vec_capacity heads.old }
+{
+    heads.push_reserved(Head { child, first: None });
+}
+
+// Lists a child among the others where it wasn't listed.
+fn insert_child(heads: &mut Vec<Head>, child: Oid)
     requires ascend { AreAscendingHeads heads.old.items }
     requires room { vec_len heads.old < vec_capacity heads.old }
     ensures listed { IsWithChild heads.old.items child heads.new.items }
@@ -38,16 +66,12 @@ fn list_child(heads: &mut Vec<Head>, child: Oid)
     };
 }
 
-// The place before which a child would stand; None where it is listed. Most children come behind all
-// that are listed.
+// The place before which a child would stand; None where it is listed.
 fn gap_of(heads: &[Head], child: Oid) -> Option<usize>
     requires { AreAscendingHeads heads.now }
     ensures gap { IfSome result (IsGap heads.now child) }
     ensures listed { IfNone result (IsListed heads.now child) }
 {
-    if are_below(heads, child) {
-        return Some(heads.len());
-    }
     if place_of(heads, child).is_some() {
         return None;
     }

@@ -63,7 +63,8 @@ pub const MOST_PERSONS: u32 = 10_000;
 /// The greatest number of a moment of the history.
 pub const MOMENTS: u32 = 65_536;
 
-/// The weight of a history: 64 and the bytes of its text for each run of moments at which a fact stands.
+/// The greatest weight of a history: 64 and the bytes of its text for each run of moments at which a
+/// fact stands.
 pub const HISTORY_WEIGHT: u64 = 1_073_741_824;
 
 /// Views that are kept.

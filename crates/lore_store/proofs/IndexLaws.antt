@@ -5,26 +5,24 @@ use Rattle.std.proofs.lemmas.Bool.Decides.{nat_tests}
 use Rattle.std.proofs.lemmas.List.{length-map}
 use Rattle.std.proofs.lemmas.List.Elements.{All-contains}
 use Rattle.std.proofs.lemmas.List.Kept.{AllPairs-cons}
-use Rattle.lore_store.specs.Types.{Changes, EDGES}
+use Rattle.lore_store.specs.Types.{EDGES}
 use Rattle.lore_base.specs.declared.edges.Oid.{Oid}
 use Rattle.lore_base.specs.declared.edges.Edge.{Edge}
 use Rattle.lore_base.specs.declared.values.Value.{Value}
 use Rattle.index_traits.specs.declared.entries.ValueEntry.{ValueEntry}
 use Rattle.lore_base.specs.Databases.{OemGraph, IsLive, IsLinked, IsRooted}
-use Rattle.lore_base.specs.ChangeSets.{IsGraphAfter}
-use Rattle.lore_base.specs.Deltas.{IsOnlyIn}
+use Rattle.lore_base.specs.Deltas.{IsOnlyIn, ListsOnlyIn}
 use Rattle.index_traits.specs.Entries.{AreLinks, AreAscendingLinks, AreValueEntries, IsValueEntry, AreAscendingEntries, entry_cmp}
 use Rattle.sorted_list.specs.SortedLists.{IsThen, IsChange, IsLessWith}
 use Rattle.value_index.specs.Values.{FitsEntries}
 use Rattle.value_changes.specs.EntryChanges.{State, HasEntry, IsSettled, AreGraphChanges, TakesTo, AreEntryChanges}
-use Rattle.oem_graph.specs.Plans.{AreEdgeChanges}
+use Rattle.value_changes.specs.Reads.{AreRead}
 use Rattle.lore_base.proofs.ListLaws.{AllPairs-head, AllPairs-tail}
-use Rattle.lore_base.proofs.ToldLaws.{told_member, told_edge}
+use Rattle.lore_base.proofs.ToldLaws.{IsTold, told_same, told_both, told_member, told_oid, told_edge, told_value}
 use Rattle.list_laws.proofs.PairLaws.{AllPairs-nil}
 use Rattle.list_laws.proofs.SumLaws.{distinct_no_longer}
 use Rattle.list_laws.proofs.MemberLaws.{All-from_members, Contains-from_map, Contains-map}
 use Rattle.index_traits.proofs.ObjectLaws.{one_value_of}
-use Rattle.oem_changes.proofs.RootedLaws.{told_live}
 use Rattle.lore_store.specs.declared.indexes.Indexes.{Indexes}
 use Rattle.lore_store.specs.declared.indexes.IndexPlan.{IndexPlan}
 use Rattle.lore_store.specs.Indexes.{AreIndexes, AreIndexed, state_of}
@@ -55,19 +53,6 @@ module _ {T : Type 0} (Before After : T → Type 0) (kept gone come : List T) (s
       | inr (there, left) ↦ inr ((same item).1 there, left)
     ]),
   )
-
--- what is taken from one state is taken from another that holds the same
-pub takes-same : {T : Type 0} (Before Other After : T → Type 0) (gone come : List T) → ((item : T) → Before item ↔ Other item)
-    → TakesTo Before After gone come → TakesTo Other After gone come
-takes-same Before Other After gone come same takes = record {
-  gone_ones = λ item at. (same item).0 (takes.gone_ones item at);
-  come_ones = λ item at. let comes = takes.come_ones item at in (comes.0, λ other. comes.1 ((same item).1 other));
-  stays = λ item other. takes.stays item ((same item).1 other);
-  rest = λ item then. elim (takes.rest item then) [
-    | inl came ↦ inl came
-    | inr (there, left) ↦ inr ((same item).0 there, left)
-  ];
-}
 
 -- ---- links
 -- the edges by which two lists differ take the one to the other
@@ -159,11 +144,10 @@ module _ (before after : OemGraph) (rooted : IsRooted after) (few : length after
 
 -- ---- the states before and after
 -- each object of a graph that names reach has one value, and the children of edges are live
-pub settled : (graph : OemGraph) (edges : List Edge) → IsRooted graph → ((edge : Edge) → Contains edges edge → Contains graph.edges edge)
-    → IsSettled (record { objects = graph.objects; edges = edges })
-settled graph edges rooted within = record {
+settled : (graph : OemGraph) → IsRooted graph → IsSettled (state_of graph)
+settled graph rooted = record {
   one_value = one_value_of graph.objects rooted.well_formed.ordered.objects_ascend;
-  children = λ edge at. (All-contains (IsLinked graph.objects) graph.edges edge rooted.well_formed.edges_linked (within edge at)).child;
+  children = λ edge at. (All-contains (IsLinked graph.objects) graph.edges edge rooted.well_formed.edges_linked at).child;
 }
 
 -- an object that is live in both keeps its value unless one is given to it
@@ -171,56 +155,37 @@ abbrev pub KeepValues : OemGraph → OemGraph → List (Oid × Value) → Type 0
 KeepValues before after given = (oid : Oid) (value : Value) → Contains before.objects (oid, value) → IsLive after.objects oid
     → IsLive given oid ⊎ Contains after.objects (oid, value)
 
-module _ (before : OemGraph) (changes : Changes) (after : OemGraph) (leaves : IsGraphAfter before changes after) where
-  pub keeps_value : KeepValues before after changes.values
-  keeps_value oid value there (other, live) = elim (told_live changes.values oid) [
-    | inl given ↦ inl given
-    | inr none ↦ inr ((leaves.objects (oid, value)).1 (inr (inr (there, none)), ((leaves.objects (oid, other)).0 live).1))
-  ]
+told_object : (a b : Oid × Value) → IsTold (a ≡ b)
+told_object a b =
+    told_same (λ (h : (a.0 ≡ b.0) × (a.1 ≡ b.1)). λ i. (h.0 i, h.1 i))
+    (λ same. (ap (λ (o : Oid × Value). o.0) same, ap (λ (o : Oid × Value). o.1) same))
+    (told_both (told_oid a.0 b.0) (told_value a.1 b.1))
 
-module _ (before after : OemGraph) (given : List (Oid × Value)) (keeps : KeepValues before after given) where
-  -- the two states differ by the changes
-  pub changed : (links lost fresh : List Edge) → AreLinks before.edges links → AreEdgeChanges before.edges after.edges lost fresh
-      → AreGraphChanges (record { objects = before.objects; edges = links }) (state_of after) lost fresh given
-  changed links lost fresh stands differ = record {
-    lost_exact = λ edge. (
-      λ at. let only = (differ.lost_exact edge).0 at in ((stands.exact edge).1 only.0, only.1),
-      λ only. (differ.lost_exact edge).1 ((stands.exact edge).0 only.0, only.1),
-    );
-    fresh_exact = λ edge. (
-      λ at. let only = (differ.fresh_exact edge).0 at in (only.0, λ there. only.1 ((stands.exact edge).0 there)),
-      λ only. (differ.fresh_exact edge).1 (only.0, λ there. only.1 ((stands.exact edge).1 there)),
-    );
-    keep = keeps;
-  }
-
--- entries of the links are entries of the edges
-pub same_entries : (objects : List (Oid × Value)) (edges links : List Edge) → AreLinks edges links
-    → (entry : ValueEntry) → IsValueEntry objects links entry ↔ IsValueEntry objects edges entry
-same_entries objects edges links stands entry = (
-  λ h. record { live = h.live; atomic = h.atomic; entered = (h.entered.0, (stands.exact _).0 h.entered.1) },
-  λ h. record { live = h.live; atomic = h.atomic; entered = (h.entered.0, (stands.exact _).1 h.entered.1) },
-)
+-- what comes with a value was given it
+pub keeps_value : (before after : OemGraph) (come : List (Oid × Value)) → IsRooted before
+    → ListsOnlyIn come after.objects before.objects → KeepValues before after come
+keeps_value before after come rooted comes oid value there (other, live) =
+    elim (told_member told_object before.objects (oid, other)) [
+      | inl was ↦ inr (subst (λ (v : Value). Contains after.objects (oid, v))
+          (one_value_of before.objects rooted.well_formed.ordered.objects_ascend oid other value was there) live)
+      | inr new ↦ inl (other, (comes (oid, other)).1 (live, new))
+    ]
 
 -- ---- what a store works out
-module _ (before after : OemGraph) (given : List (Oid × Value)) (keeps : KeepValues before after given)
-    (links lost fresh : List Edge) (stands : AreLinks before.edges links) (differ : AreEdgeChanges before.edges after.edges lost fresh) where
-  -- what is found over the links is what goes and comes between the two graphs
-  pub found_changes : (gone come : List ValueEntry) → IsRooted before → IsRooted after
-      → ((old new : State) → old.objects ≡ before.objects → old.edges ≡ links → new.objects ≡ after.objects → IsSettled old
-      → IsSettled new → AreGraphChanges old new lost fresh given → AreEntryChanges old new gone come)
-      → AreEntryChanges (state_of before) (state_of after) gone come
-  found_changes gone come rooted rooted_then found =
-      let old : State = record { objects = before.objects; edges = links } in
-      let changed_are = found old (state_of after) refl refl refl
-      (settled before links rooted (λ edge. (stands.exact edge).0)) (settled after after.edges rooted_then (λ edge at. at))
-      (changed before after given keeps links lost fresh stands differ) in
-      record {
-        gone_ascend = changed_are.gone_ascend;
-        come_ascend = changed_are.come_ascend;
-        takes = takes-same (HasEntry old) (HasEntry (state_of before)) (HasEntry (state_of after)) gone come
-            (same_entries before.objects before.edges links stands) changed_are.takes;
-      }
+-- which entries go and come is found of any two states that differ so, so it is found of the two graphs
+abbrev pub IsFound : OemGraph → OemGraph → List Edge → List Edge → List Edge → List Edge → List (Oid × Value)
+    → List ValueEntry → List ValueEntry → Type 0
+IsFound before after read added lost fresh given gone come =
+    (old new : State) → old.objects ≡ before.objects → new.objects ≡ after.objects → IsSettled old → IsSettled new
+    → AreGraphChanges old new lost fresh given → AreRead read old.edges lost added → AreEntryChanges old new gone come
+
+pub found_changes : (before after : OemGraph) (read added lost fresh : List Edge) (given : List (Oid × Value)) → IsRooted before → IsRooted after
+    → ListsOnlyIn lost before.edges after.edges → ListsOnlyIn fresh after.edges before.edges → KeepValues before after given
+    → AreRead read before.edges lost added → (gone come : List ValueEntry)
+    → IsFound before after read added lost fresh given gone come → AreEntryChanges (state_of before) (state_of after) gone come
+found_changes before after read added lost fresh given rooted rooted_then goes comes keeps reads gone come found =
+    found (state_of before) (state_of after) refl refl (settled before rooted) (settled after rooted_then)
+    (record { lost_exact = goes; fresh_exact = comes; keep = keeps }) reads
 
 -- ---- what is committed
 -- the plan that leads from one graph to another fits the indexes of the one

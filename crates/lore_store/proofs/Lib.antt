@@ -2,6 +2,8 @@ pub mod SizeLaws
 pub mod IndexLaws
 pub mod NewLaws
 pub mod PreparedLaws
+pub mod ReadLaws
+pub mod SameReadLaws
 pub mod LimitLaws
 pub mod ModeLaws
 pub mod CommitLaws

@@ -20,7 +20,8 @@ use Rattle.oem_changes.proofs.DeterminedLaws.{one_between, one_after}
 use Rattle.dataguide.specs.declared.faults.GuideFault.{GuideFault}
 use Rattle.lore_base.specs.Databases.{AreAscendingEdges}
 use Rattle.lore_base.specs.PathOrder.{AreInPathOrder}
-use Rattle.oem_graph.specs.Plans.{AreEdgeChanges}
+use Rattle.lore_base.specs.declared.deltas.Delta.{Delta}
+use Rattle.lore_base.specs.Deltas.{IsDelta}
 use Rattle.dataguide.specs.Guides.{GuideGraph, StandsFor, sets_of}
 use Rattle.dataguide.specs.Deltas.{StoodFor}
 use Rattle.dataguide.specs.GuideCauses.{GuideCause}
@@ -144,16 +145,17 @@ module _ (names : List (List ℕ × Oid)) (edges : List Edge) (graph : OemGraph)
   graph_guided guide stands order = record { stands = rw (named, linked) at stands; order = rw (named, linked) at order }
 
 -- the guide that is kept stood before the edges changed
-pub stood_before : (graph : OemGraph) (guide : GuideGraph) → IsGuided graph guide → (then lost fresh : List Edge) → AreEdgeChanges graph.edges then lost fresh
-    → (edges gone come : List Edge) → edges ≡ then → gone ≡ lost → come ≡ fresh → StoodFor guide gone come edges × AreAscendingEdges come
-stood_before graph guide guided then lost fresh changes edges gone come same same_lost same_fresh =
-    let stood : StoodFor guide lost fresh then = record {
+pub stood_before : (graph after : OemGraph) (guide : GuideGraph) → IsGuided graph guide → (delta : Delta) → IsDelta graph after delta
+    → (edges gone come : List Edge) → edges ≡ after.edges → gone ≡ delta.edges_gone → come ≡ delta.edges_come
+    → StoodFor guide gone come edges × AreAscendingEdges come
+stood_before graph after guide guided delta differ edges gone come same same_gone same_come =
+    let stood : StoodFor guide delta.edges_gone delta.edges_come after.edges = record {
       names = graph.names;
       before = graph.edges;
       stands = guided.stands;
-      differ = record { lost_are = changes.lost_exact; fresh_are = changes.fresh_exact };
+      differ = record { lost_are = differ.edges_gone; fresh_are = differ.edges_come };
     } in
-    (rw (same, same_lost, same_fresh) stood, rw same_fresh changes.fresh_ascend)
+    (rw (same, same_gone, same_come) stood, rw same_come differ.edges_ascend.1)
 
 -- where nothing is linked anew, the guide stays, and it fits
 pub stays_guided : (db : Database) (guide : GuideGraph) → IsValid db → IsGuided db.graph guide → (changes : Changes) → LinkNothing changes

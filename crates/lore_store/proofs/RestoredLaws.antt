@@ -14,7 +14,8 @@ use Rattle.oem_graph.specs.Plans.{AreEdgeChanges}
 use Rattle.lore_base.specs.Databases.{IsRestorable}
 use Rattle.index_traits.specs.declared.entries.ValueEntry.{ValueEntry}
 use Rattle.index_traits.specs.Entries.{AreLinks}
-use Rattle.value_changes.specs.EntryChanges.{State, IsSettled, AreGraphChanges, AreEntryChanges}
+use Rattle.value_changes.specs.EntryChanges.{AreEntryChanges}
+use Rattle.value_changes.specs.Reads.{AreRead}
 use Rattle.dataguide.specs.declared.faults.GuideFault.{GuideFault}
 use Rattle.dataguide.specs.declared.faults.GuideFault.TheVariants as guides
 use Rattle.dataguide.specs.Guides.{GuideGraph, StandsFor, sets_of}
@@ -25,7 +26,7 @@ use Rattle.lore_store.specs.declared.indexes.Indexes.{Indexes}
 use Rattle.lore_store.specs.Indexes.{AreIndexes, state_of}
 use Rattle.lore_store.specs.Stores.{IsStored, IsGuided, database_of}
 use Rattle.lore_store.proofs.NewLaws.{new_valid}
-use Rattle.lore_store.proofs.IndexLaws.{KeepValues, found_changes}
+use Rattle.lore_store.proofs.IndexLaws.{KeepValues, IsFound, found_changes}
 
 -- the new graph is rooted, and no object of it loses a value
 pub new_rooted : IsRooted new_graph
@@ -47,14 +48,21 @@ module _ (graph : OemGraph) (rooted : IsRooted graph) (lost fresh : List Edge) (
     fresh_exact = λ edge. (λ at. (at, Contains-none edge), λ only. only.0);
   })
 
--- and its value entries come, as they are found over links of no edge
+-- over links of no edge none is read
+none_read : (links : List Edge) → AreLinks [] links → AreRead links [] [] []
+none_read links stands = record {
+  added_exact = λ edge. (λ at. absurd (Contains-none edge at), λ only. absurd (Contains-none edge ((stands.exact edge).0 only.0)));
+  others_lost = λ edge only. absurd (Contains-none edge only.0);
+}
+
+-- and its value entries come, as they are found so
 module _ (graph : OemGraph) (rooted : IsRooted graph) (links fresh : List Edge) (stands : AreLinks [] links) (all : fresh ≡ graph.edges) where
-  pub first_entries : (gone come : List ValueEntry)
-      → ((old new : State) → old.objects ≡ [] → old.edges ≡ links → new.objects ≡ graph.objects → IsSettled old → IsSettled new
-      → AreGraphChanges old new [] fresh [] → AreEntryChanges old new gone come)
+  pub first_entries : (gone come : List ValueEntry) → IsFound new_graph graph links [] [] fresh [] gone come
       → AreEntryChanges (state_of new_graph) (state_of graph) gone come
   first_entries gone come found =
-      found_changes new_graph graph [] (new_keeps graph) links [] fresh stands (first_edges graph rooted [] fresh refl all) gone come new_rooted rooted found
+      let differ = first_edges graph rooted [] fresh refl all in
+      found_changes new_graph graph links [] [] fresh [] new_rooted rooted differ.lost_exact differ.fresh_exact (new_keeps graph)
+      (none_read links stands) gone come found
 
 -- distinct texts all come to a table of none
 module _ (table texts : List (List ℕ)) (none : table ≡ []) (labels : AreLabels texts) where

@@ -3,3 +3,4 @@ pub mod inside
 pub mod Faults
 pub mod Indexes
 pub mod Stores
+pub mod Reads

@@ -1,5 +1,8 @@
+ghost use Rattle.std.specs.Prelude.{◌≡◌};
+
 use crate::indexes::IndexPlan;
 use dataguide::GuideDelta;
+use lore_base::Delta;
 use oem_graph::GraphPlan;
 use oem_labels::LabelPlan;
 use std::marker::Model;
@@ -25,4 +28,15 @@ impl Model for Prepared {
       indexes = p.indexes;
       guide = p.guide;
     } };
+}
+
+impl Prepared {
+    /// The names, objects and edges that go with the change and those that come, each list ascending:
+    /// what the graph that it was prepared for and the one that it leads to differ in. Takes no
+    /// memory.
+    pub fn delta(&self) -> &Delta
+        ensures { result.now ≡ self.now.graph.delta }
+    {
+        self.graph.delta()
+    }
 }

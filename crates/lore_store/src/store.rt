@@ -1,15 +1,23 @@
-ghost use Rattle.std.specs.Prelude.{◌≡◌, ◌↔◌, IsTrue, IfSome, IfOk, IfErr, OnOk, OnErr};
+ghost use Rattle.std.specs.Prelude.{◌≡◌, ◌↔◌, ◌*◌, IsTrue, IfSome, IfOk, IfErr, OnOk, OnErr};
 ghost use Rattle.lore_base.specs.Databases.{IsValid, new_database};
-ghost use Rattle.lore_base.specs.ChangeSets.{FitsGraph, Fits, IsAfter, IsGraphAfter, AreDead};
+ghost use Rattle.lore_base.specs.ChangeSets.{FitsGraph, Fits, IsAfter, IsGraphAfter, IsOverlay};
+ghost use Rattle.lore_base.specs.ChangeSets.{AreDead};
+ghost use Rattle.lore_base.specs.Deltas.{IsDelta};
 ghost use Rattle.lore_base.specs.GuideLimits.{FitsGuide};
 ghost use Rattle.lore_base.specs.ChangeCauses.{DatabaseCause};
 ghost use Rattle.lore_base.specs.Verdicts.{IsClear, IsToldBy};
-ghost use Rattle.oem_graph.specs.Plans.{graph_then, AreEdgeChanges};
+ghost use Rattle.set_steps.specs.SetSteps.{reads_of};
+ghost use Rattle.read_costs.specs.Spent.{IsSpent};
+ghost use Rattle.read_costs.specs.ReadCosts.{link_reads};
+ghost use Rattle.read_costs.specs.Concerned.{IsInDoubt, IsTouched};
+ghost use Rattle.oem_graph.specs.Plans.{graph_then};
 ghost use Rattle.dataguide.specs.Deltas.{IsReady};
 ghost use Rattle.lore_base.specs.Restores.{IsWhole, database_from};
 ghost use Rattle.oem_labels.specs.Labels.{AreLabels};
 ghost use Rattle.index_traits.specs.Entries.{AreLinks, AreValueEntries};
+ghost use Rattle.lore_store.specs.declared.faults.StoreFault.TheVariants as fault;
 ghost use Rattle.lore_store.specs.Faults.{refusal_of, RestoreCause};
+ghost use Rattle.lore_store.specs.Reads.{ReadsWithinWork};
 ghost use Rattle.lore_store.specs.Stores as spec;
 ghost use Rattle.lore_store.specs.Stores.{database_then, LeadsOn, HasRoomFor, IsGuided};
 ghost use Rattle.lore_store.specs.Stores.{IsLimit, order};
@@ -17,13 +25,13 @@ ghost use Rattle.lore_store.specs.inside.Sizes.{SizeCause, SetsCause, sets_order
 ghost use Rattle.lore_store.specs.inside.Unlinked.{LinkNothing};
 
 use crate::faults::{RestoreFault, StoreFault};
-use crate::indexes::Indexes;
+use crate::indexes::{Indexes, built_indexes, commit_indexes, planned_indexes, reserve_indexes};
 use crate::prepared::Prepared;
 use dataguide::{Guide, GuideDelta};
 use link_index::LinkIndex;
 use lore_base::limits::{EDGES, NAMES, NODES, OBJECTS, START_NODES};
 use lore_base::{Changes, Mode, NoMemory, OidBuf, Restored, Steps, TextList};
-use oem_graph::{EdgeChanges, Graph, GraphPlan};
+use oem_graph::{Graph, GraphPlan, Overlay};
 use oem_labels::LabelTable;
 use oem_reach::dead_objects;
 use std::alloc::Global;
@@ -36,9 +44,10 @@ use value_index::ValueIndex;
 /// Contracts see it as that database and what it is kept in, with the room of each part.
 #[derive(Drop)]
 pub struct Store {
-    graph: Graph,
     labels: LabelTable,
-    indexes: Indexes,
+    graph: Graph,
+    links: LinkIndex,
+    values: ValueIndex,
     guide: Guide,
     limit: u32,
     mode: Mode,
@@ -52,12 +61,12 @@ impl Model for Store {
     ghost view = { λ s. record {
       db = database_of s.labels s.graph.graph s.limit s.mode;
       kept = s.graph;
-      indexes = s.indexes;
+      indexes = record { links = s.links; values = s.values };
       guide = s.guide;
     } };
 
-    ghost invariant = { λ s.
-        IsStored (database_of s.labels s.graph.graph s.limit s.mode) s.indexes s.guide };
+    ghost invariant = { λ s. IsStored (database_of s.labels s.graph.graph s.limit s.mode)
+        (record { links = s.links; values = s.values }) s.guide };
 }
 
 impl Store {
@@ -66,9 +75,10 @@ impl Store {
         ensures { result.db ≡ new_database }
     {
         Store {
-            graph: Graph::new(alloc),
             labels: LabelTable::new(alloc),
-            indexes: Indexes::new(alloc),
+            graph: Graph::new(alloc),
+            links: LinkIndex::new(alloc),
+            values: ValueIndex::new(alloc),
             guide: Guide::new(alloc),
             limit: START_NODES,
             mode: Mode::Auto,
@@ -94,7 +104,7 @@ impl Store {
     pub fn links(&self) -> &LinkIndex
         ensures { AreLinks self.now.db.graph.edges result.now.links }
     {
-        &self.indexes.links
+        &self.links
     }
 
     /// The index of its atomic values by the labels of the edges that enter their objects.
@@ -102,7 +112,7 @@ impl Store {
         ensures { AreValueEntries self.now.db.graph.objects self.now.db.graph.edges
             result.now.entries }
     {
-        &self.indexes.values
+        &self.values
     }
 
     /// The guide of the database, its nodes in the order of their least label paths (Goldman and
@@ -157,6 +167,7 @@ impl Store {
     /// edges than a database holds (`TooManyNames`, `TooManyObjects`, `TooManyEdges`), and a guide
     /// that doesn't fit: of its sets, in the order of their least label paths, the first that
     /// passes a limit passes the one on nodes (`GuideNodes`) or the one on members (`GuideCells`).
+    /// What is read is within four times the work of the changes, also where they are refused.
     pub fn prepare<L: Ledger>(
         &self,
         alloc: Global,
@@ -167,19 +178,24 @@ impl Store {
         ensures after { IfOk result (λ plan.
             IsAfter self.now.db changes.now (database_then self.now.db plan)) }
         ensures leads { IfOk result (λ plan. LeadsOn self.now.db self.now.guide plan) }
+        ensures delta { IfOk result (λ plan. IsDelta self.now.db.graph
+            (database_then self.now.db plan).graph plan.graph.delta) }
         ensures ok { OnOk result (IsClear (DatabaseCause self.now.db changes.now) order) }
         ensures err { let cause = DatabaseCause self.now.db changes.now in
             IfErr result (λ fault. IsToldBy cause order (refusal_of fault)) }
+        ensures reads { OnOk result
+            (ReadsWithinWork self.now.db.graph changes.now steps.old steps.new) }
+        ensures refused { IfErr result (λ given. (given ≡ fault.NoMemory → ⊥)
+            → ReadsWithinWork self.now.db.graph changes.now steps.old steps.new) }
     {
-        let dead = self.dead(alloc, changes, steps)?;
+        let overlay = self.graph.overlay(changes)?;
+        let dead = self.dead(alloc, changes, &overlay, steps)?;
         let graph = self.graph.prepare(changes, &dead)?;
         self.check_sizes(&graph)?;
-        let edges = self.graph.edge_changes(&graph)?;
-        let guide = self.guide_then(changes, &graph, &edges, steps)?;
+        let guide = self.guide_then(changes, &graph, steps)?;
         let labels = self.labels.plan_new(&changes.labels)?;
-        let indexes = self
-            .indexes
-            .prepare(alloc, &self.graph, changes, &graph, &edges, steps)?;
+        let (links, values) = (&self.links, &self.values);
+        let indexes = planned_indexes(alloc, links, values, &self.graph, &overlay, &graph, steps)?;
         Ok(Prepared {
             graph,
             labels,
@@ -197,7 +213,7 @@ impl Store {
     {
         self.graph.reserve(&prepared.graph)?;
         make_ready(&mut self.guide, &prepared.guide)?;
-        self.indexes.reserve(&prepared.indexes)
+        reserve_indexes(&mut self.links, &mut self.values, &prepared.indexes)
     }
 
     /// Puts in place what was prepared. Takes no memory.
@@ -214,7 +230,7 @@ impl Store {
         } = prepared;
         self.graph.commit(graph);
         self.labels.commit_new(labels);
-        self.indexes.commit(indexes);
+        commit_indexes(&mut self.links, &mut self.values, indexes);
         if let Some(guide) = guide {
             guide_maintain::commit(&mut self.guide, guide);
         }
@@ -256,51 +272,57 @@ impl Store {
         let graph = Graph::restored(alloc, changes, restored.next)?;
         let guide = Guide::build(alloc, &graph, graph.names(), limit, steps)?;
         let labels = table_of(alloc, &changes.labels)?;
-        let indexes = Indexes::build(alloc, &graph, &changes.added, steps)?;
+        let indexes = built_indexes(alloc, &graph, &changes.added, steps)?;
+        let Indexes { links, values } = indexes;
         Ok(Store {
-            graph,
             labels,
-            indexes,
+            graph,
+            links,
+            values,
             guide,
             limit,
             mode: restored.mode,
         })
     }
 
-    // The objects that no name walks to once the changes are made. Where they link nothing anew
-    // there is none, and nothing is searched.
+    // The objects that no name walks to once the changes are made, whose edges the overlay has. Where
+    // they link nothing anew there is none, and nothing is searched.
     fn dead<L: Ledger>(
         &self,
         alloc: Global,
         changes: &Changes,
+        overlay: &Overlay,
         steps: &mut Steps<L>,
     ) -> Result<OidBuf, NoMemory>
-        requires { FitsGraph self.now.db.graph changes.now }
-        ensures { IfOk result (λ dead. AreDead self.now.db.graph changes.now dead) }
+        requires fits { FitsGraph self.now.db.graph changes.now }
+        requires overlay { IsOverlay self.now.db.graph.edges changes.now overlay.now.edges
+            overlay.now.lost overlay.now.fresh }
+        ensures dead { IfOk result (λ dead. AreDead self.now.db.graph changes.now dead) }
+        ensures spent { let between = overlay.now.edges in
+            OnOk result (IsSpent (IsInDoubt self.now.db.graph changes.now between)
+            (λ oid. 2 * link_reads between oid) steps.old steps.new) }
     {
         let names = self.graph.names();
         if link_nothing(changes) {
             return Ok(OidBuf::new(alloc));
         }
-        let overlay = self.graph.overlay(changes)?;
         let (lost, fresh) = (overlay.lost(), overlay.fresh());
-        dead_objects(alloc, names, &overlay, lost, fresh, changes, steps)
+        dead_objects(alloc, names, overlay, lost, fresh, changes, steps)
     }
 
-    // The guide of the graph that the plan leads to, where it has lost and gained these edges. None
-    // where nothing is linked anew, and so the guide stays.
+    // The guide of the graph that the plan leads to. None where nothing is linked anew, and so the
+    // guide stays.
     fn guide_then<L: Ledger>(
         &self,
         changes: &Changes,
         plan: &GraphPlan,
-        edges: &EdgeChanges,
         steps: &mut Steps<L>,
     ) -> Result<Option<GuideDelta>, StoreFault>
         requires fits { FitsGraph self.now.db.graph changes.now }
         requires after { IsGraphAfter self.now.db.graph changes.now
             (graph_then self.now.db.graph plan.now) }
-        requires edges { AreEdgeChanges self.now.db.graph.edges
-            (graph_then self.now.db.graph plan.now).edges edges.now.lost edges.now.fresh }
+        requires delta { IsDelta self.now.db.graph (graph_then self.now.db.graph plan.now)
+            plan.now.delta }
         ensures guided { let after = graph_then self.now.db.graph plan.now in
             IfOk result (λ guide. IsGuided after (spec.guide_then self.now.guide guide)) }
         ensures ready { IfOk result (λ guide. IfSome guide (IsReady self.now.guide.nodes)) }
@@ -309,12 +331,20 @@ impl Store {
         ensures err { let after = graph_then self.now.db.graph plan.now in
             IfErr result (λ fault.
             IsToldBy (SetsCause self.now.db.nodes after) sets_order (refusal_of fault)) }
+        ensures spent { let after = graph_then self.now.db.graph plan.now in
+            OnOk result (IsSpent (IsTouched self.now.db.graph changes.now after)
+            (reads_of after.edges) steps.old steps.new) }
+        ensures refused { let after = graph_then self.now.db.graph plan.now in
+            IfErr result (λ given. (given ≡ fault.NoMemory → ⊥)
+            → IsSpent (IsTouched self.now.db.graph changes.now after) (reads_of after.edges)
+            steps.old steps.new) }
     {
         let then = self.graph.then(plan);
         if link_nothing(changes) {
             return Ok(None);
         }
-        let (lost, fresh) = (edges.lost.as_slice(), edges.fresh.as_slice());
+        let delta = plan.delta();
+        let (lost, fresh) = (delta.edges_gone.as_slice(), delta.edges_come.as_slice());
         let names = plan.names();
         let guide = guide_maintain::plan(
             &self.guide,
@@ -379,3 +409,6 @@ fn table_of(alloc: Global, texts: &TextList) -> Result<LabelTable, NoMemory>
     table.commit_new(plan);
     Ok(table)
 }
+
+#[cfg(test)]
+mod tests;

@@ -1,5 +1,5 @@
 -- What a graph becomes with changes, from the lists of what is left.
-use Rattle.std.proofs.Common.{◌≡◌, ℕ, ◌+◌, ◌<◌, ◌≤◌, ◌↔◌, ◌⊎◌, not, inl, inr, List, [], ◌++◌, length, get_or}
+use Rattle.std.proofs.Common.{◌≡◌, ℕ, ◌+◌, ◌<◌, ◌≤◌, ◌↔◌, ◌⊎◌, not, inl, inr, List, length, get_or}
 use Rattle.std.proofs.Common.{All, Contains, sym, ap, ◌∙◌, subst, Less, arith}
 use Rattle.std.proofs.lemmas.List.Elements.{Contains-get_or, Contains-append_cases, Contains-append_left, All-contains}
 use Rattle.std.proofs.lemmas.List.Elements.{Contains-append_right}
@@ -123,7 +123,8 @@ module _ (before : OemGraph) (changes : Changes) (formed : IsWellFormed before) 
       ])
 
       -- the graph that the plan leads to
-      pub graph-after : (plan : PlannedGraph) → plan.dead ≡ dead → plan.given ≡ given → IsNameTable plan.names
+      pub graph-after : (plan : PlannedGraph) → plan.dead ≡ dead
+          → with_objects (not_dead dead before.objects) plan.delta.objects_come ≡ with_objects (not_dead dead before.objects) given → IsNameTable plan.names
           → ((entry : List ℕ × Oid) → Contains plan.names entry ↔ NamesThen before.names changes entry)
           → ((edge : Edge) → Contains (graph_then before plan).edges edge ↔ (Contains edges edge × (Contains dead edge.parent → ⊥)))
           → AreAscendingEdges (graph_then before plan).edges → plan.next ≡ before.next + length changes.made → IsGraphAfter before changes (graph_then before plan)
@@ -148,7 +149,7 @@ module _ (before : OemGraph) (changes : Changes) (formed : IsWellFormed before) 
       }
         where
           objects_are : (graph_then before plan).objects ≡ with_objects (not_dead dead before.objects) given
-          objects_are = ap (λ (d : List Oid). with_objects (not_dead d before.objects) plan.given) dead_is ∙ ap (with_objects (not_dead dead before.objects)) given_is
+          objects_are = ap (λ (d : List Oid). with_objects (not_dead d before.objects) plan.delta.objects_come) dead_is ∙ given_is
 
 -- which edges there are then
 pub edges-after : (kept lost fresh gone come : List Edge) (dead : List Oid) → AreAscendingEdges kept → (added removed : List Edge) → AreLost kept removed lost → AreFresh kept added fresh

@@ -1,5 +1,5 @@
 -- The edges that a plan takes away and those that it brings, and how many there are then.
-use Rattle.std.proofs.Common.{◌≡◌, ◌⊎◌, ◌↔◌, ℕ, ◌+◌, Bool, true, false, not, Less, List, length, All, Contains, refl, sym, ap, ◌∙◌, inl, inr, subst, arith}
+use Rattle.std.proofs.Common.{◌≡◌, ◌↔◌, ◌+◌, true, false, not, Less, List, length, All, Contains, refl, ap, inl, inr, arith}
 use Rattle.std.specs.List.{filter}
 use Rattle.std.proofs.lemmas.List.Elements.{All-contains}
 use Rattle.std.proofs.lemmas.List.Filters.{length-filter_both}
@@ -7,7 +7,6 @@ use Rattle.std.proofs.lemmas.List.Kept.{AllPairs-filter}
 use Rattle.slab.specs.Slab.{Slab}
 use Rattle.lore_base.specs.Walks.{edge_cmp}
 use Rattle.lore_base.specs.Databases.{AreAscendingEdges}
-use Rattle.lore_base.specs.Deltas.{IsOnlyIn}
 use Rattle.lore_base.proofs.MemberLaws.{Contains-filter, unfiltered}
 use Rattle.edge_lists.specs.Views.{edges_of, is_there, those_there}
 use Rattle.edge_lists.proofs.ViewLaws as views

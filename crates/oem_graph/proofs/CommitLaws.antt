@@ -1,5 +1,5 @@
 -- What a graph becomes where a plan is put in place.
-use Rattle.std.proofs.Common.{◌≡◌, ◌≢◌, ◌⊎◌, ◌↔◌, ℕ, zero, suc, ◌+◌, ◌-◌, ◌<◌, ◌≤◌, Bool, true, false, not, cond, Less, Option, Some, None, List, [], ◌∷◌, ◌++◌, length, get_or, map, All, AllPairs, Contains, refl, sym, ap, ◌∙◌, inl, inr, subst, arith}
+use Rattle.std.proofs.Common.{◌≡◌, ◌⊎◌, ℕ, ◌+◌, ◌-◌, ◌<◌, ◌≤◌, Bool, true, false, not, cond, Option, Some, None, List, [], ◌∷◌, length, get_or, map, All, Contains, refl, sym, ap, ◌∙◌, inl, inr, subst, arith}
 use Rattle.std.specs.List.{filter}
 use Rattle.std.proofs.lemmas.Bool.{true≢false}
 use Rattle.std.proofs.lemmas.List.{get_or-map, length-map}
@@ -7,10 +7,8 @@ use Rattle.std.proofs.lemmas.List.Elements.{Contains-get_or, All-contains}
 use Rattle.std.proofs.lemmas.List.Kept.{AllPairs-filter}
 use Rattle.list_laws.proofs.MemberLaws.{Contains-from_map, Contains-map}
 use Rattle.slab.specs.Slab.{Slab, slab_len}
-use Rattle.near_links.proofs.AheadLaws.{some_same, none_some}
 use Rattle.near_links.proofs.LinkLaws.{leads_on}
 use Rattle.near_links.specs.Links.{IsNearest}
-use Rattle.lore_base.specs.Walks.{edge_cmp}
 use Rattle.lore_base.specs.Databases as base
 use Rattle.lore_base.specs.Databases.{OemGraph, AreAscendingEdges}
 use Rattle.oem_graph.specs.Types.{Side, Out, In, EdgeRecord, ObjectRecord}
@@ -28,7 +26,7 @@ use Rattle.oem_graph.specs.Graphs.{RoomyGraph, IsIndexable, HasEnds}
 use Rattle.oem_graph.specs.Plans.{PlannedGraph, graph_then, with_objects, put_edges}
 use Rattle.oem_graph.specs.inside.Given.{ArePutIn}
 use Rattle.oem_graph.specs.inside.Layers.{staying}
-use Rattle.oem_graph.specs.inside.Left.{AreAscendingOids, is_among, not_dead}
+use Rattle.oem_graph.specs.inside.Left.{is_among, not_dead}
 use Rattle.oem_graph.specs.inside.Linked.{AreLists, IsLinkedGraph}
 use Rattle.oem_graph.specs.inside.Planned.{IsPlan}
 use Rattle.oem_graph.proofs.GivenLaws.{drop-with_objects, members-with_objects}
@@ -65,51 +63,51 @@ dropped-pairs dead (first ∷ objects) =
 
 -- ---- what a plan brings to a graph that it leads from
 module _ (names : List (List ℕ × Oid)) (o0 : List ObjectRecord) (r0 : Slab EdgeRecord) (next : ℕ) (plan : PlannedGraph)
-    (lists : AreLists o0 r0) (by_child keys : List ℕ) (room : ℕ) (planned : IsPlan plan.dead plan.given plan.gone plan.come by_child keys room)
+    (lists : AreLists o0 r0) (by_child keys : List ℕ) (room : ℕ) (planned : IsPlan plan.dead plan.delta.objects_come plan.delta.edges_gone plan.delta.edges_come by_child keys room)
     (leads : IsIndexable (graph_then (record { names = names; objects = map object_of o0; edges = edges_of r0; next = next }) plan)) where
   abbrev kept : List Edge
   kept = edges_of r0
 
   abbrev objects-then : List (Oid × Value)
-  objects-then = with_objects (not_dead plan.dead (map object_of o0)) plan.given
+  objects-then = with_objects (not_dead plan.dead (map object_of o0)) plan.delta.objects_come
 
   abbrev edges-then : List Edge
-  edges-then = put_edges (staying plan.gone kept) plan.come
+  edges-then = put_edges (staying plan.delta.edges_gone kept) plan.delta.edges_come
 
-  pub come-new : All (λ edge. ¬ HasEdge r0 edge) plan.come
+  pub come-new : All (λ edge. ¬ HasEdge r0 edge) plan.delta.edges_come
   come-new k d lt has =
-      let at = Contains-get_or plan.come k d lt in
-      (put-back_all (staying plan.gone kept) plan.come leads.ordered.edges_ascend).1 (get_or plan.come k d) at
-      ((members-staying plan.gone kept (get_or plan.come k d)).1 ((edges_lie r0 (get_or plan.come k d)).1 has, planned.apart k d lt))
+      let at = Contains-get_or plan.delta.edges_come k d lt in
+      (put-back_all (staying plan.delta.edges_gone kept) plan.delta.edges_come leads.ordered.edges_ascend).1 (get_or plan.delta.edges_come k d) at
+      ((members-staying plan.delta.edges_gone kept (get_or plan.delta.edges_come k d)).1 ((edges_lie r0 (get_or plan.delta.edges_come k d)).1 has, planned.apart k d lt))
 
   ends : (edge : Edge) → Contains edges-then edge → HasEnds objects-then edge
   ends edge at = All-contains (HasEnds objects-then) edges-then edge leads.linked at
 
   -- what is live then isn't dead, and is there once values are given
-  then-cases : (oid : Oid) → base.IsLive objects-then oid → (Contains plan.dead oid → ⊥) × base.IsLive (with_objects (map object_of o0) plan.given) oid
+  then-cases : (oid : Oid) → base.IsLive objects-then oid → (Contains plan.dead oid → ⊥) × base.IsLive (with_objects (map object_of o0) plan.delta.objects_come) oid
   then-cases oid live =
       let ascend = pairs-ascend o0 lists.ascend in
       let given = planned.given_ascend in
-      elim ((members-with_objects (not_dead plan.dead (map object_of o0)) plan.given (ascend-not_dead plan.dead (map object_of o0) ascend) given (oid, live.0)).0 live.1) [
+      elim ((members-with_objects (not_dead plan.dead (map object_of o0)) plan.delta.objects_come (ascend-not_dead plan.dead (map object_of o0) ascend) given (oid, live.0)).0 live.1) [
         | inl new ↦ (
-          All-contains (λ (o : Oid × Value). ¬ Contains plan.dead o.0) plan.given (oid, live.0) planned.given_live new,
-          (live.0, (members-with_objects (map object_of o0) plan.given ascend given (oid, live.0)).1 (inl new)),
+          All-contains (λ (o : Oid × Value). ¬ Contains plan.dead o.0) plan.delta.objects_come (oid, live.0) planned.given_live new,
+          (live.0, (members-with_objects (map object_of o0) plan.delta.objects_come ascend given (oid, live.0)).1 (inl new)),
         )
         | inr old ↦ (let both = (members-not_dead plan.dead (map object_of o0) (oid, live.0)).0 old.0 in (
           both.1,
-          (live.0, (members-with_objects (map object_of o0) plan.given ascend given (oid, live.0)).1 (inr (both.0, old.1))),
+          (live.0, (members-with_objects (map object_of o0) plan.delta.objects_come ascend given (oid, live.0)).1 (inr (both.0, old.1))),
         ))
       ]
 
-  module _ (o1 : List ObjectRecord) (put : ArePutIn plan.given o0 o1) where
+  module _ (o1 : List ObjectRecord) (put : ArePutIn plan.delta.objects_come o0 o1) where
     live-now : (oid : Oid) → base.IsLive objects-then oid → IsLive o1 oid
     live-now oid live = live-record o1 oid (subst (λ (l : List (Oid × Value)). base.IsLive l oid) (sym put.objects) (then-cases oid live).1)
 
-    pub come-parents : All (λ edge. IsLive o1 edge.parent) plan.come
-    come-parents k d lt = live-now (get_or plan.come k d).parent (ends (get_or plan.come k d) ((members-put_edges (staying plan.gone kept) plan.come (get_or plan.come k d)).1 (inr (Contains-get_or plan.come k d lt)))).parent
+    pub come-parents : All (λ edge. IsLive o1 edge.parent) plan.delta.edges_come
+    come-parents k d lt = live-now (get_or plan.delta.edges_come k d).parent (ends (get_or plan.delta.edges_come k d) ((members-put_edges (staying plan.delta.edges_gone kept) plan.delta.edges_come (get_or plan.delta.edges_come k d)).1 (inr (Contains-get_or plan.delta.edges_come k d lt)))).parent
 
-    pub come-children : All (λ edge. IsLive o1 edge.child) plan.come
-    come-children k d lt = live-now (get_or plan.come k d).child (ends (get_or plan.come k d) ((members-put_edges (staying plan.gone kept) plan.come (get_or plan.come k d)).1 (inr (Contains-get_or plan.come k d lt)))).child
+    pub come-children : All (λ edge. IsLive o1 edge.child) plan.delta.edges_come
+    come-children k d lt = live-now (get_or plan.delta.edges_come k d).child (ends (get_or plan.delta.edges_come k d) ((members-put_edges (staying plan.delta.edges_gone kept) plan.delta.edges_come (get_or plan.delta.edges_come k d)).1 (inr (Contains-get_or plan.delta.edges_come k d lt)))).child
 
     pub put-out : AreChained Out o1 r0 []
     put-out = heads_chain Out o0 o1 r0 [] (put.heads Out) lists.out
@@ -117,18 +115,18 @@ module _ (names : List (List ℕ × Oid)) (o0 : List ObjectRecord) (r0 : Slab Ed
     pub put-entering : AreChained In o1 r0 []
     put-entering = heads_chain In o0 o1 r0 [] (put.heads In) lists.entering
 
-    module _ (o2 : List ObjectRecord) (r1 : Slab EdgeRecord) (changed : AreChanged plan.come plan.gone o1 r0 o2 r1) where
+    module _ (o2 : List ObjectRecord) (r1 : Slab EdgeRecord) (changed : AreChanged plan.delta.edges_come plan.delta.edges_gone o1 r0 o2 r1) where
       pub edges-are : edges_of r1 ≡ edges-then
       edges-are = same-edges (edges_of r1) edges-then (edges_ascend r1) leads.ordered.edges_ascend (λ edge. (
         λ at.
             let both = (changed.edges edge).0 ((edges_lie r1 edge).0 at) in
-            (members-put_edges (staying plan.gone kept) plan.come edge).1 (elim both.0 [
-              | inl old ↦ inl ((members-staying plan.gone kept edge).1 ((edges_lie r0 edge).1 old, both.1))
+            (members-put_edges (staying plan.delta.edges_gone kept) plan.delta.edges_come edge).1 (elim both.0 [
+              | inl old ↦ inl ((members-staying plan.delta.edges_gone kept edge).1 ((edges_lie r0 edge).1 old, both.1))
               | inr new ↦ inr new
             ]),
-        λ at. (edges_lie r1 edge).1 ((changed.edges edge).1 (elim ((members-put_edges (staying plan.gone kept) plan.come edge).0 at) [
-          | inl stays ↦ (let both = (members-staying plan.gone kept edge).0 stays in (inl ((edges_lie r0 edge).0 both.0), both.1))
-          | inr new ↦ (inr new, All-contains (λ (e : Edge). ¬ Contains plan.gone e) plan.come edge planned.apart new)
+        λ at. (edges_lie r1 edge).1 ((changed.edges edge).1 (elim ((members-put_edges (staying plan.delta.edges_gone kept) plan.delta.edges_come edge).0 at) [
+          | inl stays ↦ (let both = (members-staying plan.delta.edges_gone kept edge).0 stays in (inl ((edges_lie r0 edge).0 both.0), both.1))
+          | inr new ↦ (inr new, All-contains (λ (e : Edge). ¬ Contains plan.delta.edges_gone e) plan.delta.edges_come edge planned.apart new)
         ])),
       ))
 
@@ -141,7 +139,7 @@ module _ (names : List (List ℕ × Oid)) (o0 : List ObjectRecord) (r0 : Slab Ed
       pub objects-are : map object_of o3 ≡ objects-then
       objects-are =
           dropped-pairs plan.dead o2 ∙ ap (not_dead plan.dead) (changed.objects ∙ put.objects)
-          ∙ drop-with_objects plan.dead (map object_of o0) plan.given (pairs-ascend o0 lists.ascend) planned.given_live
+          ∙ drop-with_objects plan.dead (map object_of o0) plan.delta.objects_come (pairs-ascend o0 lists.ascend) planned.given_live
 
       -- a dead object has no edge then
       chain-of : (side : Side) → AreChained side o2 r1 []
@@ -199,9 +197,9 @@ leads-inside inside seen plan given same is leads =
 
 -- there is as much room in the records as is told
 pub room-inside : (inside seen : RoomyGraph) (plan given : PlannedGraph) (records : Slab EdgeRecord) → inside ≡ seen → plan ≡ given → inside.edge_room ≡ records.capacity - slab_len records
-    → length given.come ≤ seen.edge_room → slab_len records ≤ records.capacity → slab_len records + length plan.come ≤ records.capacity
+    → length given.delta.edges_come ≤ seen.edge_room → slab_len records ≤ records.capacity → slab_len records + length plan.delta.edges_come ≤ records.capacity
 room-inside inside seen plan given records same is room fits within =
-    omega (arith, ap (λ (s : RoomyGraph). s.edge_room) same, ap (λ (p : PlannedGraph). length p.come) is, room, fits, within)
+    omega (arith, ap (λ (s : RoomyGraph). s.edge_room) same, ap (λ (p : PlannedGraph). length p.delta.edges_come) is, room, fits, within)
 
 -- ---- slices stand for the lists that they show
 -- what a change of the records needs
@@ -213,9 +211,9 @@ pub record CanCommit (objects : List ObjectRecord) (records : Slab EdgeRecord) (
   pub entering : AreChained In objects records []
 
 pub can-commit : (names : List (List ℕ × Oid)) (o0 : List ObjectRecord) (r0 : Slab EdgeRecord) (next : ℕ) (plan : PlannedGraph) → AreLists o0 r0
-    → (by_child keys : List ℕ) (room : ℕ) → IsPlan plan.dead plan.given plan.gone plan.come by_child keys room
+    → (by_child keys : List ℕ) (room : ℕ) → IsPlan plan.dead plan.delta.objects_come plan.delta.edges_gone plan.delta.edges_come by_child keys room
     → IsIndexable (graph_then (record { names = names; objects = map object_of o0; edges = edges_of r0; next = next }) plan)
-    → (o1 objects : List ObjectRecord) (come : List Edge) → ArePutIn plan.given o0 o1 → objects ≡ o1 → come ≡ plan.come → CanCommit objects r0 come
+    → (o1 objects : List ObjectRecord) (come : List Edge) → ArePutIn plan.delta.objects_come o0 o1 → objects ≡ o1 → come ≡ plan.delta.edges_come → CanCommit objects r0 come
 can-commit names o0 r0 next plan lists by_child keys room planned leads o1 objects come put same is =
     subst (λ (o : List ObjectRecord). CanCommit o r0 come) (sym same) (subst (λ (l : List Edge). CanCommit o1 r0 l) (sym is) (record {
       parents = come-parents names o0 r0 next plan lists by_child keys room planned leads o1 put;

@@ -1,17 +1,15 @@
 -- How many objects there are once some are dead and others given.
-use Rattle.std.proofs.Common.{◌≡◌, ◌≢◌, ◌⊎◌, ℕ, ◌+◌, ◌-◌, ◌<◌, ◌≤◌, Bool, ◌||◌, true, false, not, cond, nat_eq, List, [], ◌∷◌, ◌++◌, length, get_or, take, drop, map, Contains, refl, sym, ap, ◌∙◌, inl, inr, subst, arith}
-use Rattle.std.specs.List.{filter}
-use Rattle.std.proofs.lemmas.Bool.{cases_eq, true≢false}
+use Rattle.std.proofs.Common.{◌≡◌, ℕ, ◌+◌, ◌<◌, ◌≤◌, Bool, ◌||◌, true, false, not, cond, nat_eq, List, [], ◌∷◌, ◌++◌, length, get_or, take, drop, map, Contains, refl, sym, ap, ◌∙◌, inl, inr, subst, arith}
+use Rattle.std.proofs.lemmas.Bool.{cases_eq}
 use Rattle.std.proofs.lemmas.Bool.Decides.{nat_tests}
 use Rattle.std.proofs.lemmas.List.{take_more, length-take, take-append-drop, get_or_append_left, get_or_default, length-map}
-use Rattle.std.proofs.lemmas.List.Elements.{Contains-get_or}
 use Rattle.std.proofs.lemmas.List.Filters.{length-filter_both}
 use Rattle.lore_base.specs.Databases as base
 use Rattle.lore_base.proofs.MemberLaws.{Contains-none, Contains-head, Contains-tail, Contains-cases, Contains-same}
 use Rattle.oem_graph.specs.Types.{ObjectRecord}
 use Rattle.edge_lists.specs.Objects.{object_of, AreAscendingObjects, IsLive}
 use Rattle.oem_graph.specs.Types.{Oid, Value}
-use Rattle.oem_graph.specs.Plans.{with_object, with_objects}
+use Rattle.oem_graph.specs.Plans.{with_objects}
 use Rattle.oem_graph.specs.inside.Left.{AreAscendingOids, is_among, not_dead}
 use Rattle.oem_graph.proofs.CommitLaws.{pairs-ascend, live-record, live-pair}
 use Rattle.oem_graph.proofs.GivenLaws.{objects-head, objects-tail, with-more, length-old, length-new, members-with_objects, ascend-with_objects}

@@ -1,14 +1,8 @@
 -- Ascending edges: their order, and lists of which one comes behind the other.
-use Rattle.std.proofs.Common.{◌≡◌, ℕ, ◌+◌, ◌-◌, ◌<◌, true, Less, Equal, List, [], ◌∷◌, ◌++◌, length, get_or, Some, zero, suc, refl, ap, ◌∙◌, inl, inr, arith, length-append}
+use Rattle.std.proofs.Common.{◌≡◌, true, Equal, [], ◌∷◌, arith}
 use Rattle.std.specs.Cmp.{IsTotalOrder}
-use Rattle.std.specs.List.{slice_get}
-use Rattle.std.proofs.lemmas.Bool.{cases_lt}
 use Rattle.std.proofs.lemmas.Bool.Decides.{nat_tests}
 use Rattle.std.proofs.lemmas.Cmp.{nat_cmp_total, on_total, then_total}
-use Rattle.std.proofs.lemmas.List.{get_or_append_left, get_or-append_right}
-use Rattle.std.proofs.lemmas.Option.{get_or_from_slice_get}
-use Rattle.lore_base.proofs.ListLaws.{AllPairs-append}
-use Rattle.list_laws.proofs.PairLaws.{AllPairs-front, AllPairs-back}
 use Rattle.oem_graph.specs.Types.{Edge}
 use Rattle.oem_graph.specs.inside.EdgeTests.{edge_eq}
 use Rattle.lore_base.specs.Walks.{edge_cmp}

@@ -1,10 +1,9 @@
 -- Edges that are records, and those that aren't.
-use Rattle.std.proofs.Common.{◌≡◌, ◌⊎◌, ◌↔◌, ℕ, true, false, Less, List, Contains, refl, sym, ◌∙◌, inl, inr}
+use Rattle.std.proofs.Common.{◌≡◌, ◌⊎◌, true, false, List, Contains, refl, sym, ◌∙◌, inl, inr}
 use Rattle.std.proofs.lemmas.Bool.{true≢false}
 use Rattle.slab.specs.Slab.{Slab}
 use Rattle.lore_base.specs.Walks.{edge_cmp}
 use Rattle.oem_graph.specs.Types.{EdgeRecord}
-use Rattle.edge_lists.specs.Records.{HasEdge}
 use Rattle.edge_lists.specs.Sifts.{AreSifted}
 use Rattle.edge_lists.specs.Views.{edges_of}
 use Rattle.edge_lists.proofs.ViewLaws.{edges_lie}

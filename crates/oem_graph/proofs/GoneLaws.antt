@@ -1,5 +1,5 @@
 -- Edges that go: those that are lost, and those that leave dead objects.
-use Rattle.std.proofs.Common.{◌≡◌, ◌⊎◌, ◌↔◌, ℕ, ◌+◌, ◌<◌, Less, List, [], ◌∷◌, ◌++◌, length, get_or, take, drop, Contains, refl, sym, ap, ◌∙◌, inl, inr, subst, arith}
+use Rattle.std.proofs.Common.{◌≡◌, ◌⊎◌, ◌↔◌, ℕ, ◌+◌, ◌<◌, Less, List, [], ◌∷◌, length, get_or, take, drop, Contains, sym, ap, ◌∙◌, inl, inr, subst, arith}
 use Rattle.std.proofs.lemmas.Bool.Decides.{nat_tests}
 use Rattle.std.proofs.lemmas.List.{take_more, length-take, take-append-drop, get_or_append_left, get_or_default}
 use Rattle.std.proofs.lemmas.List.Elements.{Contains-get_or, Contains-append_cases, Contains-append_left, Contains-append_right}
@@ -56,7 +56,7 @@ leaving-none records = record {
 lower_parent : (a b : Edge) → a.parent.0 < b.parent.0 → edge_cmp a b ≡ Less
 lower_parent a b less = grind (arith, nat_tests)
 
-below_at : (oids : List Oid) → AreAscendingOids oids → (i : ℕ) (d : Oid) → i < length oids → (o : Oid) → Contains (take i oids) o → o.0 < (get_or oids i d).0
+pub below_at : (oids : List Oid) → AreAscendingOids oids → (i : ℕ) (d : Oid) → i < length oids → (o : Oid) → Contains (take i oids) o → o.0 < (get_or oids i d).0
 below_at oids ascend i d lt o at =
     let k = at.0 in
     let lt_k : k < i = omega (arith, at.1, length-take i oids) in

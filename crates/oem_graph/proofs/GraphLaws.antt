@@ -1,14 +1,13 @@
 -- The new graph is in order, and has few edges.
-use Rattle.std.proofs.Common.{◌≡◌, ◌≢◌, ℕ, ◌+◌, ◌-◌, ◌<◌, ◌≤◌, Option, None, is_some, List, [], ◌∷◌, length, get_or, map, All, Contains, refl, sym, ap, ◌∙◌, inl, inr, subst, arith}
+use Rattle.std.proofs.Common.{◌≡◌, ℕ, ◌<◌, Option, None, List, [], length, get_or, map, All, sym, ap, subst, arith}
 use Rattle.std.proofs.lemmas.List.{length-map}
-use Rattle.slab.specs.Slab.{Slab, get, slab_len}
+use Rattle.slab.specs.Slab.{Slab, slab_len}
 use Rattle.edge_lists.specs.Objects.{object_of}
 use Rattle.edge_lists.specs.Views.{edges_of}
-use Rattle.edge_lists.proofs.ViewLaws.{edges_lie}
 use Rattle.std.specs.List.Sorted.{IsStrictlySortedBy}
 use Rattle.lore_base.specs.Databases.{OemGraph, IsWellFormed, new_graph}
 use Rattle.oem_graph.specs.Graphs.{IsIndexable, HasEnds}
-use Rattle.oem_graph.specs.Types.{Oid, Complex, Edge, EdgeRecord, ObjectRecord}
+use Rattle.oem_graph.specs.Types.{Oid, Complex, EdgeRecord, ObjectRecord}
 use Rattle.oem_graph.specs.inside.Linked.{AreLists, IsLinkedGraph}
 use Rattle.oem_graph.proofs.ObjectLaws.{length-objects}
 use Rattle.oem_graph.proofs.ViewLaws.{count-edges, empty-lists}

@@ -1,5 +1,5 @@
 -- Edges in layers ascend, and which edges they are; the run of an object among them.
-use Rattle.std.proofs.Common.{◌≡◌, ℕ, ◌≤◌, ◌↔◌, ◌⊎◌, Bool, true, false, not, ◌==◌, inl, inr, Less, Equal}
+use Rattle.std.proofs.Common.{◌≡◌, ℕ, ◌↔◌, ◌⊎◌, Bool, true, not, ◌==◌, inl, inr, Less, Equal}
 use Rattle.std.proofs.Common.{Greater, List, [], ◌∷◌, length, get_or, Contains, refl, sym, ap, ◌∙◌}
 use Rattle.std.proofs.Common.{subst, arith}
 use Rattle.std.specs.Ordering.{match_ordering, ordering_reverse}
@@ -12,14 +12,12 @@ use Rattle.std.proofs.lemmas.List.Kept.{AllPairs-filter}
 use Rattle.lore_base.proofs.ListLaws.{AllPairs-append, AllPairs-tail, AllPairs-head, AllPairs-unique}
 use Rattle.lore_base.proofs.MemberLaws.{Contains-none, Contains-head, Contains-tail, Contains-cases, Contains-same}
 use Rattle.lore_base.proofs.MemberLaws.{Contains-filter, unfiltered}
-use Rattle.lore_base.specs.Walks.{edge_cmp, out_of}
+use Rattle.lore_base.specs.Walks.{edge_cmp}
 use Rattle.lore_base.specs.Databases.{AreAscendingEdges}
-use Rattle.lore_base.specs.ChangeSets.{HasChildren}
-use Rattle.oem_graph.specs.Types.{Oid, Edge}
-use Rattle.oem_graph.specs.inside.EdgeTests.{edge_eq, is_listed}
-use Rattle.strand_sort.specs.StrandSorts.{AreJoined}
+use Rattle.oem_graph.specs.Types.{Edge}
+use Rattle.oem_graph.specs.inside.EdgeTests.{is_listed}
 use Rattle.oem_graph.specs.inside.Layers.{staying, with_edges, layered}
-use Rattle.oem_graph.proofs.EdgeLaws.{edge_cmp_total, edge_same, equal_edges, ascend-one}
+use Rattle.oem_graph.proofs.EdgeLaws.{edge_cmp_total, equal_edges, ascend-one}
 use Rattle.oem_graph.proofs.SearchLaws.{listed, not_listed}
 
 -- an edge before ascending ones that are all above it

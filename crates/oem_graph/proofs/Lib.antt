@@ -20,5 +20,6 @@ pub mod GraphLaws
 pub mod GoneLaws
 pub mod ReadLaws
 pub mod ChangeLaws
+pub mod DeltaLaws
 pub mod PlanLaws
 pub mod SampleLaws

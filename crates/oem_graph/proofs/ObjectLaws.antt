@@ -1,14 +1,12 @@
 -- Ascending objects: how many there are, which value an object has, and what made objects behind them keep.
-use Rattle.std.proofs.Common.{◌≡◌, ℕ, ◌+◌, ◌<◌, ◌≤◌, List, [], ◌∷◌, ◌++◌, length, get_or, All, Contains, zero, suc, sym, ap, ◌∙◌, inl, inr, arith}
-use Rattle.std.proofs.Common.{Option, Some, None, Err, true, eqb, nat_cmp, Less, Equal, Greater}
+use Rattle.std.proofs.Common.{◌≡◌, ℕ, ◌+◌, ◌<◌, ◌≤◌, List, [], ◌∷◌, length, get_or, All, Contains, zero, suc, sym, ap, ◌∙◌, inl, inr, arith, true, eqb}
+use Rattle.std.proofs.Common.{Err, nat_cmp, Less, Equal, Greater}
 use Rattle.std.specs.List.Sorted.{IsBinarySearchResult, IsNonDecreasingBy}
-use Rattle.std.specs.Option.{IfNone}
 use Rattle.std.specs.Ordering.{ordering_index}
 use Rattle.std.proofs.lemmas.Bool.{cases_lt}
 use Rattle.std.proofs.lemmas.Bool.Decides.{nat_tests}
 use Rattle.std.proofs.lemmas.Cmp.{ranked}
 use Rattle.std.proofs.lemmas.List.{get_or_default}
-use Rattle.std.proofs.lemmas.List.Elements.{Contains-append_cases}
 use Rattle.oem_graph.specs.Types.{Oid, Value}
 use Rattle.lore_base.specs.Databases.{AreAscendingObjects, IsLive}
 use Rattle.lore_base.specs.ChangeSets.{AreNumberedFrom}

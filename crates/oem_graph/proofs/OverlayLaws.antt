@@ -1,17 +1,12 @@
 -- The edges then are the kept ones without the removed and with the added.
 use Rattle.std.proofs.Common.{◌≡◌, true, false, inl, inr, List, All}
-use Rattle.std.proofs.Common.{Contains, refl, sym, ◌∙◌, subst, Less}
-use Rattle.std.specs.List.{filter}
+use Rattle.std.proofs.Common.{Contains, refl, sym, ◌∙◌, subst}
 use Rattle.std.proofs.lemmas.Bool.{true≢false}
-use Rattle.std.proofs.lemmas.List.Kept.{AllPairs-filter}
-use Rattle.lore_base.proofs.MemberLaws.{Contains-filter, unfiltered}
-use Rattle.lore_base.specs.Walks.{edge_cmp}
 use Rattle.lore_base.specs.Databases.{AreAscendingEdges}
 use Rattle.lore_base.specs.ChangeSets.{AreEdgesThen, IsOverlay}
 use Rattle.oem_graph.specs.Types.{Edge, Changes}
 use Rattle.oem_graph.specs.inside.EdgeTests.{is_listed, AreFresh, AreLost}
 use Rattle.oem_graph.specs.inside.Layers.{layered}
-use Rattle.oem_graph.proofs.EdgeLaws.{edge_same}
 use Rattle.oem_graph.proofs.SearchLaws.{listed, unlisted}
 use Rattle.oem_graph.proofs.LayerLaws.{ascend-layered, members-layered}
 

@@ -1,29 +1,29 @@
 -- Plans: what they keep, and what they lead to.
-use Rattle.std.proofs.Common.{◌≡◌, ◌⊎◌, ◌↔◌, ℕ, ◌+◌, ◌<◌, ◌≤◌, not, Less, List, [], ◌∷◌, length, get_or, map, All, Contains, refl, sym, ap, ◌∙◌, inl, inr, subst, arith}
-use Rattle.std.proofs.lemmas.List.Elements.{Contains-get_or}
+use Rattle.std.proofs.Common.{◌≡◌, ◌⊎◌, ◌↔◌, ℕ, ◌+◌, ◌<◌, ◌≤◌, not, Less, List, [], length, get_or, map, All, Contains, sym, ap, ◌∙◌, inl, inr, subst, arith}
+use Rattle.std.proofs.lemmas.List.Elements.{Contains-get_or, All-contains}
 use Rattle.std.proofs.lemmas.List.Kept.{AllPairs-filter}
-use Rattle.std.specs.List.{filter}
 use Rattle.list_laws.proofs.MemberLaws.{none_in}
 use Rattle.slab.specs.Slab.{Slab}
 use Rattle.lore_base.specs.Names.{IsNameTable}
 use Rattle.lore_base.specs.Walks.{edge_cmp}
 use Rattle.lore_base.specs.Databases.{OemGraph, IsWellFormed, AreAscendingObjects, AreAscendingEdges, new_graph}
-use Rattle.lore_base.specs.ChangeSets.{NamesThen, FitsGraph, AreDead, IsGraphAfter}
+use Rattle.lore_base.specs.ChangeSets.{NamesThen, FitsGraph, AreDead, AreEdgesThen, IsGraphAfter}
+use Rattle.lore_base.specs.Deltas.{ListsOnlyIn, IsDelta}
 use Rattle.lore_base.proofs.ListLaws.{AllPairs-unique}
 use Rattle.lore_base.proofs.MemberLaws.{Contains-none}
 use Rattle.edge_lists.specs.Objects.{object_of}
-use Rattle.edge_lists.specs.Records.{HasEdge}
 use Rattle.edge_lists.specs.Commits.{ArePlaces}
 use Rattle.edge_lists.specs.Views.{edges_of}
-use Rattle.edge_lists.proofs.ViewLaws.{edges_ascend}
+use Rattle.edge_lists.proofs.ViewLaws.{edges_lie, edges_ascend}
 use Rattle.oem_graph.specs.Types.{Oid, Edge, Value, Changes, EdgeRecord, ObjectRecord}
 use Rattle.oem_graph.specs.Graphs.{IsIndexable, graph_from}
 use Rattle.oem_graph.specs.Plans.{PlannedGraph, with_objects, put_edges, graph_then}
-use Rattle.oem_graph.specs.inside.EdgeTests.{AreFound}
 use Rattle.oem_graph.specs.inside.Layers.{layered, staying}
-use Rattle.oem_graph.specs.inside.Left.{AreAscendingOids, is_among, not_dead, ListsGiven, AreGone, edges_left}
+use Rattle.oem_graph.specs.inside.Left.{AreAscendingOids, is_among, not_dead, ListsGiven}
 use Rattle.oem_graph.specs.inside.Linked.{AreLists}
-use Rattle.oem_graph.specs.inside.Planned.{IsPlan, IsRead}
+use Rattle.oem_graph.specs.inside.Planned.{IsPlan, IsRead, ArePlannedEdges}
+use Rattle.oem_graph.specs.inside.Differing.{AreOnlyIn, AreDiffering, AreGoneObjects}
+use Rattle.oem_graph.proofs.DeltaLaws.{same-objects, objects-gone, objects-come, edges-gone, edges-come}
 use Rattle.oem_graph.proofs.AfterLaws.{given-ascends, given-lives, graph-after, edges-after}
 use Rattle.oem_graph.proofs.FoundLaws.{found-lost, found-fresh}
 use Rattle.oem_graph.proofs.GivenLaws.{ascend-with_objects, members-with_objects}
@@ -57,11 +57,11 @@ all-come added ascend =
       λ at. (members-put_edges [] added edge).1 (inr at),
     ))
 
-pub whole-is : (changes : Changes) (next : ℕ) → IsIndexable (graph_from changes next) → (plan : PlannedGraph) → plan.names ≡ changes.named → plan.given ≡ changes.made → plan.come ≡ changes.added
+pub whole-is : (changes : Changes) (next : ℕ) → IsIndexable (graph_from changes next) → (plan : PlannedGraph) → plan.names ≡ changes.named → plan.delta.objects_come ≡ changes.made → plan.delta.edges_come ≡ changes.added
     → plan.next ≡ next → graph_then new_graph plan ≡ graph_from changes next
 whole-is changes next leads plan names given come same_next =
-    let objects : with_objects [] plan.given ≡ changes.made = ap (with_objects []) given ∙ all-given changes.made leads.ordered.objects_ascend in
-    let edges : put_edges [] plan.come ≡ changes.added = ap (put_edges []) come ∙ all-come changes.added leads.ordered.edges_ascend in
+    let objects : with_objects [] plan.delta.objects_come ≡ changes.made = ap (with_objects []) given ∙ all-given changes.made leads.ordered.objects_ascend in
+    let edges : put_edges [] plan.delta.edges_come ≡ changes.added = ap (put_edges []) come ∙ all-come changes.added leads.ordered.edges_ascend in
     λ i. record { names = names i; objects = objects i; edges = edges i; next = same_next i }
 
 pub plan-whole : (changes : Changes) (next : ℕ) → IsIndexable (graph_from changes next) → (dead : List Oid) (given : List (Oid × Value)) (gone come : List Edge) (by_child keys : List ℕ) (room : ℕ)
@@ -86,44 +86,87 @@ module _ (names : List (List ℕ × Oid)) (objects : List ObjectRecord) (records
   module _ (formed : IsWellFormed (record { names = names; objects = map object_of objects; edges = edges_of records; next = next }))
       (fits : FitsGraph (record { names = names; objects = map object_of objects; edges = edges_of records; next = next }) changes)
       (dead : List Oid) (are : AreDead (record { names = names; objects = map object_of objects; edges = edges_of records; next = next }) changes dead)
-      (lost lost_absent fresh_there fresh gone come : List Edge) (removed : AreFound records changes.removed lost lost_absent) (added : AreFound records changes.added fresh_there fresh)
-      (goes : AreGone records lost dead gone) (comes : come ≡ edges_left dead fresh) (given : List (Oid × Value)) (lists : ListsGiven changes dead given) where
-    pub prepared : (plan : PlannedGraph) → IsNameTable plan.names → ((entry : List ℕ × Oid) → Contains plan.names entry ↔ NamesThen names changes entry)
-        → plan.dead ≡ dead → plan.given ≡ given → plan.gone ≡ gone → plan.come ≡ come → plan.next ≡ next + length changes.made
-        → IsGraphAfter (record { names = names; objects = map object_of objects; edges = edges_of records; next = next }) changes
-        (graph_then (record { names = names; objects = map object_of objects; edges = edges_of records; next = next }) plan)
-    prepared plan names_ascend names_are dead_is given_is gone_is come_is next_is =
-        let kept = edges_of records in
-        let ascend = edges_ascend records in
-        let loses = found-lost records changes.removed lost lost_absent removed in
-        let new = found-fresh records changes.added fresh_there fresh added in
-        let after = edges-after kept lost fresh plan.gone plan.come dead ascend changes.added changes.removed loses new
-        (subst (λ (g : List Edge). (edge : Edge) → Contains g edge ↔ (Contains lost edge ⊎ (Contains kept edge × Contains dead edge.parent))) (sym gone_is) (going records lost gone dead goes))
-        (come_is ∙ comes) in
-        graph-after before changes formed fits dead are (layered kept lost fresh) (edges-layered kept changes lost fresh ascend loses new fits.apart) given lists
-        plan dead_is given_is names_ascend names_are after.1 after.0 next_is
+      (gone come : List Edge) (by_child keys : List ℕ) (room : ℕ) (edges : ArePlannedEdges records changes dead gone come by_child keys room)
+      (given objects_come : List (Oid × Value)) (lists : ListsGiven changes dead given) (differ : AreDiffering (map object_of objects) given objects_come) where
+    abbrev kept : List Edge
+    kept = edges_of records
 
-    pub plan-prepared : (by_child keys : List ℕ) (room : ℕ) → ArePlaces (length come) by_child → keys ≡ [] → length come ≤ room → IsPlan dead given gone come by_child keys room
-    plan-prepared by_child keys room places no_keys key_room =
-        let kept = edges_of records in
-        let loses = found-lost records changes.removed lost lost_absent removed in
-        let new = found-fresh records changes.added fresh_there fresh added in
-        let linked = edges-layered kept changes lost fresh (edges_ascend records) loses new fits.apart in
-        record {
-          dead_ascend = are.ascend;
-          given_ascend = given-ascends before changes formed fits dead are (layered kept lost fresh) linked given lists;
-          given_live = given-lives before changes formed fits dead are (layered kept lost fresh) linked given lists;
-          gone_ascend = goes.ascend;
-          come_ascend = subst AreAscendingEdges (sym comes) (AllPairs-filter (λ a b. edge_cmp a b ≡ Less) (λ (e : Edge). not (is_among dead e.parent)) fresh added.absent_ascend);
-          apart = λ k d lt goes_too.
-              let edge = get_or come k d in
-              let there = (members-edges_left dead fresh edge).0 (subst (λ (l : List Edge). Contains l edge) comes (Contains-get_or come k d lt)) in
-              let absent = ((added.absent_exact edge).0 there.0).1 in
-              absent (elim ((goes.exact edge).0 goes_too) [ inl loses_it ↦ ((removed.there_exact edge).0 loses_it).1 | inr leaves ↦ leaves.0 ]);
-          places = places;
-          no_keys = no_keys;
-          key_room = key_room;
-        }
+    linked : AreEdgesThen kept changes (layered kept edges.lost edges.fresh)
+    linked = edges-layered kept changes edges.lost edges.fresh (edges_ascend records) (found-lost records changes.removed edges.lost edges.lost_absent edges.removed)
+        (found-fresh records changes.added edges.fresh_there edges.fresh edges.added) fits.apart
+
+    given_ascends : AreAscendingObjects given
+    given_ascends = given-ascends before changes formed fits dead are (layered kept edges.lost edges.fresh) linked given lists
+
+    given_lives : All (λ object. ¬ Contains dead object.0) given
+    given_lives = given-lives before changes formed fits dead are (layered kept edges.lost edges.fresh) linked given lists
+
+    there : (edge : Edge) → Contains gone edge → Contains kept edge
+    there edge at = (edges_lie records edge).1 (elim ((edges.goes.exact edge).0 at) [ inl loses ↦ ((edges.removed.there_exact edge).0 loses).1 | inr leaves ↦ leaves.0 ])
+
+    new : (edge : Edge) → Contains come edge → Contains kept edge → ⊥
+    new edge at old =
+        let fresh = ((members-edges_left dead edges.fresh edge).0 (subst (λ (l : List Edge). Contains l edge) edges.comes at)).0 in
+        ((edges.added.absent_exact edge).0 fresh).1 ((edges_lie records edge).0 old)
+
+    apart : All (λ edge. ¬ Contains gone edge) come
+    apart k d lt at = new (get_or come k d) (Contains-get_or come k d lt) (there (get_or come k d) at)
+
+    pub plan-prepared : IsPlan dead objects_come gone come by_child keys room
+    plan-prepared = record {
+      dead_ascend = are.ascend;
+      given_ascend = differ.ascend given_ascends;
+      given_live = λ k d lt. All-contains (λ (o : Oid × Value). ¬ Contains dead o.0) given (get_or objects_come k d) given_lives
+          (differ.exact (get_or objects_come k d) (Contains-get_or objects_come k d lt)).0;
+      gone_ascend = edges.goes.ascend;
+      come_ascend = subst AreAscendingEdges (sym edges.comes) (AllPairs-filter (λ a b. edge_cmp a b ≡ Less) (λ (e : Edge). not (is_among dead e.parent)) edges.fresh edges.added.absent_ascend);
+      apart = apart;
+      places = edges.places;
+      no_keys = edges.no_keys;
+      key_room = edges.key_room;
+    }
+
+    module _ (plan : PlannedGraph) (names_ascend : IsNameTable plan.names) (dead_is : plan.dead ≡ dead) (given_is : plan.delta.objects_come ≡ objects_come)
+        (gone_is : plan.delta.edges_gone ≡ gone) (come_is : plan.delta.edges_come ≡ come) where
+      pub prepared : ((entry : List ℕ × Oid) → Contains plan.names entry ↔ NamesThen names changes entry) → plan.next ≡ next + length changes.made
+          → IsGraphAfter (record { names = names; objects = map object_of objects; edges = edges_of records; next = next }) changes
+          (graph_then (record { names = names; objects = map object_of objects; edges = edges_of records; next = next }) plan)
+      prepared names_are next_is =
+          let after = edges-after kept edges.lost edges.fresh plan.delta.edges_gone plan.delta.edges_come dead (edges_ascend records) changes.added changes.removed
+          (found-lost records changes.removed edges.lost edges.lost_absent edges.removed) (found-fresh records changes.added edges.fresh_there edges.fresh edges.added)
+          (subst (λ (g : List Edge). (edge : Edge) → Contains g edge ↔ (Contains edges.lost edge ⊎ (Contains kept edge × Contains dead edge.parent))) (sym gone_is) (going records edges.lost gone dead edges.goes))
+          (come_is ∙ edges.comes) in
+          graph-after before changes formed fits dead are (layered kept edges.lost edges.fresh) linked given lists
+          plan dead_is (ap (with_objects (not_dead dead (map object_of objects))) given_is
+          ∙ sym (same-objects (map object_of objects) dead given objects_come formed.ordered.objects_ascend given_ascends given_lives differ))
+          names_ascend names_are after.1 after.0 next_is
+
+      pub delta-is : AreOnlyIn names plan.names plan.delta.names_gone → AreOnlyIn plan.names names plan.delta.names_come
+          → AreGoneObjects (map object_of objects) dead objects_come plan.delta.objects_gone
+          → IsDelta (record { names = names; objects = map object_of objects; edges = edges_of records; next = next })
+          (graph_then (record { names = names; objects = map object_of objects; edges = edges_of records; next = next }) plan) plan.delta
+      delta-is lost_names new_names goes = record {
+        names_gone = lost_names.exact;
+        names_come = new_names.exact;
+        objects_gone = subst (ListsOnlyIn plan.delta.objects_gone (map object_of objects)) (sym objects_are)
+            (objects-gone (map object_of objects) dead given objects_come formed.ordered.objects_ascend given_ascends given_lives differ plan.delta.objects_gone goes);
+        objects_come = subst (λ (l : List (Oid × Value)). ListsOnlyIn plan.delta.objects_come l (map object_of objects)) (sym objects_are)
+            (subst (λ (l : List (Oid × Value)). ListsOnlyIn l (with_objects (not_dead dead (map object_of objects)) objects_come) (map object_of objects)) (sym given_is)
+            (objects-come (map object_of objects) dead given objects_come formed.ordered.objects_ascend given_ascends given_lives differ plan.delta.objects_gone goes));
+        edges_gone = subst (λ (l : List Edge). ListsOnlyIn plan.delta.edges_gone kept l) (sym edges_are)
+            (subst (λ (g : List Edge). ListsOnlyIn g kept (put_edges (staying gone kept) come)) (sym gone_is) (edges-gone kept gone come there apart));
+        edges_come = subst (λ (l : List Edge). ListsOnlyIn plan.delta.edges_come l kept) (sym edges_are)
+            (subst (λ (c : List Edge). ListsOnlyIn c (put_edges (staying gone kept) come) kept) (sym come_is) (edges-come kept gone come new));
+        names_ascend = (lost_names.table, new_names.table);
+        objects_ascend = (goes.ascend, subst AreAscendingObjects (sym given_is) (differ.ascend given_ascends));
+        edges_ascend = (subst AreAscendingEdges (sym gone_is) edges.goes.ascend, subst AreAscendingEdges (sym come_is) plan-prepared.come_ascend);
+      }
+        where
+          objects_are : with_objects (not_dead plan.dead (map object_of objects)) plan.delta.objects_come ≡ with_objects (not_dead dead (map object_of objects)) objects_come
+          objects_are = λ i. with_objects (not_dead (dead_is i) (map object_of objects)) (given_is i)
+
+          edges_are : put_edges (staying plan.delta.edges_gone kept) plan.delta.edges_come ≡ put_edges (staying gone kept) come
+          edges_are = λ i. put_edges (staying (gone_is i) kept) (come_is i)
 
 -- ---- readers of what a plan leads to
 pub read-then : (objects seen : List ObjectRecord) (records : Slab EdgeRecord) (dead dead_seen : List Oid) (given given_seen : List (Oid × Value)) (gone gone_seen come come_seen : List Edge)

@@ -1,9 +1,8 @@
 -- Edges put among ascending ones, and which of them ascend.
-use Rattle.std.proofs.Common.{◌≡◌, ℕ, ◌+◌, ◌<◌, ◌↔◌, ◌⊎◌, Bool, true, false, cond, inl, inr, Less, Equal, Greater, List, [], ◌∷◌, length, get_or, All, AllPairs, Contains, refl, sym, ap, ◌∙◌, subst, arith}
+use Rattle.std.proofs.Common.{◌≡◌, ◌+◌, ◌↔◌, ◌⊎◌, true, false, cond, inl, inr, Less, Equal, Greater, List, [], ◌∷◌, length, Contains, refl, sym, ap, ◌∙◌, subst, arith}
 use Rattle.std.specs.declared.cmp.Ordering.{Ordering}
 use Rattle.std.specs.Ordering.{is_lt, ordering_reverse}
 use Rattle.std.proofs.lemmas.Bool.{true≢false}
-use Rattle.std.proofs.lemmas.List.Elements.{Contains-get_or, All-contains}
 use Rattle.lore_base.specs.Walks.{edge_cmp}
 use Rattle.lore_base.specs.Databases.{AreAscendingEdges}
 use Rattle.lore_base.proofs.ListLaws.{AllPairs-tail, AllPairs-head}
@@ -12,7 +11,7 @@ use Rattle.oem_graph.specs.Types.{Edge}
 use Rattle.oem_graph.specs.Plans.{put_edge, put_edges}
 use Rattle.oem_graph.proofs.EdgeLaws.{edge_cmp_total, equal_edges, ascend-one}
 use Rattle.oem_graph.proofs.SearchLaws.{cmp_self}
-use Rattle.oem_graph.proofs.LayerLaws.{ascend-cons, same-edges, members-layered, ascend-layered, members-staying, ascend-staying}
+use Rattle.oem_graph.proofs.LayerLaws.{ascend-cons, same-edges, members-layered, ascend-layered, members-staying}
 use Rattle.oem_graph.specs.inside.Layers.{staying, layered}
 
 lt_less : (o : Ordering) → is_lt o ≡ true → o ≡ Less

@@ -1,5 +1,5 @@
 -- What readers of a graph see: an object's edges, and its value.
-use Rattle.std.proofs.Common.{◌≡◌, ◌⊎◌, ◌↔◌, ℕ, zero, suc, ◌<◌, ◌==◌, ◌++◌, Less, Some, Option, None, List, [], ◌∷◌, Bool, true, false, cond, map, length, get_or, Contains, sym, ap, ◌∙◌, inl, inr, refl, subst, arith}
+use Rattle.std.proofs.Common.{◌≡◌, ◌⊎◌, ◌↔◌, ℕ, zero, suc, ◌<◌, ◌==◌, ◌++◌, Less, Some, Option, None, List, [], ◌∷◌, Bool, true, false, cond, map, length, get_or, Contains, sym, ap, ◌∙◌, inl, inr, refl, subst}
 use Rattle.std.specs.List.{filter, slice_get}
 use Rattle.std.specs.Option.{IfNone}
 use Rattle.std.proofs.lemmas.List.{append-nil}
@@ -10,9 +10,7 @@ use Rattle.slab.specs.Slab.{Slab}
 use Rattle.near_links.proofs.AheadLaws.{some_same}
 use Rattle.lore_base.specs.Walks.{edge_cmp, out_of}
 use Rattle.lore_base.specs.Databases.{AreAscendingObjects, IsLive}
-use Rattle.edge_lists.specs.Objects as lists
 use Rattle.edge_lists.specs.Objects.{object_of}
-use Rattle.edge_lists.specs.Records.{HasEdge}
 use Rattle.edge_lists.specs.Runs.{ListsRun}
 use Rattle.edge_lists.specs.Views.{edges_of}
 use Rattle.edge_lists.proofs.ViewLaws.{edges_lie, edges_ascend}

@@ -1,5 +1,5 @@
 -- Objects as records, where values are given to them.
-use Rattle.std.proofs.Common.{◌≡◌, ◌≢◌, ◌⊎◌, ℕ, zero, suc, ◌+◌, ◌-◌, ◌<◌, ◌≤◌, Bool, true, false, not, cond, ltb, nat_eq, nat_cmp, Less, Equal, Greater, Err, Option, Some, None, List, [], ◌∷◌, ◌++◌, length, get_or, take, drop, set, map, All, AllPairs, Contains, refl, sym, ap, ◌∙◌, inl, inr, subst, arith}
+use Rattle.std.proofs.Common.{◌≡◌, ℕ, zero, suc, ◌+◌, ◌-◌, ◌<◌, ◌≤◌, Bool, true, false, not, cond, ltb, nat_eq, nat_cmp, Less, Greater, Err, Option, Some, None, List, [], ◌∷◌, ◌++◌, length, get_or, take, drop, set, map, All, Contains, refl, sym, ap, ◌∙◌, inl, inr, subst, arith}
 use Rattle.std.specs.Bool.{OnTrue}
 use Rattle.std.specs.List.{insert, slice_get, filter}
 use Rattle.std.specs.List.Sorted.{IsBinarySearchResult, IsNonDecreasingBy}
@@ -9,13 +9,12 @@ use Rattle.std.proofs.lemmas.Cmp.{ranked}
 use Rattle.std.proofs.lemmas.List.{get_or-map, length-map, append_assoc, append-nil, take-append-le, take_all}
 use Rattle.std.proofs.lemmas.List.Edits.{length-insert, get_or-insert_below, get_or-insert_at, get_or-insert_above}
 use Rattle.std.proofs.lemmas.Option.{get_or_from_slice_get}
-use Rattle.lore_base.specs.Databases as base
 use Rattle.lore_base.proofs.ListLaws.{AllPairs-tail}
 use Rattle.oem_graph.specs.Types.{Side, Out, In, ObjectRecord}
 use Rattle.edge_lists.specs.Objects.{object_of, first_of, head_of, AreAscendingObjects, IsLive}
 use Rattle.edge_lists.proofs.ObjectLaws.{head-past, head-here, head-none}
 use Rattle.oem_graph.specs.Types.{Oid, Value}
-use Rattle.oem_graph.specs.Plans.{with_object, with_objects}
+use Rattle.oem_graph.specs.Plans.{with_object}
 use Rattle.oem_graph.specs.inside.Given.{ArePutIn, IsGap}
 use Rattle.oem_graph.specs.inside.Left.{is_among}
 use Rattle.oem_graph.proofs.GivenLaws.{with-past, with-here, with-front, with-more}

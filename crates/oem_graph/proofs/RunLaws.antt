@@ -1,13 +1,12 @@
 -- The run of edges that leave an object, among ascending edges.
-use Rattle.std.proofs.Common.{◌≡◌, ℕ, ◌<◌, ◌≤◌, Bool, true, false, nat_eq, nat_cmp, Less, ltb, leb, List, [], ◌++◌, length, get_or, Some, ◌-◌, take, drop, All, sym, ap, ◌∙◌, inl, inr, arith, length-take}
+use Rattle.std.proofs.Common.{◌≡◌, ℕ, ◌<◌, ◌≤◌, Bool, true, false, nat_eq, nat_cmp, Less, ltb, leb, List, [], ◌++◌, length, get_or, take, drop, All, sym, ap, ◌∙◌, inl, inr, arith, length-take}
 use Rattle.std.specs.declared.cmp.Ordering.{Ordering}
 use Rattle.std.specs.Ordering.{ordering_then}
-use Rattle.std.specs.List.{filter, slice_get, AllWithin, HoldsAt}
+use Rattle.std.specs.List.{filter, AllWithin, HoldsAt}
 use Rattle.std.specs.List.Sorted.{IsNonDecreasingBy, IsPartitionPoint}
 use Rattle.std.proofs.lemmas.Bool.{cases_lt}
 use Rattle.std.proofs.lemmas.Bool.Decides.{nat_tests}
 use Rattle.std.proofs.lemmas.List.{append-nil, get_or-take, take-append-drop}
-use Rattle.std.proofs.lemmas.Option.{get_or_from_slice_get}
 use Rattle.std.proofs.lemmas.List.Elements.{filter-append}
 use Rattle.list_laws.proofs.PartLaws.{filter_all, filter_none, All-take_within, All-drop_within}
 use Rattle.oem_graph.specs.Types.{Oid, Edge}

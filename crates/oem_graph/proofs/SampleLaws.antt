@@ -1,7 +1,6 @@
 -- The small graph of the tests is in order, before and after its change.
 use Rattle.std.proofs.Common.{◌≡◌, ℕ, zero, suc, ◌<◌, Less, List, [], ◌∷◌, length, get_or, All, AllPairs, Contains, refl, sym, ap, inl, inr, subst, ◌≤◌, arith}
 use Rattle.std.specs.List.Sorted.{IsStrictlySortedBy}
-use Rattle.std.proofs.lemmas.Bool.Decides.{nat_tests}
 use Rattle.lore_base.specs.Walks.{edge_cmp}
 use Rattle.lore_base.specs.Databases.{IsLive, AreAscendingObjects, AreAscendingEdges}
 use Rattle.lore_base.proofs.MemberLaws.{Contains-none, Contains-head, Contains-tail, Contains-cases}
@@ -9,8 +8,9 @@ use Rattle.list_laws.proofs.MemberLaws.{none_in}
 use Rattle.edge_lists.specs.Commits.{ArePlaces}
 use Rattle.oem_graph.specs.Types.{Oid, Value, Complex, Edge}
 use Rattle.oem_graph.specs.Graphs.{IsIndexable, HasEnds}
-use Rattle.oem_graph.specs.Plans.{graph_then}
-use Rattle.oem_graph.specs.inside.Left.{AreAscendingOids}
+use Rattle.oem_graph.specs.Plans.{PlannedGraph, graph_then, with_objects, put_edges}
+use Rattle.oem_graph.specs.inside.Layers.{staying}
+use Rattle.oem_graph.specs.inside.Left.{AreAscendingOids, not_dead}
 use Rattle.oem_graph.specs.inside.Planned.{IsPlan}
 use Rattle.oem_graph.proofs.EdgeLaws.{ascend-one}
 use Rattle.oem_graph.specs.inside.Samples.{numbered, sample, sample_objects, edges_before, edges_after}
@@ -101,8 +101,11 @@ sample-plan dead given gone come by_child keys room no_dead no_given one_goes on
       | inr none ↦ Contains-none (numbered 1 0 2) none
     ]
 
-pub sample-then : (names : List (List ℕ × Oid)) (dead : List Oid) (given : List (Oid × Value)) (gone come : List Edge) → names ≡ [] → dead ≡ [] → given ≡ [] → gone ≡ numbered 1 2 2 ∷ []
-    → come ≡ numbered 1 0 2 ∷ []
-    → graph_then (sample edges_before) (record { names = names; dead = dead; given = given; gone = gone; come = come; next = 3 }) ≡ sample edges_after
-sample-then names dead given gone come no_names no_dead no_given one_goes one_comes =
-    λ i. graph_then (sample edges_before) (record { names = no_names i; dead = no_dead i; given = no_given i; gone = one_goes i; come = one_comes i; next = 3 })
+pub sample-then : (plan : PlannedGraph) → plan.names ≡ [] → plan.dead ≡ [] → plan.delta.objects_come ≡ [] → plan.delta.edges_gone ≡ numbered 1 2 2 ∷ []
+    → plan.delta.edges_come ≡ numbered 1 0 2 ∷ [] → plan.next ≡ 3 → graph_then (sample edges_before) plan ≡ sample edges_after
+sample-then plan no_names no_dead no_given one_goes one_comes same_next = λ i. record {
+  names = no_names i;
+  objects = with_objects (not_dead (no_dead i) sample_objects) (no_given i);
+  edges = put_edges (staying (one_goes i) edges_before) (one_comes i);
+  next = same_next i;
+}

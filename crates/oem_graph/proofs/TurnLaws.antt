@@ -1,5 +1,5 @@
 -- Edges turned round, and the lists of an object with layers over them.
-use Rattle.std.proofs.Common.{◌≡◌, ◌⊎◌, ◌↔◌, ℕ, ◌<◌, ◌==◌, Bool, true, Less, Option, Some, None, nat_eq, List, [], ◌∷◌, ◌++◌, length, get_or, map, Contains, AllPairs, refl, sym, ap, ◌∙◌, inl, inr, subst, arith}
+use Rattle.std.proofs.Common.{◌≡◌, ◌↔◌, ℕ, ◌<◌, ◌==◌, true, Less, Option, Some, None, List, [], ◌++◌, length, get_or, map, Contains, refl, sym, ap, ◌∙◌, inl, inr, subst, arith}
 use Rattle.std.specs.List.{filter}
 use Rattle.std.specs.Option.{IfSome}
 use Rattle.std.proofs.lemmas.Bool.Decides.{nat_tests}

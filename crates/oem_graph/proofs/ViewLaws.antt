@@ -1,29 +1,27 @@
 -- What the lists of a graph tell of its edges: how many they are, and which objects they leave.
-use Rattle.std.proofs.Common.{◌≡◌, ◌≢◌, ◌⊎◌, ◌↔◌, ℕ, zero, suc, ◌+◌, ◌<◌, Bool, true, false, cond, Less, Equal, Greater, Option, Some, None, is_some, List, [], ◌∷◌, length, get_or, map, count_by, Contains, refl, sym, ap, ◌∙◌, inl, inr, subst, arith}
+use Rattle.std.proofs.Common.{◌≡◌, ◌⊎◌, ◌↔◌, ℕ, suc, ◌+◌, Bool, true, false, cond, Less, Equal, Greater, Option, Some, None, is_some, List, [], ◌∷◌, length, count_by, Contains, refl, sym, ap, ◌∙◌, inl, inr, subst, arith}
 use Rattle.std.specs.BTreeSet.{insert_key}
 use Rattle.std.specs.Ordering.{match_ordering}
 use Rattle.std.proofs.lemmas.Bool.{true≢false}
-use Rattle.std.proofs.lemmas.List.{length-map}
 use Rattle.std.proofs.lemmas.List.Sums.{sum_by-cons}
 use Rattle.slab.specs.Slab.{Slab, get, slab_len}
 use Rattle.near_links.specs.Links.{IsNearest}
 use Rattle.near_links.specs.Slots.{listed, LiesIn}
 use Rattle.near_links.proofs.LinkLaws.{leads_on}
-use Rattle.near_links.proofs.NearLaws.{found}
 use Rattle.near_links.proofs.AheadLaws.{none_some}
 use Rattle.near_links.proofs.SlotLaws.{members}
 use Rattle.lore_base.specs.Walks.{edge_cmp}
 use Rattle.lore_base.specs.ChangeSets.{HasChildren}
 use Rattle.lore_base.proofs.MemberLaws.{Contains-head, Contains-tail, Contains-same}
 use Rattle.edge_lists.specs.Edges.{owner_of, Precedes}
-use Rattle.edge_lists.specs.Records.{edge_in, LiesAt, HasEdge}
-use Rattle.edge_lists.specs.Objects.{head_of, AreAscendingObjects}
+use Rattle.edge_lists.specs.Records.{edge_in, HasEdge}
+use Rattle.edge_lists.specs.Objects.{head_of}
 use Rattle.edge_lists.specs.Chains.{StandsAt, AreChained}
 use Rattle.edge_lists.specs.Views.{edges_of}
 use Rattle.edge_lists.proofs.ChangeLaws.{once_at, none_waits}
 use Rattle.edge_lists.proofs.EdgeLaws.{same_edge}
 use Rattle.edge_lists.proofs.ViewLaws.{edges_lie}
-use Rattle.oem_graph.specs.Types.{Oid, Edge, Out, In, EdgeRecord, ObjectRecord}
+use Rattle.oem_graph.specs.Types.{Oid, Edge, Out, EdgeRecord, ObjectRecord}
 use Rattle.oem_graph.specs.inside.Linked.{AreLists}
 
 length-inserted : (edges : List Edge) (edge : Edge) → (Contains edges edge → ⊥) → length (insert_key edge_cmp edges edge) ≡ length edges + 1

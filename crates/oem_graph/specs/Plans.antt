@@ -1,7 +1,7 @@
 -- Plans of changes: what becomes of a graph, and which graph a plan leads to.
 use Rattle.std.specs.Prelude.{ℕ, ◌≤◌, ◌↔◌, cond, nat_eq, nat_lt, List, [], ◌∷◌, length, Contains}
 use Rattle.std.specs.Ordering.{is_lt}
-use Rattle.oem_graph.specs.Types.{Oid, Edge, Value}
+use Rattle.oem_graph.specs.Types.{Oid, Edge, Value, Delta}
 use Rattle.lore_base.specs.Walks.{edge_cmp}
 use Rattle.lore_base.specs.Databases.{OemGraph, AreAscendingEdges}
 use Rattle.lore_base.specs.Deltas.{IsOnlyIn}
@@ -35,14 +35,11 @@ put_edges edges (edge ∷ others) = put_edges (put_edge edges edge) others
 
 -- Graphs.
 
--- the names then; the objects that vanish, the values that are given, to new objects too, and the edges that go and
--- those that come; and the next number
+-- the names then; the objects that vanish; what goes and what comes; and the next number
 pub record PlannedGraph : Type 0 where
   pub names : List (List ℕ × Oid)
   pub dead : List Oid
-  pub given : List (Oid × Value)
-  pub gone : List Edge
-  pub come : List Edge
+  pub delta : Delta
   pub next : ℕ
 
 -- the objects and the edges of a graph
@@ -54,15 +51,15 @@ pub record GraphLists : Type 0 where
 abbrev pub graph_then : OemGraph → PlannedGraph → OemGraph
 graph_then before plan = record {
   names = plan.names;
-  objects = with_objects (not_dead plan.dead before.objects) plan.given;
-  edges = put_edges (staying plan.gone before.edges) plan.come;
+  objects = with_objects (not_dead plan.dead before.objects) plan.delta.objects_come;
+  edges = put_edges (staying plan.delta.edges_gone before.edges) plan.delta.edges_come;
   next = plan.next;
 }
 
 -- the graph keeps the room free that the plan needs
 pub record HasRoom (kept : RoomyGraph) (plan : PlannedGraph) : Type 0 where
-  pub objects : length plan.given ≤ kept.object_room
-  pub edges : length plan.come ≤ kept.edge_room
+  pub objects : length plan.delta.objects_come ≤ kept.object_room
+  pub edges : length plan.delta.edges_come ≤ kept.edge_room
 
 -- the edges that are lost in the second list, and those that are fresh in it, each in ascending order
 pub record AreEdgeChanges (edges then lost fresh : List Edge) : Type 0 where

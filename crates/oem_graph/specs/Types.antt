@@ -11,6 +11,7 @@ pub use Rattle.lore_base.specs.declared.operators.Op.TheVariants.{Eq, Ne, Lt, Le
 pub use Rattle.lore_base.specs.declared.paths.Pattern.{Pattern}
 pub use Rattle.lore_base.specs.declared.paths.Pattern.TheVariants.{Plain, Wild}
 pub use Rattle.lore_base.specs.declared.change_set.Changes.{Changes}
+pub use Rattle.lore_base.specs.declared.deltas.Delta.{Delta}
 pub use Rattle.lore_base.specs.declared.refusals.Refusal.{Refusal}
 pub use Rattle.lore_base.specs.declared.refusals.Refusal.TheVariants as refusals
 pub use Rattle.lore_base.specs.declared.refusals.Refusal.TheVariants.{BadToken, RealRefused, NumberRange}

@@ -7,4 +7,5 @@ pub mod Left
 pub mod Planned
 pub mod Given
 pub mod Places
+pub mod Differing
 pub mod Samples

@@ -1,18 +1,16 @@
 ghost use Rattle.std.specs.Prelude.{◌≡◌, length};
 
-use lore_base::{EdgeBuf, Names, ObjectList, OidBuf};
+use lore_base::{Delta, Names, OidBuf};
 use std::marker::Model;
 
 /// What becomes of a graph with a change, worked out by `Graph::prepare` and put in place by
-/// `Graph::commit`: the whole table of names, the objects that vanish, the values that are given, to
-/// new objects too, the edges that go and those that come, and the next number.
+/// `Graph::commit`: the whole table of names, the objects that vanish, what goes and what comes, and
+/// the next number.
 #[derive(Drop)]
 pub struct GraphPlan {
     pub(crate) names: Names,
     pub(crate) dead: OidBuf,
-    pub(crate) given: ObjectList,
-    pub(crate) gone: EdgeBuf,
-    pub(crate) come: EdgeBuf,
+    pub(crate) delta: Delta,
     pub(crate) next: u64,
     // Where the records of the edges that go may lie.
     pub(crate) likely: Vec<usize>,
@@ -32,13 +30,12 @@ impl Model for GraphPlan {
     ghost view = { λ p. record {
       names = p.names;
       dead = p.dead;
-      given = p.given;
-      gone = p.gone;
-      come = p.come;
+      delta = p.delta;
       next = p.next;
     } };
 
-    ghost invariant = { λ p. IsPlan p.dead p.given p.gone p.come p.by_child.items p.keys.items (vec_capacity p.keys) };
+    ghost invariant = { λ p. IsPlan p.dead p.delta.objects_come p.delta.edges_gone p.delta.edges_come
+        p.by_child.items p.keys.items (vec_capacity p.keys) };
 }
 
 impl GraphPlan {
@@ -47,6 +44,14 @@ impl GraphPlan {
         ensures { result.now ≡ self.now.names }
     {
         &self.names
+    }
+
+    /// What goes with the change and what comes, each list ascending: of a plan that `Graph::prepare`
+    /// made, what its graph and the one then differ in. Takes no memory.
+    pub fn delta(&self) -> &Delta
+        ensures { result.now ≡ self.now.delta }
+    {
+        &self.delta
     }
 
     /// The number of names then.

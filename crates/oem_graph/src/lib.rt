@@ -14,8 +14,10 @@ pub use graph_then::GraphThen;
 pub use linked_graph::Graph;
 
 mod dead_oids;
+mod deltas;
 mod edge_changes;
 mod edge_overlay;
+mod edge_plans;
 mod edge_runs;
 mod edge_sets;
 mod edges_then;

@@ -7,13 +7,15 @@ ghost use Rattle.lore_base.specs.Databases.{IsWellFormed, AreAscendingObjects, A
 ghost use Rattle.lore_base.specs.Databases.{IsLive, new_graph};
 ghost use Rattle.lore_base.specs.ChangeSets.{HasChildren, FitsGraph, IsOverlay, IsGraphAfter};
 ghost use Rattle.lore_base.specs.ChangeSets.{AreDead};
+ghost use Rattle.lore_base.specs.Deltas.{IsDelta};
 ghost use Rattle.oem_graph.specs.Graphs.{IsIndexable, graph_from};
 ghost use Rattle.oem_graph.specs.Plans.{graph_then, HasRoom, AreEdgeChanges};
 
+use crate::deltas::{differing, names_only_in, values_gone};
 use crate::edge_changes::{EdgeChanges, copied_edges};
 use crate::edge_overlay::Overlay;
+use crate::edge_plans::planned_edges;
 use crate::edge_sets::{sifted_set, turned_set};
-use crate::edges_then::{edges_gone, likely_keys, with_living_parents};
 use crate::graph_plan::GraphPlan;
 use crate::graph_then::GraphThen;
 use crate::object_changes::{count_objects, drop_objects, put_objects};
@@ -21,11 +23,13 @@ use crate::object_lists::value_of;
 use crate::objects_then::objects_given;
 use crate::places::places_by_child;
 use edge_lists::{
-    EdgeRecord, ObjectRecord, Side, Sifted, commit_edges, count_there, found_edges, has_list,
-    push_list,
+    EdgeRecord, ObjectRecord, Side, commit_edges, count_there, found_edges, has_list, push_list,
 };
 use index_traits::{Adjacent, ValueOf};
-use lore_base::{Changes, EdgeBuf, Names, NoMemory, OemText, Oid, OidBuf, Steps, TryCopy, Value};
+use lore_base::{
+    Changes, Delta, EdgeBuf, Names, NoMemory, ObjectList, OemText, Oid, OidBuf, Steps, TryCopy,
+    Value,
+};
 use slab::Slab;
 use std::alloc::Global;
 use std::marker::Model;
@@ -189,36 +193,36 @@ impl Graph {
         requires dead { AreDead self.now.graph changes.now dead.now }
         ensures after { IfOk result (λ plan.
             IsGraphAfter self.now.graph changes.now (graph_then self.now.graph plan)) }
+        ensures delta { IfOk result (λ plan.
+            IsDelta self.now.graph (graph_then self.now.graph plan) plan.delta) }
     {
         let alloc = *self.objects.allocator();
         let (objects, records) = (self.objects.as_slice(), &self.records);
         let oids = dead.as_slice();
         let names = self.names.changed_by(changes)?;
         let given = objects_given(alloc, changes, oids)?;
-        let removed = sifted_set(alloc, objects, records, changes.removed.as_slice())?;
-        let Sifted {
-            there: lost,
-            keys,
-            ..
-        } = removed;
-        let added = sifted_set(alloc, objects, records, changes.added.as_slice())?;
-        let come = with_living_parents(alloc, added.absent, oids)?;
-        let lost_too = copied_edges(alloc, lost.as_slice())?;
-        let gone = edges_gone(alloc, objects, records, lost_too, oids)?;
-        let likely = likely_keys(alloc, lost.as_slice(), keys.as_slice(), gone.as_slice())?;
-        let by_child = places_by_child(alloc, come.as_slice())?;
-        let keys = Vec::with_capacity(alloc, come.len())?;
+        let objects_come = differing(alloc, objects, given)?;
+        let edges = planned_edges(alloc, objects, records, changes, oids)?;
         let dead_too = dead.try_copy(alloc)?;
+        let names_gone = names_only_in(alloc, &self.names, &names)?;
+        let names_come = names_only_in(alloc, &names, &self.names)?;
+        let objects_gone = values_gone(alloc, objects, oids, objects_come.as_slice())?;
+        let delta = Delta {
+            names_gone,
+            names_come,
+            objects_gone,
+            objects_come,
+            edges_gone: edges.gone,
+            edges_come: edges.come,
+        };
         Ok(GraphPlan {
             names,
             dead: dead_too,
-            given,
-            gone,
-            come,
+            delta,
             next: self.next + changes.made.len() as u64,
-            likely,
-            by_child,
-            keys,
+            likely: edges.likely,
+            by_child: edges.by_child,
+            keys: edges.keys,
         })
     }
 
@@ -229,7 +233,7 @@ impl Graph {
         count_objects(
             self.objects.as_slice(),
             plan.dead.as_slice(),
-            plan.given.as_slice(),
+            plan.delta.objects_come.as_slice(),
         )
     }
 
@@ -240,10 +244,10 @@ impl Graph {
         let gone = count_there(
             self.objects.as_slice(),
             &self.records,
-            plan.gone.as_slice(),
+            plan.delta.edges_gone.as_slice(),
             plan.likely.as_slice(),
         );
-        self.records.len() - gone + plan.come.as_slice().len()
+        self.records.len() - gone + plan.delta.edges_come.as_slice().len()
     }
 
     /// The edges that the plan takes away and those that it brings, each in ascending order. No
@@ -258,10 +262,10 @@ impl Graph {
             alloc,
             self.objects.as_slice(),
             &self.records,
-            plan.gone.as_slice(),
+            plan.delta.edges_gone.as_slice(),
             plan.likely.as_slice(),
         )?;
-        let fresh = copied_edges(alloc, plan.come.as_slice())?;
+        let fresh = copied_edges(alloc, plan.delta.edges_come.as_slice())?;
         Ok(EdgeChanges { lost, fresh })
     }
 
@@ -277,9 +281,9 @@ impl Graph {
             objects: self.objects.as_slice(),
             records: &self.records,
             dead: plan.dead.as_slice(),
-            given: plan.given.as_slice(),
-            gone: plan.gone.as_slice(),
-            come: plan.come.as_slice(),
+            given: plan.delta.objects_come.as_slice(),
+            gone: plan.delta.edges_gone.as_slice(),
+            come: plan.delta.edges_come.as_slice(),
         }
     }
 
@@ -289,8 +293,8 @@ impl Graph {
         ensures room { OnOk result (HasRoom self.new plan.now) }
         ensures same { self.new.graph ≡ self.old.graph }
     {
-        self.objects.reserve(plan.given.len())?;
-        self.records.reserve(plan.come.len())?;
+        self.objects.reserve(plan.delta.objects_come.len())?;
+        self.records.reserve(plan.delta.edges_come.len())?;
         Ok(())
     }
 
@@ -304,26 +308,30 @@ impl Graph {
         let GraphPlan {
             names,
             dead,
-            given,
-            gone,
-            come,
+            delta,
             next,
             likely,
             by_child,
             mut keys,
         } = plan;
+        let Delta {
+            objects_come,
+            edges_gone,
+            edges_come,
+            ..
+        } = delta;
         self.names = names;
         self.next = next;
-        put_objects(&mut self.objects, given);
+        put_objects(&mut self.objects, objects_come);
         // Told of its capacity, a slab has room for what it holds.
         let _capacity = self.records.capacity();
         commit_edges(
             self.objects.as_mut_slice(),
             &mut self.records,
-            come.as_slice(),
+            edges_come.as_slice(),
             &mut keys,
             by_child.as_slice(),
-            gone.as_slice(),
+            edges_gone.as_slice(),
             likely.as_slice(),
         );
         drop_objects(&mut self.objects, dead.as_slice());
@@ -367,9 +375,14 @@ fn whole_plan(alloc: Global, changes: &Changes, next: u64) -> Result<GraphPlan, 
     Ok(GraphPlan {
         names,
         dead: OidBuf::new(alloc),
-        given,
-        gone: EdgeBuf::new(alloc),
-        come,
+        delta: Delta {
+            names_gone: Names::new(alloc),
+            names_come: Names::new(alloc),
+            objects_gone: ObjectList::new(alloc),
+            objects_come: given,
+            edges_gone: EdgeBuf::new(alloc),
+            edges_come: come,
+        },
         next,
         likely: Vec::new(alloc),
         by_child,

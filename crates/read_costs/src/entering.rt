@@ -8,8 +8,7 @@ use lore_base::{EdgeBuf, NoMemory, Oid, Steps};
 use std::alloc::Global;
 use std::sync::ledger::Ledger;
 
-/// The edges that enter these objects, those of one object together, in the order of the objects.
-/// Each object is read once.
+/// The edges that enter these objects, in any order. Each object is read once.
 pub fn entering_edges<K: Links, L: Ledger>(
     alloc: Global,
     links: &K,

@@ -1,5 +1,5 @@
 -- Which items of an ascending list are told by their comparisons, and what stays of a list without them.
-use Rattle.std.proofs.Common.{◌≡◌, ℕ, ◌<◌, ◌↔◌, true, false, not, Less, Equal, Greater, Err, List, [], ◌∷◌, length, get_or, Contains, refl, sym, ap, ◌∙◌, inl, inr, arith}
+use Rattle.std.proofs.Common.{◌≡◌, ℕ, ◌<◌, ◌↔◌, true, false, not, Less, Equal, Greater, Err, List, length, get_or, Contains, refl, sym, ap, ◌∙◌, inl, inr, arith}
 use Rattle.std.specs.declared.cmp.Ordering.{Ordering}
 use Rattle.std.specs.Cmp.{IsTotalOrder}
 use Rattle.std.specs.Ordering.{is_eq, ordering_index, ordering_reverse}
@@ -22,7 +22,7 @@ module _ {T : Type 0} (cmp : T → T → Ordering) (total : IsTotalOrder cmp) wh
   pub behind : (a b : T) → cmp a b ≡ Less → cmp b a ≡ Greater
   behind a b less = total.antisymm b a ∙ ap ordering_reverse less
 
-  comparisons_rise : (items : List T) → Ascends cmp items → (x : T) → IsNonDecreasingBy (λ item. ordering_index (cmp item x)) items
+  pub comparisons_rise : (items : List T) → Ascends cmp items → (x : T) → IsNonDecreasingBy (λ item. ordering_index (cmp item x)) items
   comparisons_rise items ascend x i j d le lt = elim (cases_lt i j) [
     | inl before ↦ comparison_rises cmp total (get_or items i d) (get_or items j d) x (ascend i j d before lt)
     | inr ge ↦ let same : i ≡ j = omega arith in omega (arith, ap (λ k. ordering_index (cmp (get_or items k d) x)) same)
@@ -49,7 +49,7 @@ module _ {T : Type 0} (cmp : T → T → Ordering) (total : IsTotalOrder cmp) wh
         Contains-same items any.1 item same (any.0, any.2, any.3)
 
     -- what stays is kept and does not go
-    stays : (gone items : List T) (item : T) → Contains (staying cmp gone items) item ↔ (Contains items item × (Contains gone item → ⊥))
+    pub stays : (gone items : List T) (item : T) → Contains (staying cmp gone items) item ↔ (Contains items item × (Contains gone item → ⊥))
     stays gone items item = (
       λ at. (
           let passed = unfiltered (λ other. not (is_listed cmp gone other)) items item at in
@@ -59,23 +59,6 @@ module _ {T : Type 0} (cmp : T → T → Ordering) (total : IsTotalOrder cmp) wh
         | false ↦ λ no. Contains-filter (λ other. not (is_listed cmp gone other)) items item both.0 (ap not no)
       ] refl,
     )
-
-    -- the same of lists that are known by equations
-    pub stays_of : (gone items stay kept : List T) → stay ≡ staying cmp gone items → items ≡ kept
-        → (item : T) → Contains stay item ↔ (Contains kept item × (Contains gone item → ⊥))
-    stays_of gone items stay kept is same item = rw (is, ← same) (stays gone items item)
-
-  -- where nothing goes all stay
-  staying-nil : (items : List T) → staying cmp [] items ≡ items
-  staying-nil [] = refl
-  staying-nil (item ∷ items) = ap (λ (l : List T). item ∷ l) (staying-nil items)
-
-  nothing : (items : List T) → length items ≡ 0 → items ≡ []
-  nothing [] none = refl
-  nothing (item ∷ items) none = absurd (omega (arith, none))
-
-  pub staying-all : (gone items : List T) → length gone ≡ 0 → items ≡ staying cmp gone items
-  staying-all gone items none = sym (ap (λ (l : List T). staying cmp l items) (nothing gone none) ∙ staying-nil items)
 
   pub staying-ascends : (gone items : List T) → Ascends cmp items → Ascends cmp (staying cmp gone items)
   staying-ascends gone items ascend = AllPairs-filter (λ a b. cmp a b ≡ Less) (λ item. not (is_listed cmp gone item)) items ascend

@@ -1,4 +1,5 @@
 -- Definitions that no public contract cites.
 pub mod Joined
 pub mod Listed
+pub mod Single
 pub mod Spares

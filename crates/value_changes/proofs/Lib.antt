@@ -5,3 +5,4 @@ pub mod MovingLaws
 pub mod TakenLaws
 pub mod StayLaws
 pub mod ChangeLaws
+pub mod EnteredLaws

@@ -1,3 +1,4 @@
 pub mod Types
 pub mod inside
 pub mod EntryChanges
+pub mod Reads

@@ -7,6 +7,7 @@ pub use differences::{EntryChanges, GraphChanges, entry_changes};
 
 mod bisection;
 mod differences;
+mod entered;
 mod entries;
 mod pairs;
 mod touched;

@@ -88,7 +88,7 @@ fn add_pairs(pairs: &mut PairList, edges: &[Edge]) -> Result<(), NoMemory>
 }
 
 // The edges that aren't lost.
-fn kept_edges(alloc: Global, edges: &[Edge], lost: &[Edge]) -> Result<EdgeBuf, NoMemory>
+pub(crate) fn kept_edges(alloc: Global, edges: &[Edge], lost: &[Edge]) -> Result<EdgeBuf, NoMemory>
     requires { Ascends edge_cmp lost.now }
     ensures { IfOk result (λ kept. AreKept edges.now lost.now kept) }
 {

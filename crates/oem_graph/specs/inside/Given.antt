@@ -1,5 +1,5 @@
 -- Objects whose values are given, and objects that are taken away.
-use Rattle.std.specs.Prelude.{◌≡◌, ◌≢◌, ◌<◌, ◌≤◌, ℕ, not, List, filter, length, map, slice_index_or}
+use Rattle.std.specs.Prelude.{◌≡◌, ◌<◌, ◌≤◌, ℕ, not, List, filter, length, map, slice_index_or}
 use Rattle.oem_graph.specs.Types.{Oid, Value}
 use Rattle.oem_graph.specs.Types.{Side, ObjectRecord}
 use Rattle.edge_lists.specs.Objects.{object_of, head_of, AreAscendingObjects, IsLive}

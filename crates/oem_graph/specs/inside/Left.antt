@@ -1,5 +1,5 @@
 -- What is left of objects and edges where some objects are dead and others have new values.
-use Rattle.std.specs.Prelude.{◌≡◌, ◌⊎◌, ◌↔◌, ◌<◌, Bool, true, not, nat_eq, List, ◌++◌, filter, AllPairs, Contains}
+use Rattle.std.specs.Prelude.{◌≡◌, ◌⊎◌, ◌↔◌, ◌<◌, Bool, not, nat_eq, List, ◌++◌, filter, AllPairs, Contains}
 use Rattle.std.specs.List.{list_any}
 use Rattle.slab.specs.Slab.{Slab}
 use Rattle.oem_graph.specs.Types.{Oid, Edge, Value, Changes}

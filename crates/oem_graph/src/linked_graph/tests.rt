@@ -9,7 +9,8 @@ use crate::places::places_by_child;
 use edge_lists::{EdgeRecord, ObjectRecord, Side};
 use index_traits::Adjacent;
 use lore_base::{
-    Changes, Edge, EdgeBuf, Label, Names, NoMemory, ObjectList, Oid, OidBuf, Steps, TextList, Value,
+    Changes, Delta, Edge, EdgeBuf, Label, Names, NoMemory, ObjectList, Oid, OidBuf, Steps,
+    TextList, Value,
 };
 use slab::Slab;
 use std::alloc::Global;
@@ -77,9 +78,14 @@ fn planned(alloc: Global) -> Result<GraphPlan, NoMemory>
     Ok(GraphPlan {
         names: Names::new(alloc),
         dead: OidBuf::new(alloc),
-        given: ObjectList::new(alloc),
-        gone,
-        come,
+        delta: Delta {
+            names_gone: Names::new(alloc),
+            names_come: Names::new(alloc),
+            objects_gone: ObjectList::new(alloc),
+            objects_come: ObjectList::new(alloc),
+            edges_gone: gone,
+            edges_come: come,
+        },
         next: 3,
         likely: Vec::new(alloc),
         by_child,

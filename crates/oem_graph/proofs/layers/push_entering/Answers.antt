@@ -1,4 +1,4 @@
-use Rattle.std.proofs.Common.{◌≡◌, List, ◌++◌, map, refl, ap, ◌∙◌}
+use Rattle.std.proofs.Common.{List, ◌++◌, map, refl, ap, ◌∙◌}
 use Rattle.std.specs.List.{filter}
 use Rattle.oem_graph.specs.Types.{Edge, In}
 use Rattle.oem_graph.specs.inside.Turned.{turn, has_label}

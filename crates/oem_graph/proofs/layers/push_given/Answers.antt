@@ -1,4 +1,4 @@
-use Rattle.std.proofs.Common.{◌≡◌, List, [], ◌∷◌, ◌++◌, sym, ap, ◌∙◌}
+use Rattle.std.proofs.Common.{[], ◌∷◌, ◌++◌, sym, ap, ◌∙◌}
 use Rattle.oem_graph.specs.Types.{Edge}
 use Rattle.oem_graph.proofs.ReadLaws.{pushed-none, pushed-one}
 use Rattle.oem_graph.proofs.layers.push_given.Goals as goal

@@ -1,4 +1,4 @@
-use Rattle.std.proofs.Common.{◌≡◌, List, [], ◌++◌, sym, ap, ◌∙◌}
+use Rattle.std.proofs.Common.{List, ◌++◌, sym, ap, ◌∙◌}
 use Rattle.lore_base.specs.Walks.{out_of}
 use Rattle.oem_graph.specs.Types.{Edge}
 use Rattle.oem_graph.proofs.LayerLaws.{none_there}

@@ -1,4 +1,4 @@
-use Rattle.std.proofs.Common.{◌≡◌, sym, ◌∙◌, arith}
+use Rattle.std.proofs.Common.{sym, ◌∙◌, arith}
 use Rattle.std.proofs.lemmas.Bool.{true≢false}
 use Rattle.oem_graph.proofs.LeftLaws.{among, among-back}
 use Rattle.oem_graph.proofs.object_changes.count_new.Goals as goal

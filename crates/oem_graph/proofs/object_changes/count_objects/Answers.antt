@@ -1,6 +1,6 @@
-use Rattle.std.proofs.Common.{◌≡◌, Contains, map, length, sym, ap, ◌∙◌, subst, arith}
+use Rattle.std.proofs.Common.{◌≡◌, Contains, subst, arith}
 use Rattle.oem_graph.proofs.CountLaws.{few-left, given-step}
-use Rattle.edge_lists.specs.Objects.{object_of, IsLive}
+use Rattle.edge_lists.specs.Objects.{IsLive}
 use Rattle.oem_graph.specs.Types.{Oid, Value}
 use Rattle.oem_graph.proofs.object_changes.count_objects.Goals as goal
 

@@ -1,4 +1,4 @@
-use Rattle.std.proofs.Common.{◌≡◌, not, rules}
+use Rattle.std.proofs.Common.{not, rules}
 use Rattle.std.proofs.lemmas.Fn.{filter_same}
 use Rattle.oem_graph.specs.Types.{ObjectRecord}
 use Rattle.oem_graph.specs.inside.Left.{is_among}

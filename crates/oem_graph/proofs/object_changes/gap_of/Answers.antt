@@ -1,4 +1,4 @@
-use Rattle.std.proofs.Common.{ap, rules}
+use Rattle.std.proofs.Common.{rules}
 use Rattle.std.proofs.lemmas.List.Sorted.{answers_always}
 use Rattle.edge_lists.proofs.ObjectLaws.{found_oid}
 use Rattle.oem_graph.proofs.ReadLaws.{any_object}

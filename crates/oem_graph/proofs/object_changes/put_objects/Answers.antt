@@ -1,4 +1,4 @@
-use Rattle.std.proofs.Common.{◌≡◌, List, sym, ap, ◌∙◌, length, subst, arith}
+use Rattle.std.proofs.Common.{List, sym, ap, ◌∙◌, length, subst, arith}
 use Rattle.std.proofs.lemmas.List.{nil_from_length}
 use Rattle.oem_graph.specs.Types.{Oid, Value}
 use Rattle.oem_graph.proofs.RecordLaws.{IsPutSoFar, put-first, put-next, put-last}

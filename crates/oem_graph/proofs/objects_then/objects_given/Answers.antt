@@ -1,4 +1,4 @@
-use Rattle.std.proofs.Common.{◌≡◌, List, ◌++◌, sym, ap, ◌∙◌}
+use Rattle.std.proofs.Common.{List, ◌++◌, ap, ◌∙◌}
 use Rattle.oem_graph.specs.Types.{Oid, Value}
 use Rattle.oem_graph.specs.inside.Left.{not_dead}
 use Rattle.oem_graph.proofs.objects_then.objects_given.Goals as goal

@@ -1,4 +1,4 @@
-use Rattle.std.proofs.Common.{◌≡◌, map, ap, ◌∙◌}
+use Rattle.std.proofs.Common.{map, ap, ◌∙◌}
 use Rattle.oem_graph.specs.declared.places.Placed.{Placed}
 use Rattle.oem_graph.proofs.PlaceLaws.{places_are, placed_cmp, placed_never, placed_same}
 use Rattle.oem_graph.proofs.places.places_by_child.Goals as goal

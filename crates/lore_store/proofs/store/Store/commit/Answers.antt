@@ -5,6 +5,7 @@ use Rattle.oem_graph.specs.Graphs.{HasEnds}
 use Rattle.oem_graph.specs.Plans.{graph_then}
 use Rattle.oem_graph.proofs.GraphLaws.{linked_ends}
 use Rattle.dataguide.specs.Deltas.{PlannedGuide, IsReady}
+use Rattle.lore_store.specs.declared.indexes.Indexes.{Indexes}
 use Rattle.lore_store.specs.Stores.{RoomyDatabase, PlannedDatabase, guide_then}
 use Rattle.lore_store.proofs.IndexLaws.{fits_indexes}
 use Rattle.lore_store.proofs.CommitLaws.{leads_inside, kept_guide, stored_then}
@@ -22,10 +23,11 @@ commit-requires-clause-leads c =
       few_edges = omega (arith, edges, c.requires.leads.valid.restorable.few_edges);
     }
 
-pub commit-requires-2-clause-fits : goal.commit-requires-2-clause-fits
-commit-requires-2-clause-fits c =
+pub commit_indexes-requires-clause-fits : goal.commit_indexes-requires-clause-fits
+commit_indexes-requires-clause-fits c =
     let leads = leads_inside _ _ _ _ c.self.view_is c.prepared.view_is c.requires.leads in
-    fits_indexes c.self.inside.graph.graph (graph_then c.self.inside.graph.graph c.prepared.inside.graph) c.self.inside.indexes c.prepared.inside.indexes
+    let indexes : Indexes = record { links = c.self.inside.links; values = c.self.inside.values } in
+    fits_indexes c.self.inside.graph.graph (graph_then c.self.inside.graph.graph c.prepared.inside.graph) indexes c.prepared.inside.indexes
     c.self.invariant.indexes leads.indexes (rooted_graph _ leads.valid) leads.valid.restorable.few_edges
 
 pub invariant_of-self : goal.invariant_of-self
@@ -34,7 +36,7 @@ invariant_of-self c =
     let leads = leads_inside _ _ _ _ c.self.view_is c.prepared.view_is c.requires.leads in
     stored_then c.self.inside.labels graph c.self.inside.limit c.self.inside.mode c.self.inside.guide _ leads _ _ _ _ c.commit_new.ensures c.commit.ensures
     (ap (guide_then c.self.inside.guide) c.in-Some.is ∙ sym c.commit-in-Some.ensures)
-    (c.commit-2.ensures graph (graph_then graph c.prepared.inside.graph) c.self.invariant.indexes leads.indexes)
+    (c.commit_indexes.ensures graph (graph_then graph c.prepared.inside.graph) c.self.invariant.indexes leads.indexes)
 
 pub invariant_of-self-in_default : goal.invariant_of-self-in_default
 invariant_of-self-in_default c =
@@ -42,7 +44,7 @@ invariant_of-self-in_default c =
     let leads = leads_inside _ _ _ _ c.self.view_is c.prepared.view_is c.requires.leads in
     stored_then c.self.inside.labels graph c.self.inside.limit c.self.inside.mode c.self.inside.guide _ leads _ _ _ _ c.commit_new.ensures c.commit.ensures
     (kept_guide c.self.inside.guide c.prepared.inside.guide c.in_default.not-Some)
-    (c.commit-2.ensures graph (graph_then graph c.prepared.inside.graph) c.self.invariant.indexes leads.indexes)
+    (c.commit_indexes.ensures graph (graph_then graph c.prepared.inside.graph) c.self.invariant.indexes leads.indexes)
 
 pub commit-requires-in-Some : goal.commit-requires-in-Some
 commit-requires-in-Some c =

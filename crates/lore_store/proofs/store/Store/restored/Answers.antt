@@ -11,8 +11,8 @@ restored-requires g c = restored_indexable (database_from c.args.restored.now) c
 pub table_of-requires : goal.table_of-requires
 table_of-requires g c = restored_labels (database_from c.args.restored.now) c.requires.sound
 
-pub build-requires-2 : goal.build-requires-2
-build-requires-2 g c = record {
+pub built_indexes-requires : goal.built_indexes-requires
+built_indexes-requires g c = record {
   rooted = rw c.in_ok-graph.ensures c.requires.sound.rooted;
   edges = sym (ap (λ (g : OemGraph). g.edges) c.in_ok-graph.ensures);
   few = c.requires.sound.few_edges;

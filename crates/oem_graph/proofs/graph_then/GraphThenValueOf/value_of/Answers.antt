@@ -1,4 +1,4 @@
-use Rattle.std.proofs.Common.{◌≡◌, Some, map, sym, ap, ◌∙◌, subst, Contains}
+use Rattle.std.proofs.Common.{Some, map, sym, ap, ◌∙◌, subst, Contains}
 use Rattle.std.proofs.lemmas.Bool.{true≢false}
 use Rattle.std.proofs.lemmas.Option.{IfSome_then}
 use Rattle.index_traits.proofs.ObjectLaws.{one_value_of}

@@ -1,8 +1,6 @@
-use Rattle.std.proofs.Common.{◌≡◌, List, length, sym, ap, ◌∙◌, refl, subst, All, arith}
+use Rattle.std.proofs.Common.{List, sym, ap, ◌∙◌, refl, subst, arith}
 use Rattle.lore_base.specs.Databases.{AreAscendingEdges}
-use Rattle.edge_lists.specs.Objects as lists
-use Rattle.edge_lists.specs.Commits.{ArePlaces}
-use Rattle.oem_graph.specs.Types.{Edge, ObjectRecord}
+use Rattle.oem_graph.specs.Types.{Edge}
 use Rattle.oem_graph.specs.Graphs.{RoomyGraph}
 use Rattle.oem_graph.specs.Plans.{PlannedGraph, graph_then}
 use Rattle.oem_graph.proofs.CommitLaws.{leads-inside, room-inside, can-commit, same-length, dropped-is, graph-then, linked-then}
@@ -11,13 +9,13 @@ use Rattle.oem_graph.proofs.linked_graph.Graph.commit.Goals as goal
 
 pub commit_edges-requires-clause-room : goal.commit_edges-requires-clause-room
 commit_edges-requires-clause-room c =
-    let plan : PlannedGraph = record { names = c.plan.inside.names; dead = c.plan.inside.dead; given = c.plan.inside.given; gone = c.plan.inside.gone; come = c.plan.inside.come; next = c.plan.inside.next } in
+    let plan : PlannedGraph = record { names = c.plan.inside.names; dead = c.plan.inside.dead; delta = c.plan.inside.delta; next = c.plan.inside.next } in
     rw c.as_slice.ensures (room-inside _ _ plan _ c.self.inside.records c.self.view_is c.plan.view_is refl c.requires.room.edges
     (omega (arith, c.capacity-capacity.ensures.holds_all, c.capacity-capacity.ensures.value)))
 
 pub commit_edges-requires-clause-parents : goal.commit_edges-requires-clause-parents
 commit_edges-requires-clause-parents c =
-    let plan : PlannedGraph = record { names = c.plan.inside.names; dead = c.plan.inside.dead; given = c.plan.inside.given; gone = c.plan.inside.gone; come = c.plan.inside.come; next = c.plan.inside.next } in
+    let plan : PlannedGraph = record { names = c.plan.inside.names; dead = c.plan.inside.dead; delta = c.plan.inside.delta; next = c.plan.inside.next } in
     let ready = can-commit c.self.inside.names c.self.inside.objects.items c.self.inside.records c.self.inside.next plan c.self.invariant.lists _ _ _ c.plan.invariant
     (leads-inside _ _ plan _ c.self.view_is c.plan.view_is c.requires.leads)
     c.put_objects.new.objects.items c.as_mut_slice.result.now c.as_slice.result.now c.put_objects.ensures c.as_mut_slice.ensures.value c.as_slice.ensures in
@@ -25,7 +23,7 @@ commit_edges-requires-clause-parents c =
 
 pub commit_edges-requires-clause-children : goal.commit_edges-requires-clause-children
 commit_edges-requires-clause-children c =
-    let plan : PlannedGraph = record { names = c.plan.inside.names; dead = c.plan.inside.dead; given = c.plan.inside.given; gone = c.plan.inside.gone; come = c.plan.inside.come; next = c.plan.inside.next } in
+    let plan : PlannedGraph = record { names = c.plan.inside.names; dead = c.plan.inside.dead; delta = c.plan.inside.delta; next = c.plan.inside.next } in
     let ready = can-commit c.self.inside.names c.self.inside.objects.items c.self.inside.records c.self.inside.next plan c.self.invariant.lists _ _ _ c.plan.invariant
     (leads-inside _ _ plan _ c.self.view_is c.plan.view_is c.requires.leads)
     c.put_objects.new.objects.items c.as_mut_slice.result.now c.as_slice.result.now c.put_objects.ensures c.as_mut_slice.ensures.value c.as_slice.ensures in
@@ -33,7 +31,7 @@ commit_edges-requires-clause-children c =
 
 pub commit_edges-requires-clause-new : goal.commit_edges-requires-clause-new
 commit_edges-requires-clause-new c =
-    let plan : PlannedGraph = record { names = c.plan.inside.names; dead = c.plan.inside.dead; given = c.plan.inside.given; gone = c.plan.inside.gone; come = c.plan.inside.come; next = c.plan.inside.next } in
+    let plan : PlannedGraph = record { names = c.plan.inside.names; dead = c.plan.inside.dead; delta = c.plan.inside.delta; next = c.plan.inside.next } in
     let ready = can-commit c.self.inside.names c.self.inside.objects.items c.self.inside.records c.self.inside.next plan c.self.invariant.lists _ _ _ c.plan.invariant
     (leads-inside _ _ plan _ c.self.view_is c.plan.view_is c.requires.leads)
     c.put_objects.new.objects.items c.as_mut_slice.result.now c.as_slice.result.now c.put_objects.ensures c.as_mut_slice.ensures.value c.as_slice.ensures in
@@ -41,7 +39,7 @@ commit_edges-requires-clause-new c =
 
 pub commit_edges-requires-clause-out : goal.commit_edges-requires-clause-out
 commit_edges-requires-clause-out c =
-    let plan : PlannedGraph = record { names = c.plan.inside.names; dead = c.plan.inside.dead; given = c.plan.inside.given; gone = c.plan.inside.gone; come = c.plan.inside.come; next = c.plan.inside.next } in
+    let plan : PlannedGraph = record { names = c.plan.inside.names; dead = c.plan.inside.dead; delta = c.plan.inside.delta; next = c.plan.inside.next } in
     let ready = can-commit c.self.inside.names c.self.inside.objects.items c.self.inside.records c.self.inside.next plan c.self.invariant.lists _ _ _ c.plan.invariant
     (leads-inside _ _ plan _ c.self.view_is c.plan.view_is c.requires.leads)
     c.put_objects.new.objects.items c.as_mut_slice.result.now c.as_slice.result.now c.put_objects.ensures c.as_mut_slice.ensures.value c.as_slice.ensures in
@@ -49,7 +47,7 @@ commit_edges-requires-clause-out c =
 
 pub commit_edges-requires-clause-entering : goal.commit_edges-requires-clause-entering
 commit_edges-requires-clause-entering c =
-    let plan : PlannedGraph = record { names = c.plan.inside.names; dead = c.plan.inside.dead; given = c.plan.inside.given; gone = c.plan.inside.gone; come = c.plan.inside.come; next = c.plan.inside.next } in
+    let plan : PlannedGraph = record { names = c.plan.inside.names; dead = c.plan.inside.dead; delta = c.plan.inside.delta; next = c.plan.inside.next } in
     let ready = can-commit c.self.inside.names c.self.inside.objects.items c.self.inside.records c.self.inside.next plan c.self.invariant.lists _ _ _ c.plan.invariant
     (leads-inside _ _ plan _ c.self.view_is c.plan.view_is c.requires.leads)
     c.put_objects.new.objects.items c.as_mut_slice.result.now c.as_slice.result.now c.put_objects.ensures c.as_mut_slice.ensures.value c.as_slice.ensures in
@@ -63,7 +61,7 @@ commit_edges-requires-clause-places c = rw (c.as_slice.ensures, c.as_slice-2.ens
 
 pub invariant_of-self : goal.invariant_of-self
 invariant_of-self c =
-    let plan : PlannedGraph = record { names = c.plan.inside.names; dead = c.plan.inside.dead; given = c.plan.inside.given; gone = c.plan.inside.gone; come = c.plan.inside.come; next = c.plan.inside.next } in
+    let plan : PlannedGraph = record { names = c.plan.inside.names; dead = c.plan.inside.dead; delta = c.plan.inside.delta; next = c.plan.inside.next } in
     let changed = rw (c.as_slice.ensures, c.as_slice-3.ensures, c.as_mut_slice.ensures.value) at c.commit_edges.ensures in
     let written = with_all c.commit_edges.new.objects c.put_objects.new.objects.items c.put_objects.new.objects.len
     (sym c.as_mut_slice.ensures.len ∙ sym (same-length _ _ c.commit_edges.ensures.objects)) in
@@ -74,7 +72,7 @@ invariant_of-self c =
 
 pub returns : goal.returns
 returns c =
-    let plan : PlannedGraph = record { names = c.plan.inside.names; dead = c.plan.inside.dead; given = c.plan.inside.given; gone = c.plan.inside.gone; come = c.plan.inside.come; next = c.plan.inside.next } in
+    let plan : PlannedGraph = record { names = c.plan.inside.names; dead = c.plan.inside.dead; delta = c.plan.inside.delta; next = c.plan.inside.next } in
     let changed = rw (c.as_slice.ensures, c.as_slice-3.ensures, c.as_mut_slice.ensures.value) at c.commit_edges.ensures in
     let written = with_all c.commit_edges.new.objects c.put_objects.new.objects.items c.put_objects.new.objects.len
     (sym c.as_mut_slice.ensures.len ∙ sym (same-length _ _ c.commit_edges.ensures.objects)) in

@@ -1,4 +1,4 @@
-use Rattle.std.proofs.Common.{length, ap, ◌∙◌, sym, subst, arith}
+use Rattle.std.proofs.Common.{length, ap, subst, arith}
 use Rattle.oem_graph.specs.Graphs.{RoomyGraph, IsIndexable}
 use Rattle.oem_graph.proofs.GraphLaws.{few-records}
 use Rattle.oem_graph.proofs.ViewLaws.{count-edges}

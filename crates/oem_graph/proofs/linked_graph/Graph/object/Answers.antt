@@ -1,10 +1,10 @@
-use Rattle.std.proofs.Common.{List, map, refl, sym, ap, ◌∙◌}
+use Rattle.std.proofs.Common.{List, map, refl, ap, ◌∙◌}
 use Rattle.std.proofs.lemmas.Option.{slice_get_read}
 use Rattle.std.specs.List.{slice_get}
 use Rattle.oem_graph.specs.Types.{Oid, Value, ObjectRecord}
 use Rattle.oem_graph.specs.Graphs.{RoomyGraph}
 use Rattle.edge_lists.specs.Objects.{object_of}
-use Rattle.oem_graph.proofs.ReadLaws.{object-at, no-object}
+use Rattle.oem_graph.proofs.ReadLaws.{object-at}
 use Rattle.oem_graph.proofs.linked_graph.Graph.object.Goals as goal
 
 pub returns : goal.returns

@@ -1,4 +1,4 @@
-use Rattle.std.proofs.Common.{length, ap, ◌∙◌, sym, subst, arith}
+use Rattle.std.proofs.Common.{length, ap, subst, arith}
 use Rattle.std.proofs.lemmas.List.{length-map}
 use Rattle.edge_lists.specs.Objects.{object_of}
 use Rattle.oem_graph.specs.Graphs.{RoomyGraph, IsIndexable}

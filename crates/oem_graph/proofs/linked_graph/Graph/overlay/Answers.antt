@@ -1,5 +1,4 @@
-use Rattle.std.proofs.Common.{List, sym, ap, ◌∙◌, subst}
-use Rattle.slab.specs.Slab.{Slab}
+use Rattle.std.proofs.Common.{List, sym, subst}
 use Rattle.edge_lists.specs.Views.{edges_of}
 use Rattle.edge_lists.proofs.ViewLaws.{edges_ascend}
 use Rattle.lore_base.specs.ChangeSets.{IsOverlay}

@@ -1,4 +1,3 @@
-use Rattle.std.proofs.Common.{◌≡◌, refl}
 use Rattle.oem_graph.proofs.GraphLaws.{linked-room, linked-moved}
 use Rattle.oem_graph.proofs.linked_graph.Graph.reserve.Goals as goal
 

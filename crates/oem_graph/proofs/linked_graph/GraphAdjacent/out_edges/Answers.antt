@@ -1,10 +1,9 @@
-use Rattle.std.proofs.Common.{◌≡◌, List, ◌++◌, length, ap, ◌∙◌, subst, arith, length-append}
+use Rattle.std.proofs.Common.{◌++◌, length, ap, ◌∙◌, subst, arith, length-append}
 use Rattle.index_traits.proofs.OutLaws.{ascend-out_of}
 use Rattle.lore_base.specs.Walks.{out_of}
 use Rattle.lore_base.specs.Databases.{AreAscendingEdges}
 use Rattle.edge_lists.specs.Views.{edges_of}
 use Rattle.edge_lists.proofs.ViewLaws.{edges_ascend}
-use Rattle.oem_graph.specs.Types.{Edge}
 use Rattle.oem_graph.specs.Graphs.{RoomyGraph}
 use Rattle.oem_graph.proofs.ReadLaws.{list-is}
 use Rattle.oem_graph.proofs.linked_graph.GraphAdjacent.out_edges.Goals as goal

@@ -1,0 +1,16 @@
+pub mod KeptLaws
+pub mod MovedLaws
+pub mod StepLaws
+pub mod OrderLaws
+pub mod ChainLaws
+pub mod WalkLaws
+pub mod FactSetLaws
+pub mod MarkLaws
+pub mod StretchLaws
+pub mod DeltaLaws
+pub mod HistoryLaws
+pub mod PlanLaws
+pub mod StartLaws
+pub mod ViewLaws
+pub mod WeightLaws
+pub mod NameFactLaws

@@ -1,0 +1,10 @@
+pub mod Types
+pub mod Faults
+pub mod Facts
+pub mod FactLaws
+pub mod Runs
+pub mod Moments
+pub mod Histories
+pub mod Plans
+pub mod Laws
+pub mod inside

@@ -1,0 +1,9 @@
+pub mod SearchLaws
+pub mod StepLaws
+pub mod FoundLaws
+pub mod SharedLaws
+pub mod EdgeLaws
+pub mod LookLaws
+pub mod ConcernLaws
+pub mod RowLaws
+pub mod MarkLaws

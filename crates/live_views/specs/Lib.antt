@@ -1,0 +1,4 @@
+pub mod Types
+pub mod Concerns
+pub mod Views
+pub mod inside

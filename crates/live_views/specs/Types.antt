@@ -1,0 +1,9 @@
+-- The declared types that definitions cite, with their variants, under one module.
+pub use Rattle.lore_base.specs.declared.edges.Oid.{Oid}
+pub use Rattle.lore_base.specs.declared.edges.Label.{Label}
+pub use Rattle.lore_base.specs.declared.edges.Edge.{Edge}
+pub use Rattle.lore_base.specs.declared.values.Value.{Value}
+pub use Rattle.lore_base.specs.declared.paths.Pattern.{Pattern}
+pub use Rattle.lore_base.specs.declared.deltas.Delta.{Delta}
+pub use Rattle.lorel_bound.specs.declared.cells.Cell.{Cell}
+pub use Rattle.lorel_trees.specs.declared.selects.Select.{Select}

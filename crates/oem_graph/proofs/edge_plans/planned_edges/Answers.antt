@@ -1,0 +1,26 @@
+use Rattle.std.proofs.Common.{◌≡◌, not, Less, List, sym, ◌∙◌, subst, arith}
+use Rattle.std.proofs.lemmas.List.Kept.{AllPairs-filter}
+use Rattle.lore_base.specs.Walks.{edge_cmp}
+use Rattle.lore_base.specs.Databases.{AreAscendingEdges}
+use Rattle.oem_graph.specs.Types.{Edge}
+use Rattle.oem_graph.specs.inside.Left.{is_among}
+use Rattle.oem_graph.proofs.edge_plans.planned_edges.Goals as goal
+
+pub places_by_child-requires : goal.places_by_child-requires
+places_by_child-requires c = subst (λ (l : List Edge). AreAscendingEdges l) (sym (c.as_slice-7.ensures ∙ c.in_ok-come.ensures))
+    (AllPairs-filter (λ a b. edge_cmp a b ≡ Less) (λ (e : Edge). not (is_among c.args.dead.now e.parent)) c.in_ok-added.added.absent c.in_ok-added.ensures.absent_ascend)
+
+pub returns : goal.returns
+returns c = record {
+  lost = c.in_ok-removed.removed.there;
+  lost_absent = c.in_ok-removed.removed.absent;
+  removed = rw c.as_slice.ensures at c.in_ok-removed.ensures;
+  fresh_there = c.in_ok-added.added.there;
+  fresh = c.in_ok-added.added.absent;
+  added = rw c.as_slice-2.ensures at c.in_ok-added.ensures;
+  goes = rw (c.in_ok-lost_too.ensures, c.as_slice-3.ensures) at c.in_ok-gone.ensures;
+  comes = c.in_ok-come.ensures;
+  places = rw c.as_slice-7.ensures at c.in_ok-by_child.ensures;
+  no_keys = c.in_ok-keys.ensures.items;
+  key_room = omega (arith, c.in_ok-keys.ensures.exact, c.len.ensures);
+}

@@ -1,0 +1,51 @@
+-- What differs between a graph and the one that a plan leads to.
+use Rattle.std.specs.Prelude.{◌≡◌, ◌⊎◌, ◌↔◌, ℕ, Bool, false, cond, nat_eq, Option, Some, None, List, [], ◌∷◌, ◌++◌, Contains}
+use Rattle.std.specs.BTreeMap.{insert_entry}
+use Rattle.oem_graph.specs.Types.{Oid, Value}
+use Rattle.lore_base.specs.Bytes.{bytes_cmp}
+use Rattle.lore_base.specs.Names.{object_of, IsNameTable}
+use Rattle.lore_base.specs.Databases.{AreAscendingObjects, IsLive}
+use Rattle.lore_base.specs.Deltas.{ListsOnlyIn}
+
+-- the object is the one that is told
+abbrev pub is_that : Option Oid → Oid → Bool
+is_that None oid = false
+is_that (Some told) oid = nat_eq told.0 oid.0
+
+-- the names with one more, unless the others have it for the same object
+abbrev pub with_only : List (List ℕ × Oid) → List (List ℕ × Oid) → List ℕ × Oid → List (List ℕ × Oid)
+with_only others only entry =
+    cond (is_that (object_of others entry.0) entry.1) only (insert_entry bytes_cmp only entry.0 entry.1)
+
+-- the names that the first table has and the second lacks, or has for another object
+pub record AreOnlyIn (names others only : List (List ℕ × Oid)) : Type 0 where
+  pub table : IsNameTable only
+  pub exact : ListsOnlyIn only names others
+
+-- those of the given values that objects don't have yet
+pub record AreDiffering (old given come : List (Oid × Value)) : Type 0 where
+  pub ascend : AreAscendingObjects given → AreAscendingObjects come
+  pub exact : (object : Oid × Value) → Contains come object → Contains given object × (¬ Contains old object)
+  pub either : (object : Oid × Value) → Contains given object → Contains come object ⊎ Contains old object
+
+-- the object is put behind those that come, unless it is there with this value
+abbrev pub IsPutUnlessThere : List (Oid × Value) → Oid × Value → List (Oid × Value) → List (Oid × Value) → Type 0
+IsPutUnlessThere old object before now =
+    (Contains old object × (now ≡ before)) ⊎ ((¬ Contains old object) × (now ≡ before ++ object ∷ []))
+
+-- the object is put behind the others with its value, where it is there
+abbrev pub IsPutWhereThere : List (Oid × Value) → Oid → List (Oid × Value) → List (Oid × Value) → Type 0
+IsPutWhereThere old oid before now =
+    ((value : Value) × Contains old (oid, value) × (now ≡ before ++ (oid, value) ∷ []))
+    ⊎ ((¬ IsLive old oid) × (now ≡ before))
+
+-- the values of those of the objects that are there
+pub record AreValuesOf (old : List (Oid × Value)) (oids : List Oid) (values : List (Oid × Value)) : Type 0 where
+  pub ascend : AreAscendingObjects values
+  pub exact : (object : Oid × Value) → Contains values object ↔ (Contains old object × Contains oids object.0)
+
+-- the objects that go, with their values: the dead, and those that come with others
+pub record AreGoneObjects (old : List (Oid × Value)) (dead : List Oid) (come gone : List (Oid × Value)) : Type 0 where
+  pub ascend : AreAscendingObjects gone
+  pub exact : (object : Oid × Value) → Contains gone object
+      ↔ (Contains old object × (Contains dead object.0 ⊎ IsLive come object.0))

@@ -1,0 +1,9 @@
+pub mod PlaceLaws
+pub mod RowLaws
+pub mod KindLaws
+pub mod LinkLaws
+pub mod FillLaws
+pub mod TransferLaws
+pub mod BuildLaws
+pub mod WalkLaws
+pub mod OneBlocks

@@ -1,0 +1,3 @@
+pub mod Types
+pub mod SetPaths
+pub mod inside
