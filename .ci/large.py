@@ -16,11 +16,12 @@ import resource
 import signal
 import subprocess
 import sys
-from math import isqrt, lcm
+from math import ceil, isqrt, lcm
 
 sys.dont_write_bytecode = True
 from generated_people import generated_cases
-from large_scripts import (EDGES, ITEMS, LABELS, LABEL_BYTES, LAST_NUMBER, LAST_SEED, LEAVES, LEVELS, MANY, MEMBERS, NAMES,
+from large_scripts import (EDGES, FACT_WEIGHT, HISTORY_WEIGHT, ITEMS, LABELS, LABEL_BYTES, LAST_MOMENT, LAST_NUMBER, LAST_SEED,
+                           LEAVES, LEVELS, MANY, MEMBERS, NAMES,
                            NODES, OBJECTS, PERSONS, ROWS, SAMPLES, SCRIPT_BYTES, START_NODES, STATEMENT_BYTES, TEXT_BYTES,
                            WORD_LABELS, Case, around, braces, doubled, doubling, dump_text, escaped, head, in_turn, labelled,
                            long_script, long_texts, longest_chain, numbered, ok, passing_set, people, quoted_label,
@@ -453,11 +454,60 @@ def script_cases():
     yield Case("a script of one byte more", script, 7, replies)
 
 
+def heaviest_case():
+    """A history that weighs exactly what it may. What goes weighs on, and what comes counts 64, and the bytes of a text beside."""
+    some = 65_000
+    left = HISTORY_WEIGHT - FACT_WEIGHT * (1 + (some + 1) + some)  # without the name, the objects and the edges
+    fits = left // (some * (FACT_WEIGHT + TEXT_BYTES))
+    left -= fits * some * (FACT_WEIGHT + TEXT_BYTES)
+    each = left // some - FACT_WEIGHT  # bytes of the text that all may have then
+    left -= some * (FACT_WEIGHT + each) + (2 * FACT_WEIGHT + TEXT_BYTES)  # and a name with an object that has the longest text
+    last = left - 2 * FACT_WEIGHT  # bytes of the text that one more may have
+    texts = [chr(97 + i) * TEXT_BYTES for i in range(fits + 1)] + ["y" * (each + 1), "z" * each]
+    moment = fits + 5  # the last: behind the texts and the one of `each`, two loads, what changes nothing, and a name less
+    full = refused("HistoryFull")
+    state, more, most = (ok(some + 1 + i, some, 2 + i) for i in range(3))
+    return Case("a history as heavy as it may be",
+                [numbered(some), "history on;", *(f'update A.a := "{text}";' for text in texts),
+                 f'load B := "{"b" * TEXT_BYTES}"; load C := "{"c" * (last + 1)}"; load C := "{"c" * last}"; load D := 1;',
+                 "update A := {}; unname B; load D := 1;",
+                 f"at 0 select X from A.a X where X = 7; at {moment} select X from A.a X where X = 7; at {moment + 1} select A;"], 1,
+                state * (2 + fits) + full * 2 + state + more + full + most + full + most + more + full
+                + rows(["&9 7"]) + rows([]) + refused("MomentRange"))
+
+
+def begun_case():
+    """A database that is too heavy for a history by one byte."""
+    left = HISTORY_WEIGHT - FACT_WEIGHT * (1 + OBJECTS + MEMBERS)  # for texts: as many of the longest as fit, which fill it
+    longest = left // TEXT_BYTES
+    groups = ceil(longest / MANY)
+    load = braces("A", [*(f"t{i % groups} {i}" for i in range(longest)), "e 7", *(["d 0"] * (MEMBERS - longest - 1))])
+    texts = [f'update A.t{i} := "{"t" * TEXT_BYTES}";' for i in range(groups)]
+    state = ok(OBJECTS, MEMBERS, groups + 3)
+    return Case("a database too heavy for a history",
+                [load, *texts, 'update A.e := "e"; history on; at 0 select A.e;'], 1,
+                state * (groups + 2) + refused("HistoryFull") + refused("NoHistory"))
+
+
+def history_cases():
+    one = ok(1, 0, 1)
+    yield Case("as many moments as there may be, and one more",
+               ["load A := 1; history on;", *(["update A := 1;\n"] * (LAST_MOMENT + 1)),
+                f"at {LAST_MOMENT} select A; at {LAST_MOMENT + 1} select A; changes 0 {LAST_MOMENT}; history off; update A := 1;"], 1,
+               one * (LAST_MOMENT + 2) + refused("HistoryFull") + rows(["&1 1"]) + refused("MomentRange") + "changes 0\n" + one * 2)
+    yield heaviest_case()
+    yield begun_case()
+    yield Case("an object that comes and goes at each moment",
+               ["load A := {}; history on;", *(["update A.b += 1;\n", "update A.b -= A.b;\n"] * 10_000),
+                f"at 1 select A.b; at 2 select A.b; at {2 * 10_000 - 1} select A.b;"], 0,
+               one * 2 + (ok(2, 1, 2) + one) * 10_000 + rows(["&2 1"]) + rows([]) + rows([f"&{10_000 + 1} 1"]))
+
+
 def cases():
     """All cases, one after another, since each may hold many megabytes."""
     for group in [row_cases, statement_cases, label_cases, name_cases, size_cases, update_cases, condition_cases, node_cases,
                   cell_cases, word_cases, path_cases, text_cases, long_label_cases, dump_cases, made_cases, generated_cases,
-                  script_cases]:
+                  history_cases, script_cases]:
         yield from group()
 
 

@@ -37,10 +37,12 @@ syntax match   loreTruth   contained "\<\%(true\|false\)\>\%(\_s*[,}]\)\@="
 syntax region  loreBraces  contained matchgroup=loreSign start="{" end="}"
       \ contains=loreComment,loreNumber,loreText,loreQuoted,loreLocal,loreMember,loreTruth,loreBraces
 syntax region  loreScript  matchgroup=loreStatement end=";"
-      \ start="\<\%(load\|name\|unname\|update\|select\|explain\|guide\|browse\|sample\|dump\|generate\)\>"
+      \ start="\<\%(load\|name\|unname\|update\|select\|explain\|guide\|browse\|sample\|dump\|generate\|at\|changes\)\>"
       \ contains=loreSign,loreNumber,loreComment,loreText,loreLocal,loreWord,loreReserved,loreFlag,loreLogic,lorePathOf,loreLabel,loreBraces
 syntax region  loreScript  matchgroup=loreStatement start="\<set\>" end=";" contains=loreStray,loreNumber,loreComment,loreMode
 syntax keyword loreMode    contained nodes plan auto top bottom guide
+syntax region  loreScript  matchgroup=loreStatement start="\<history\>" end=";" contains=loreStray,loreComment,loreKept
+syntax keyword loreKept    contained on off
 
 " The text of a dump: words of its own, of which some have a label or a name behind them.
 syntax region  loreScript  matchgroup=loreStatement start="\<restore\>" end=";"
@@ -65,6 +67,7 @@ highlight default link loreTruth     Boolean
 highlight default link loreLogic     Keyword
 highlight default link lorePathOf    Keyword
 highlight default link loreMode      Keyword
+highlight default link loreKept      Keyword
 highlight default link loreDump      Keyword
 highlight default link loreLead      Keyword
 highlight default link loreLabel     Identifier

@@ -94,6 +94,8 @@ OUTSIDE = (
      lambda program: fault_of(TOP / "bench" / "peers", "--sizes", "50", "--check", "--program", program)),
     ("a thousand random changes, against plain lists of edges",
      lambda program: fault_of(TOP / "bench" / "edges", "run", program, "1", "20", "50")),
+    ("a thousand random changes and questions about moments, against whole copies",
+     lambda program: fault_of(TOP / "bench" / "histories", "run", program, "1", "20", "50")),
 )
 
 

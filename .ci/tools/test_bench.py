@@ -73,7 +73,7 @@ class Fuzz(unittest.TestCase):
             self.assertEqual(grammar.script(seed), grammar.script(seed))
         kinds = {each.kind for seed in range(150) for each in grammar.script(seed)}
         self.assertLessEqual({"load", "name", "unname", "update", "select", "explain", "guide", "browse", "sample", "set", "dump",
-                              "restore", "generate"}, kinds)
+                              "restore", "generate", "history", "at", "changes"}, kinds)
 
     def test_blanks_and_comments_leave_the_tokens(self):
         rng = random.Random(1)

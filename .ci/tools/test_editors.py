@@ -24,8 +24,8 @@ TOKEN = re.compile(r"""
     (?P<comment>--[^\n]*) | (?P<text>"(?:[^"\\]|\\.)*") | (?P<quoted>'(?:[^'\\]|\\.)*') | (?P<pathof>path-of(?![A-Za-z0-9_%]))
   | (?P<number>-?[0-9]+(?![A-Za-z0-9_%])) | (?P<local>&[0-9]+) | (?P<word>[A-Za-z0-9_%]+)
   | (?P<sign>:=|\+=|-=|==|!=|<=|>=|[=<>?*+|@,():.\#{};])""", re.VERBOSE | re.DOTALL)
-STATEMENT_WORDS = ("load name unname update select explain guide browse sample set dump restore generate"
-                   " nodes plan auto top bottom").split()
+STATEMENT_WORDS = ("load name unname update select explain guide browse sample set dump restore generate history at changes"
+                   " nodes plan auto top bottom on off").split()
 RESERVED = "select from where and or not exists for all in like true false".split()
 FLAGS = ("true", "false")
 # The scopes of VS Code and the groups of vim of each kind of token.
@@ -38,7 +38,7 @@ SCOPES = {"comment": {"comment.line.double-dash.lore"}, "text": {"string.quoted.
 GROUPS = {"comment": {"loreComment"}, "text": {"loreText"}, "number": {"loreNumber"}, "local": {"loreLocal"},
           "flag": {"loreFlag", "loreTruth"},
           "label": {"loreLabel", "loreMember", "loreQuoted", "loreHeld", "loreEdge"}, "name": {"loreWord", "loreNamed"},
-          "keyword": {"loreStatement", "loreReserved", "loreLogic", "lorePathOf", "loreMode", "loreDump", "loreLead"},
+          "keyword": {"loreStatement", "loreReserved", "loreLogic", "lorePathOf", "loreMode", "loreKept", "loreDump", "loreLead"},
           "stray": {"loreStray"}}
 # What the examples have none of: comments everywhere, signs of one kind inside what is of another, words as labels and names.
 MORE = r"""
@@ -52,7 +52,8 @@ update A.true := false; load A := { true true, false &9 false, 'true' true, x
   true, false { true 1, a&3 true }, truer 1, b &4
   false }; select A.false where true != A.true and A.x = false;
 update A.x-=B.y; set -- how many
-  nodes 7; set plan bottom;
+  nodes 7; set plan bottom; history -- kept
+  on; at 0 select at.on from changes.history at where at.off = history; changes 0 1; history off;
 restore oem 2 next 4 nodes 7 plan top label 'a b' label select label true name Menu &1 -- a name
 object &1 {} object &2 "x -- y" object &3 true edge &1 'a b' &2 edge &1 select &2 edge &1 true &3 end;
 """
@@ -72,7 +73,7 @@ def kind_of_word(word, before, first, depth):
         return "flag"
     if depth or before[-1:] == ["."]:
         return "label"
-    if first in (None, "set"):
+    if first in (None, "set", "history"):
         return "keyword" if word in STATEMENT_WORDS else "stray"
     if first == "restore":
         if before[-1:] == ["label"] or before[-2:-1] == ["edge"]:

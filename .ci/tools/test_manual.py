@@ -29,7 +29,7 @@ SECONDS = 60
 LOAD = 'load A := { r { t "x" } };'
 ONE_SCREEN = "On one screen"
 # Statements of the page for one screen that leave the database as it is.
-LEAVES_ALL = re.compile(r"(select|explain|guide|browse|sample|dump|set plan auto|restore)\b")
+LEAVES_ALL = re.compile(r"(select|explain|guide|browse|sample|dump|set plan auto|restore|history|at|changes)\b")
 
 # What the constants of the sources, and those of the tools, stand for among the limits of the manual.
 LIMITS = {
@@ -40,6 +40,7 @@ LIMITS = {
     "ITEMS": "items of a select", "PATH_LABELS": "labels of all words in an answer", "CHUNK_BYTES": "bytes of a statement",
     "SCRIPT_BYTES": "bytes of a script", "NESTING": "levels of braces", "SAMPLE": "the number of `sample`",
     "SEED": "the seed of `generate`", "MOST_PERSONS": "the persons of `generate`", "FEWEST_PERSONS": "the persons of `generate`",
+    "MOMENTS": "the number of a moment", "HISTORY_WEIGHT": "what a history [weighs](#what-a-history-holds)",
 }
 TOOL_LIMITS = {
     "OBJECTS": "objects of a database", "EDGES": "edges", "LABELS": "different labels", "NAMES": "names",
@@ -49,9 +50,10 @@ TOOL_LIMITS = {
     "LEAVES": "leaves of all paths of a select", "ITEMS": "items of a select", "SAMPLE": "the number of `sample`",
     "WORD_LABELS": "labels of all words in an answer", "OIDS": "the number of an object",
     "PERSONS_LEAST": "the persons of `generate`", "PERSONS_MOST": "the persons of `generate`", "SEEDS": "the seed of `generate`",
+    "MOMENTS": "the number of a moment",
 }
 # Those of what the sources begin and the manual doesn't have yet.
-NOT_YET = ("MOMENTS", "HISTORY_WEIGHT", "VIEWS")
+NOT_YET = ("VIEWS",)
 ONE_MORE = ("NEXT_NUMBER", "NEXT_OID")
 
 
@@ -119,6 +121,9 @@ def slips(most):
         23: ["sample A.r 0;", "set nodes 1000000000;", "generate 1 1;"],
         24: ["restore oem 1 next 1 nodes 1 plan auto end;"],
         26: [f"set nodes {limits.NODES}; load B := {{ {chain} }};"],
+        27: ["history on;" + "update A.r.t := 1;" * (most["the number of a moment"] + 1)],
+        28: ["at 0 select A;", "changes 0 1;"],
+        29: ["history on; update A.r := 1; at 1 select A;", "history on; update A.r.t := 1; changes 1 0;"],
     }
 
 
@@ -189,7 +194,7 @@ class Pages(unittest.TestCase):
 
     def test_refusals_are_numbered_and_whole(self):
         rows = table_rows(self.text, "Refusals")
-        self.assertEqual([row[0] for row in rows], [str(number) for number in range(1, 27)])
+        self.assertEqual([row[0] for row in rows], [str(number) for number in range(1, 30)])
         for row in rows:
             self.assertEqual(len(row), 5)
             self.assertTrue(all(row))

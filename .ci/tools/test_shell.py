@@ -127,6 +127,30 @@ class Scripts(Folder):
         self.assertEqual(done.stdout.split(b"\n", 1)[1], b'3 "a"\n1 "b"\n1 7\n1 {}\nvalues 4\nvalues 0\n')
         self.assertEqual(done.returncode, 1)
 
+    def test_moments(self):
+        changed = b"load A := { t 1, t 2 };\nhistory on;\nupdate X := 5 from A.t X where X = 1;\nupdate A.t += { u 7 };\n"
+        done = self.talk(changed + b".changes\n.changes 0\n.at 0 A.t\n.at 1 X from A.t X where X = 5\n")
+        new = [b"+ object &4 {}", b"+ object &5 7", b"+ edge &1 t &4", b"+ edge &4 u &5"]
+        old = [b"- object &2 1", b"+ object &2 5"]
+        lines = done.stdout.split(b"\n")[4:]
+        self.assertEqual(lines, [*new, b"changes 4", *old, *new, b"changes 6", b"&2 1", b"&3 2", b"rows 2", b"&2 5", b"rows 1", b""])
+        self.assertEqual(done.returncode, 0)
+
+    def test_many_moments(self):
+        for count in (1, 2, 3, 4, 7, 8, 9):
+            script = b"load A := 1;\nhistory on;\n" + b"".join(b"update A := %d;\n" % number for number in range(2, count + 2))
+            done = self.talk(script + b".changes\n")
+            told = [b"- object &1 %d" % count, b"+ object &1 %d" % (count + 1), b"changes 2", b""]
+            self.assertEqual(done.stdout.split(b"\n")[-4:], told)
+
+    def test_moments_that_are_not_there(self):
+        done = self.talk(b"load A := 1;\n.changes\n.at 0 A\nhistory on;\n.changes\n.changes 1\n.at 1 A\n.at A\n.changes x\n.at 0\n")
+        self.assertEqual(done.stdout.split(b"\n")[1:], [b"refused 28 NoHistory", b"refused 28 NoHistory", b"ok objects 1 edges 0 nodes 1",
+                                                        b"changes 0", b"refused 29 MomentRange", b"refused 29 MomentRange", b""])
+        self.assertIn(b"lore-talk: the command is .at MOMENT PATH\n", done.stderr)
+        self.assertIn(b"lore-talk: the command is .changes [MOMENT]\n", done.stderr)
+        self.assertEqual(done.returncode, 1)
+
     def test_modes(self):
         script = SHOP + (b"select X.kind, X.price from Shop.bike X;\nsample Shop.bike.price 1;\n"
                          b"select path-of(P), X from Shop.#@P X where X = 900;\n")
@@ -137,6 +161,8 @@ class Scripts(Folder):
                                 {"Shop.bike.price": 900}, {"path-of(P)": ".bike.price", "X": 900}])
         self.assertEqual(self.talk(b".mode csv\n" + script).stdout.split(b"Shop")[0], b"X.kind,X.price\nroad,900\ncargo,1200\n")
         self.assertEqual(self.talk(b".mode lines\n" + script).stdout.split(b"\n")[1], b'&3 "road" | &4 900')
+        past = b"history on;\nunname Shop;\nat 0 select X.price from Shop.bike X;\n"
+        self.assertEqual(self.talk(b".mode csv\n" + SHOP + past).stdout, b"X.price\n900\n1200\n")
         self.assertEqual(self.talk(b".mode xml\n").returncode, 1)
 
     def test_read_timer_and_stop(self):
@@ -478,6 +504,7 @@ class Files(Folder):
         done = self.talk(b"load A := 1;\n.open! shop.oem\nselect Shop;\n")
         self.assertEqual((done.returncode, b"rows 1" in done.stdout), (0, True))
         self.assertIn(b"weren't saved", self.talk(b"load A := 1;\n", "shop.oem").stderr)
+        self.assertNotIn(b"weren't saved", self.talk(b"-- none;\n history on;\nchanges 0 0;\nhistory off;\n", "shop.oem").stderr)
 
 
 @NEEDS_PROGRAM
@@ -622,6 +649,14 @@ class Terminal(Folder):
     def type(self, text):
         os.write(self.there, text)
 
+    def drop(self):
+        """Ctrl-C at a prompt, until the next one is seen: one that comes before a line is waited for is noticed with another."""
+        for _ in range(SECONDS):
+            self.type(b"\x03")
+            if select.select([self.there], [], [], 1)[0]:
+                break
+        self.await_text(b"lore> ")
+
     def ended(self):
         """The status, when all that is still told was read."""
         until = time.monotonic() + SECONDS
@@ -667,8 +702,7 @@ class AtTerminal(Terminal):
     def test_interrupt_drops_what_is_typed(self):
         self.type(b"load A := \"abc;\n")
         self.await_text(b"   \"> ")
-        self.type(b"\x03")
-        self.await_text(b"lore> ")
+        self.drop()
         self.type(b"guide;\n")
         self.await_text(b"nodes 0")
         self.type(b"exit\n")

@@ -1,4 +1,4 @@
-// Blocks by backward bisimulation, by the rounds of the crate `block_rounds`: hastening rounds that look
+// Blocks by backward bisimulation, by the rounds of `block_haste` and `block_rounds`: hastening rounds that look
 // only at what changed, then whole rounds. It makes a graph and tells the blocks and the time.
 //
 //     g++ -O2 -o plain plain.cpp && ./plain SHAPE NODES [EDGES]
@@ -11,7 +11,6 @@
 #include <cstdio>
 #include <cstdlib>
 #include <cstring>
-#include <random>
 #include <tuple>
 #include <unordered_map>
 #include <vector>
@@ -146,9 +145,10 @@ int main(int argc, char** argv) {
         for (Node x = 0; x + 1 < half; x++) { add(x, 1, half - 1); add(half + x, 1, n - 1); }
         add(0, 2, half);
     } else {
-        std::mt19937 random(7);
-        for (Node x = 1; x < n; x++) add(random() % x, random() % 4, x);
-        while (edges.size() < m) add(random() % n, random() % 4, random() % n);
+        uint64_t state = 7;
+        auto below = [&state](uint64_t count) { state = state * FACTOR + 1442695040888963407ULL; return Node((state >> 33) % count); };
+        for (Node x = 1; x < n; x++) { Node parent = below(x), label = below(4); add(parent, label, x); }
+        while (edges.size() < m) { Node parent = below(n), label = below(4), node = below(n); add(parent, label, node); }
     }
     rows.resize(n); outs.resize(n); kinds.assign(n, 0); kinds[0] = 1;
     auto start = std::chrono::steady_clock::now();

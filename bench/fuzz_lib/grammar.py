@@ -9,8 +9,8 @@ OPERATORS = ("=", "!=", "<", "<=", ">", ">=", "like")
 ATOMS = ("0", "1", "2", "-1", "9", "10", '"9"', '"a"', '"10"', '"a b"', '"01"', '"-1"', '""', '"a%"', '"%1"', '"_"', '"é"', '"\\"\\n"',
          "true", "false", '"true"', "9223372036854775807", "-9223372036854775808", '"9223372036854775808"')
 MODES = ("auto", "top", "bottom", "guide")
-UNBUILT = ("history on", "history off", "at 0 select A", "changes 0 1", "blocks", "blocks select A.a", "watch V := select A",
-           "unwatch V", "show V", "history")
+UNBUILT = ("blocks", "blocks select A.a", "watch V := select A", "unwatch V", "show V", "history")
+MOMENTS = (0, 0, 1, 2, 3, 5)
 SEPARATORS = (" ", "  ", "\n", "\t", "\r\n", " -- ; ' \"\n", "--\n", " --;--\n\t")
 ALONE = frozenset("{},()")
 
@@ -258,6 +258,9 @@ class Maker:
             (2, lambda: ["dump"]),
             (0.6, self.generated),
             (0.4, self.restored),
+            (3, lambda: ["history", rng.choice(("on", "on", "off"))]),
+            (5, lambda: ["at", str(rng.choice(MOMENTS)), *self.select()]),
+            (3, lambda: ["changes", str(rng.choice(MOMENTS)), str(rng.choice(MOMENTS))]),
             (0.6, lambda: rng.choice(UNBUILT).split()),
         )
         return rng.choices([make for _, make in kinds], [weight for weight, _ in kinds])[0]()

@@ -15,7 +15,7 @@ from fuzz_lib.grammar import MODES, Statement, spread  # noqa: E402
 PLAN_LINE = re.compile(rb"^plan (auto|top|bottom|guide)$", re.M)
 DUMP_BEGINS = b"oem 2\n"
 GUIDE_LINE = re.compile(rb"^(.*) (\d+)$")
-ASKING = ("select", "explain", "guide", "browse", "sample", "dump")
+ASKING = ("select", "explain", "guide", "browse", "sample", "dump", "at", "changes")
 ASKED = 30  # paths of a guide that are asked
 LEAVES = 60  # a path of a guide with more labels isn't asked
 
@@ -186,5 +186,19 @@ def in_halves(runner, _printer, statements):
     return None
 
 
+def as_it_was(runner, _printer, statements):
+    """What a select answers is what it answers about that moment later on, whatever changes behind it."""
+    for place, each in enumerate(statements):
+        if each.kind != "select":
+            continue
+        later = [other for other in statements[place + 1:] if other.kind != "history"]
+        asked = [*statements[:place], Statement("history", ["history", "on"]), each, *later,
+                 Statement("at", ["at", "0", *each.tokens])]
+        replies = replies_of(runner, asked)
+        if replies and replies[place + 1] != replies[-1]:
+            return f"`{each.text()}` has another answer when it is asked later of that moment"
+    return None
+
+
 PROPERTIES = (ends_well, in_pieces, in_modes, through_dump, printed, as_guided, with_blanks, without_refused, without_asked,
-              in_halves)
+              in_halves, as_it_was)

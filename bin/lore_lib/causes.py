@@ -188,7 +188,7 @@ def separated(at):
 
 
 STATEMENTS = ("load", "select", "update", "unname", "explain", "guide", "dump", "browse", "sample", "restore", "generate", "set",
-              "name")
+              "name", "history", "at", "changes")
 SIGN = (b"=", b"!=", b"<", b"<=", b">", b">=", b"like")
 REPEATING = (b"?", b"*", b"+")
 VALUED = ("text", "number")

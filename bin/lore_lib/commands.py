@@ -120,19 +120,28 @@ class Commands:
     def do_csv(self, rest):
         self.load_by("csv-lore", rest, ".csv FILE NAME [OPTION ..]")
 
-    def selected(self, rest, name):
-        """The rows of a select of this path, None where it was refused."""
+    def found(self, rest, name, before=b""):
+        """A select of this path, behind what stands before it, and the reply; None where it was refused."""
         path = rest.removesuffix(";").encode("utf-8", "surrogateescape")
-        chunk = Chunk(b"select " + path, True, 1, b"")
+        chunk = Chunk(before + b"select " + path, True, 1, b"")
         cutter = Cutter()
         if not path.strip() or list(cutter.feed(chunk.data)) or cutter.pending().state != PLAIN:
             raise Fault(1, f"the command is {COMMANDS[name][0]}, of one path")
+        return self.accepted(chunk, name)
+
+    def accepted(self, chunk, name):
+        """The statement of a command, and its reply; None where it was refused."""
         reply = self.shell.ask(chunk.data)
         if refusal_of(reply):
             with self.shell.reading(name):
                 self.shell.refused(chunk, reply)
             return None
-        return read_rows(reply)[0]
+        return chunk, reply
+
+    def selected(self, rest, name):
+        """The rows of a select of this path, None where it was refused."""
+        found = self.found(rest, name)
+        return read_rows(found[1])[0] if found else None
 
     def do_show(self, rest):
         """Prints objects whole."""
@@ -151,6 +160,33 @@ class Commands:
         if rows is not None:
             out(counted(rows).encode())
 
+    def do_at(self, rest):
+        moment, _, path = rest.partition(" ")
+        found = self.found(path, ".at", b"at %d " % number_of(moment, ".at"))
+        if found:
+            self.shell.output.reply(*found)
+
+    def do_changes(self, rest):
+        """Prints what differs between a moment, or the one before the last, and the last one, which is the present."""
+        last = self.last_moment()
+        first = number_of(rest, ".changes") if rest else max(last - 1, 0)
+        found = self.accepted(differing(first, last), ".changes")
+        if found:
+            self.shell.output.reply(*found)
+
+    def last_moment(self):
+        """The number of the last moment, found by halves; 0 where no history is kept."""
+        last, behind = 0, 1
+        while self.is_moment(behind):
+            last, behind = behind, 2 * behind
+        while last + 1 < behind:
+            middle = (last + behind) // 2
+            last, behind = (middle, behind) if self.is_moment(middle) else (last, middle)
+        return last
+
+    def is_moment(self, number):
+        return refusal_of(self.shell.ask(differing(number, number).data)) is None
+
     def do_mode(self, rest):
         if rest not in MODES:
             raise Fault(1, f"rows are printed as {', '.join(MODES)}; now it is {self.shell.output.mode}")
@@ -167,6 +203,18 @@ class Commands:
             self.leaving = True
             raise Fault(1, "there are changes that weren't saved: `.save` them, or `.quit` again drops them")
         raise Stop
+
+
+def number_of(word, name):
+    """The number of a moment."""
+    if not (word.isascii() and word.isdigit()):
+        raise Fault(1, f"the command is {COMMANDS[name][0]}")
+    return int(word)
+
+
+def differing(first, last):
+    """The statement that tells what differs between two moments."""
+    return Chunk(b"changes %d %d" % (first, last), True, 1, b"")
 
 
 def restoring(path, text):

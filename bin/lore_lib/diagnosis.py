@@ -24,7 +24,7 @@ CALLED = {NAME: "a name", "quoted label": "a label in quotes", "identifier": "a 
           "number": "a number", "local": "a local, as &1", "text": "a text", END: "`;`"}
 SHOWN = 24
 FEW = 3
-WITH_VARIABLES = (b"select", b"explain", b"update")
+WITH_VARIABLES = (b"select", b"explain", b"update", b"at")
 
 
 @dataclass
@@ -230,16 +230,28 @@ def at(token, plain, matter, cause=None):
     return Diagnosis(plain.number, token.start, token.end, matter, [], cause or plain.cause)
 
 
+def is_unbound(token, probe, moment=None):
+    """Whether the program says that this is no name that is bound: at present, or at a moment."""
+    asking = b"browse " if moment is None else b"at " + moment + b" select "
+    return probe(asking + token.text).startswith(b"refused 7")
+
+
+def unbound(starts, found, probe):
+    """Those of the starts of paths that are no names which are bound, as far as it can be told."""
+    moment = found[1].text if found[0].text == b"at" else None
+    return [token for token in starts if is_unbound(token, probe, moment)] if probe else starts
+
+
 def unknown_name(found, plain, probe, lost):
     roles = roles_of(found)
     ranged = {token.text for token in roles.ranged}
-    starts = [token for token, in_scope in roles.starts if not in_scope and token.text not in ranged]
-    if probe:
-        starts = [token for token in starts if probe(b"browse " + token.text).startswith(b"refused 7")]
+    starts = unbound([token for token, in_scope in roles.starts if not in_scope and token.text not in ranged], found, probe)
     if not starts:
         return None
     token, name = starts[0], starts[0].text.decode()
     matter = f"`{name}` is no name that is bound" + ("" if found[0].text == b"unname" else ", and no variable")
+    if found[0].text == b"at" and probe and not is_unbound(token, probe):
+        return at(token, plain, matter, f"it is bound now, and wasn't at moment {found[1].text.decode()}")
     if token.text in lost:
         return at(token, plain, matter, f"statement {lost[token.text]}, which was to bind it, was refused")
     cause = near_name(name, probe) or bare_text(found, token, name)
@@ -274,9 +286,7 @@ def bare_text(found, token, name):
 def unknown_variable(found, plain, probe):
     roles = roles_of(found)
     ranged = {token.text for token in roles.ranged}
-    starts = [token for token, in_scope in roles.starts if not in_scope and token.text in ranged]
-    if probe:
-        starts = [token for token in starts if probe(b"browse " + token.text).startswith(b"refused 7")]
+    starts = unbound([token for token, in_scope in roles.starts if not in_scope and token.text in ranged], found, probe)
     words = [token for token in roles.words if token.text not in roles.paths]
     if not starts + words:
         return None
@@ -365,6 +375,13 @@ def limit_range(found, plain, probe):
     return at(numbers[1], plain, f"the number of persons is from {limits.PERSONS_LEAST} to {limits.PERSONS_MOST:,}")
 
 
+def moment_range(found, plain, probe):
+    """The numbers of moments of which there is one that isn't there."""
+    numbers = [token for token in found[1:3] if token.kind == "number"]
+    plain.start, plain.end = numbers[0].start, numbers[-1].end
+    return plain
+
+
 def dump_lines(found):
     """The tokens of a dump text as the lines that a dump has, with the first token of each."""
     sizes = {"oem": 2, "next": 2, "nodes": 2, "plan": 2, "label": 2, "name": 3, "edge": 4, "end": 1}
@@ -411,4 +428,5 @@ SPECIAL = {
     refusals.TOO_MANY_NAMES: bound_name,
     refusals.LIMIT_RANGE: limit_range,
     refusals.BAD_RESTORE: bad_restore,
+    refusals.MOMENT_RANGE: moment_range,
 }

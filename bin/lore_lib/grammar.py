@@ -39,6 +39,9 @@ statement = "load" name ":=" literal
           | "dump"
           | "restore" dumptext
           | "generate" number number
+          | "history" ( "on" | "off" )
+          | "at" number select
+          | "changes" number number
 mode      = "auto" | "top" | "bottom" | "guide"
 
 select = "select" item { "," item } tail

@@ -22,6 +22,10 @@ STATEMENTS = {
     "restore": ("restore DUMPTEXT", "makes the database of a dump, in a new one alone",
                 "restore oem 2 next 1 nodes 4096 plan auto end;"),
     "generate": ("generate SEED PERSONS", "makes a large database to try things on", "generate 7 1000;"),
+    "history": ("history on, history off", "keeps the database as it was after each change, from moment 0 on, or forgets it",
+                "history on;"),
+    "at": ("at NUMBER select ..", "a select over the database as it was at a moment", "at 0 select Guide.restaurant.name;"),
+    "changes": ("changes NUMBER NUMBER", "what differs between two moments", "changes 0 1;"),
 }
 COMMANDS = {
     ".help": (".help [STATEMENT|.COMMAND|NUMBER]", "this, a statement, a command, or a refusal by its number"),
@@ -33,6 +37,8 @@ COMMANDS = {
     ".csv": (".csv FILE NAME [OPTION ..]", "loads a table under a name; options are those of bin/csv-lore"),
     ".show": (".show PATH", "the objects that a path reaches, whole, as literals; `from` and `where` may follow"),
     ".values": (".values PATH", "each value that a path reaches, with the number of objects that have it"),
+    ".at": (".at MOMENT PATH", "what a path reached at a moment of the history; `from` and `where` may follow"),
+    ".changes": (".changes [MOMENT]", "what differs between a moment and the present; where none is named, what the last change changed"),
     ".mode": (".mode lines|table|json|csv", "how rows are printed"),
     ".timer": (".timer on|off", "tells of each statement how long it took"),
     ".stop": (".stop on|off", "ends a script at the first refusal or fault"),

@@ -65,9 +65,9 @@ class Output:
     def rows(self, chunk, reply):
         """The rows of a reply in their mode, None where it has none."""
         found, _ = tokens(chunk.data)
-        if not found or found[0].text not in (b"select", b"sample"):
+        if not found or found[0].text not in (b"select", b"at", b"sample"):
             return None
-        if found[0].text == b"select":
+        if found[0].text != b"sample":
             names = heads(chunk.data, found)
         else:
             names = [chunk.data[found[1].start:found[-2].end].decode()]

@@ -7,6 +7,7 @@ BAD_TOKEN, REAL_REFUSED, NUMBER_RANGE, TEXT_TOO_LONG, SYNTAX, UNFINISHED = range
 UNKNOWN_NAME, UNKNOWN_VARIABLE, DUPLICATE_VARIABLE, TOO_MANY_RANGES, DUPLICATE_LOCAL, UNDEFINED_LOCAL = range(7, 13)
 TOO_MANY_ROWS, NOT_ONE, ATOMIC_PARENT, HAS_CHILDREN, OIDS_SPENT, TOO_MANY_LABELS, TOO_MANY_NAMES = range(13, 20)
 TOO_MANY_OBJECTS, TOO_MANY_EDGES, GUIDE_NODES, LIMIT_RANGE, NOT_FRESH, BAD_RESTORE, GUIDE_CELLS = range(20, 27)
+HISTORY_FULL, NO_HISTORY, MOMENT_RANGE = range(27, 30)
 
 
 @dataclass(frozen=True)
@@ -78,13 +79,18 @@ ALL = [Refusal(*row) for row in (
      "keys that are data as labels, or shared parts that are reached in many combinations"),
     (LIMIT_RANGE, "LimitRange", "a number is outside what the statement takes",
      "0 where 1 is the least, or a limit below the nodes that there are"),
-    (NOT_FRESH, "NotFresh", "restore takes only a new database, and something was loaded, named or set before",
+    (NOT_FRESH, "NotFresh", "restore takes only a new database without a history, and something was loaded, named, set or kept before",
      "a statement before `restore` in the same run"),
     (BAD_RESTORE, "BadRestore", "the text is the dump of no database",
      "a line of the dump that was changed, lost or doubled by hand"),
     (GUIDE_CELLS, "GuideCells",
      f"the sets of objects that label paths reach would have more than {counted(limits.CELLS)} members together",
      "many shared parts, or long chains, of which each step is a set of all that lies behind it"),
+    (HISTORY_FULL, "HistoryFull", f"the history would have a moment above {counted(limits.MOMENTS)}, or weigh too much",
+     "very many changes; large texts that change often"),
+    (NO_HISTORY, "NoHistory", "no history is kept that could be asked", "`history on` is missing, or was refused"),
+    (MOMENT_RANGE, "MomentRange", "there is no moment of the number, or the first number is above the second",
+     "a change that was refused added no moment"),
 )]
 BY_NUMBER = {refusal.number: refusal for refusal in ALL}
 BY_NAME = {refusal.name.lower(): refusal for refusal in ALL}

@@ -7,6 +7,7 @@ from dataclasses import dataclass, field
 from lore_lib.limits import RESERVED
 
 BINDING = (b":=", b"+=", b"-=")
+SELECTING = {b"select": 1, b"explain": 2, b"at": 3}  # where the items of a select begin
 
 
 @dataclass
@@ -137,8 +138,8 @@ def update_roles(tokens):
 def roles_of(tokens):
     """The roles of a statement's identifiers and locals."""
     first = tokens[0].text
-    if first in (b"select", b"explain"):
-        return Walk(tokens).walk(1 if first == b"select" else 2).done()
+    if first in SELECTING:
+        return Walk(tokens).walk(SELECTING[first]).done()
     if first == b"update":
         return update_roles(tokens)
     roles = Roles()

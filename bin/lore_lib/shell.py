@@ -1,5 +1,6 @@
 """The shell around the program: reads statements and commands, sends one statement at a time, and prints the replies."""
 import contextlib
+import re
 import time
 
 from lore_lib import limits
@@ -11,6 +12,8 @@ from lore_lib.saving import KeptFile
 from lore_lib.session import Ended, Session, refusal_of
 from lore_lib.telling import told
 from lore_lib.tool import Fault
+
+KEEPING = re.compile(rb"(?:\s|--[^\n]*\n)*history\b")  # a history is kept, or none: the database stays as it is
 
 
 class Shell:
@@ -64,7 +67,7 @@ class Shell:
         reply = self.ask(chunk.data)
         took = time.monotonic() - begin
         refused = refusal_of(reply)
-        if reply.startswith(b"ok "):
+        if reply.startswith(b"ok ") and not KEEPING.match(chunk.data):
             self.changed()
         if refused:
             self.refused(chunk, reply, self.count)

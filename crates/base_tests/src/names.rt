@@ -1,4 +1,4 @@
-use lore_base::{Delta, Names, NoMemory, OemText, Oid};
+use lore_base::{Names, NoMemory, OemText, Oid};
 use std::alloc::Global;
 use std::test::Fail;
 
@@ -40,23 +40,5 @@ fn names_are_told_in_the_order_of_their_bytes(rt: HostRuntime) -> Result<(), Fai
     ] {
         assert!(rt; is_at(&names, place, name, object));
     }
-    Ok(())
-}
-
-// How many names, objects and edges go, and how many come.
-fn counts(delta: &Delta) -> [usize; 6] {
-    [
-        delta.names_gone.len(),
-        delta.names_come.len(),
-        delta.objects_gone.len(),
-        delta.objects_come.len(),
-        delta.edges_gone.len(),
-        delta.edges_come.len(),
-    ]
-}
-
-#[test]
-fn a_new_delta_has_nothing(rt: HostRuntime) -> Result<(), Fail> {
-    assert_eq!(rt; counts(&Delta::new(rt.alloc())), [0; 6]);
     Ok(())
 }

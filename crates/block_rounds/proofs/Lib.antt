@@ -5,14 +5,3 @@ pub mod SignatureLaws
 pub mod RenumberLaws
 pub mod RefineLaws
 pub mod LevelLaws
-pub mod TallyLaws
-pub mod MoveLaws
-pub mod MarkLaws
-pub mod FairLaws
-pub mod HastenLaws
-pub mod RecountLaws
-pub mod FileLaws
-pub mod ExchangeLaws
-pub mod ListedLaws
-pub mod HasteLaws
-pub mod StartLaws

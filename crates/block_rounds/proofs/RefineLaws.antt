@@ -7,7 +7,8 @@ use Rattle.std.proofs.lemmas.Bool.{true≢false, cases_lt}
 use Rattle.std.proofs.lemmas.List.{get_or-replicate, get_or_past, length-replicate}
 use Rattle.block_rounds.specs.Partitions.{Rows, AreWithin, IsCoarse, IsStable, AreBlocks, IsRefining}
 use Rattle.block_rounds.specs.inside.Signatures.{AreSignatures}
-use Rattle.block_rounds.specs.inside.Renumbering.{pair_eq, hash_of, mark_from, AreMarks, StayTogether, AreUnmarked}
+use Rattle.block_rounds.specs.Given.{pair_eq, StayTogether}
+use Rattle.block_rounds.specs.inside.Renumbering.{hash_of, mark_from, AreMarks, AreUnmarked}
 use Rattle.block_rounds.proofs.SignatureLaws.{same_pair, same_number, left, right, alike_from_signatures, signatures_from_alike}
 use Rattle.block_rounds.proofs.BlockLaws.{IsCoarse-step, AreBlocks-exact}
 

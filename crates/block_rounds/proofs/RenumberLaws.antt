@@ -5,7 +5,8 @@ use Rattle.std.proofs.lemmas.Bool.{cases_lt}
 use Rattle.std.proofs.lemmas.List.{get_or_append_left, get_or_push}
 use Rattle.std.proofs.lemmas.Option.{none-some, same_Some}
 use Rattle.std.proofs.lemmas.List.Elements.{All-push, All-weaker}
-use Rattle.block_rounds.specs.inside.Renumbering.{pair_eq, IsGiven, Keeps, AreFresh, GrowsBy, IsNumberedBy, StayTogether, AreGivenBelow}
+use Rattle.block_rounds.specs.Given.{pair_eq, IsGiven, Keeps, StayTogether}
+use Rattle.block_rounds.specs.inside.Renumbering.{AreFresh, GrowsBy, IsNumberedBy, AreGivenBelow}
 use Rattle.block_rounds.proofs.SignatureLaws.{same_pair}
 
 abbrev pub Updated : (ℕ × ℕ → Option ℕ) → (ℕ × ℕ → Option ℕ) → ℕ × ℕ → ℕ → Type 0

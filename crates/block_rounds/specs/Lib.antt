@@ -1,3 +1,4 @@
 pub mod Partitions
 pub mod Gathered
+pub mod Given
 pub mod inside

@@ -2,8 +2,3 @@
 pub mod Signatures
 pub mod Renumbering
 pub mod Levels
-pub mod Tallies
-pub mod Marking
-pub mod Recounting
-pub mod Hastening
-pub mod Listed

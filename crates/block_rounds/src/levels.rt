@@ -29,8 +29,8 @@ fn level_of(
     }
 }
 
-// The same blocks, numbered in the order of their first nodes, which are their heads.
-pub(crate) fn levels_of(alloc: Global, numbers: &[usize]) -> Result<Partition, NoMemory>
+/// The same blocks, numbered in the order of their first nodes, which are their heads.
+pub fn levels_of(alloc: Global, numbers: &[usize]) -> Result<Partition, NoMemory>
     ensures same { IfOk result (λ next. AreSameBlocks numbers.now next.numbers.items) }
     ensures numbered { IfOk result
         (λ next. IsNumbered (length numbers.now) next.numbers.items next.heads.items) }

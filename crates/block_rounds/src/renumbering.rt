@@ -1,11 +1,12 @@
 ghost use Rattle.std.specs.Prelude.{◌≡◌, ℕ, ◌<◌, ◌≤◌, length, IfOk, OnOk};
 ghost use Rattle.indexmap.specs.IndexMap.{get};
 ghost use Rattle.block_rounds.specs.Partitions.{IsNumbered};
-ghost use Rattle.block_rounds.specs.inside.Renumbering.{pair_eq, hash_of, mark_from, AreMarks};
-ghost use Rattle.block_rounds.specs.inside.Renumbering.{IsGiven, Keeps, AreFresh, GrowsBy};
-ghost use Rattle.block_rounds.specs.inside.Renumbering.{IsNumberedBy, StayTogether, AreUnmarked};
+ghost use Rattle.block_rounds.specs.Given.{pair_eq, IsGiven, Keeps, StayTogether};
+ghost use Rattle.block_rounds.specs.inside.Renumbering.{hash_of, mark_from, AreMarks};
+ghost use Rattle.block_rounds.specs.inside.Renumbering.{AreFresh, GrowsBy, IsNumberedBy};
+ghost use Rattle.block_rounds.specs.inside.Renumbering.{AreUnmarked};
 
-use crate::signing::Row;
+use crate::signing::Signature;
 use indexmap::IndexMap;
 use lore_lists::NoMemory;
 use std::alloc::Global;
@@ -13,8 +14,8 @@ use std::alloc::Global;
 // The multiplier of Knuth's MMIX generator: odd, without a pattern in its bits.
 const FACTOR: u64 = 6_364_136_223_846_793_005;
 
-// The numbers of new blocks, by the old number and the mark.
-pub(crate) type Fresh = IndexMap<(usize, u64), usize>;
+/// The numbers of new blocks, by the old number and the mark.
+pub type Fresh = IndexMap<(usize, u64), usize>;
 
 // The hash of a kind and a signature. Unlike ones may have one hash: they are parted later.
 fn hash_signature(kind: usize, signature: &[(u32, usize)]) -> u64
@@ -48,7 +49,7 @@ fn mark_between(
 pub(crate) fn marks(
     alloc: Global,
     kinds: &[usize],
-    signatures: &[Row],
+    signatures: &[Signature],
     numbers: &[usize],
     heads: &[usize],
 ) -> Result<Vec<Option<u64>>, NoMemory>
@@ -74,7 +75,7 @@ pub(crate) fn marks(
 
 // The number that a node with this number and mark gets: its own without a mark. A node that is
 // the first with its number and mark heads a new block.
-pub(crate) fn given_number(
+fn given_number(
     fresh: &mut Fresh,
     heads: &mut Vec<usize>,
     node: usize,

@@ -5,12 +5,19 @@ ghost use Rattle.block_rounds.specs.inside.Signatures.{IsSignature, AreSignature
 use lore_lists::{Listing, NoMemory};
 use std::alloc::Global;
 
-/// Labels, each with the node that it comes from, or with the number of that node's block.
+/// The edges that enter a node: their labels, each with the node that it comes from.
 pub type Row = Listing<(u32, usize)>;
+
+// Labels, each with the number of a block that an edge by it comes from.
+pub(crate) type Signature = Listing<(u32, usize)>;
 
 // The signature of the node whose row this is: by which labels it is entered, and from which
 // blocks.
-fn signature_of(alloc: Global, row: &[(u32, usize)], numbers: &[usize]) -> Result<Row, NoMemory>
+fn signature_of(
+    alloc: Global,
+    row: &[(u32, usize)],
+    numbers: &[usize],
+) -> Result<Signature, NoMemory>
     requires { All (λ entry. entry.1 < length numbers.now) row.now }
     ensures { IfOk result (IsSignature row.now numbers.now) }
 {
@@ -27,7 +34,7 @@ pub(crate) fn signatures(
     alloc: Global,
     rows: &[Row],
     numbers: &[usize],
-) -> Result<Vec<Row>, NoMemory>
+) -> Result<Vec<Signature>, NoMemory>
     requires within { AreWithin rows.now }
     requires every { length numbers.now ≡ length rows.now }
     ensures { IfOk result (λ signed. AreSignatures rows.now numbers.now signed.items) }

@@ -1,6 +1,6 @@
 -- Chains of runs back from the newest one of each object: how they grow, and what a walk along one has seen.
 use Rattle.std.proofs.Common.{◌≡◌, ◌≢◌, ℕ, ◌+◌, ◌-◌, ◌^◌, ◌<◌, ◌≤◌, inl, inr, List, [], ◌∷◌, ◌++◌, length, get_or, set, zero, suc}
-use Rattle.std.proofs.Common.{true, false, cond, Option, Some, refl, sym, ap, ◌∙◌, subst, arith}
+use Rattle.std.proofs.Common.{Bool, true, false, cond, Option, Some, refl, sym, ap, ◌∙◌, subst, arith}
 use Rattle.std.specs.List.{slice_get, slice_index}
 use Rattle.std.proofs.lemmas.Bool.{cases_lt}
 use Rattle.std.proofs.lemmas.Bool.Decides.{nat_tests}
@@ -9,7 +9,7 @@ use Rattle.std.proofs.lemmas.Option.{slice_get_within}
 use Rattle.list_laws.proofs.PlaceLaws.{slice_get-push}
 use Rattle.doem_history.specs.Types.{Oid, Run}
 use Rattle.doem_history.specs.inside.Kept.{end_at}
-use Rattle.doem_history.specs.inside.Chains.{same_oid, IsLink, link_told, AreChains, owners_of, AreLinked}
+use Rattle.doem_history.specs.inside.Chains.{same_oid, IsLink, link_told, AreNewest, AreChains, owners_of, AreLinked}
 
 slice_get_left : {X : Type 0} (xs ys : List X) (i : ℕ) → i < length xs → slice_get (xs ++ ys) i ≡ slice_get xs i
 slice_get_left [] ys i lt = absurd (omega arith)
@@ -23,12 +23,42 @@ oid_differs : (a b : Oid) → same_oid a b ≡ false → a ≢ b
 oid_differs a b differs same = let number : a.0 ≡ b.0 = ap (λ (o : Oid). o.0) same in grind (arith, nat_tests)
 
 -- more items behind change nothing below the bound
-link-more : (owners more : List Oid) (oid : Oid) (bound link : ℕ) → bound ≤ length owners → IsLink owners oid bound link → IsLink (owners ++ more) oid bound link
-link-more owners more oid bound link few is = let within = is.within in record {
+link-more : {K : Type 0} (keys more : List K) (key : K) (bound link : ℕ) → bound ≤ length keys → IsLink keys key bound link → IsLink (keys ++ more) key bound link
+link-more keys more key bound link few is = let within = is.within in record {
   within = within;
-  here = λ some. slice_get_left owners more (link - 1) (omega arith) ∙ is.here some;
-  none = λ place from below at. is.none place from below (sym (slice_get_left owners more place (omega arith)) ∙ at);
+  here = λ some. slice_get_left keys more (link - 1) (omega arith) ∙ is.here some;
+  none = λ place from below at. is.none place from below (sym (slice_get_left keys more place (omega arith)) ∙ at);
 }
+
+-- one key more, which is newest at its place
+pub newest-push : {K : Type 0} (same : K → K → Bool) (keys : List K) (newest later : K → Option ℕ) (key : K) → ((a b : K) → same a b ≡ true → a ≡ b) → ((a b : K) → same a b ≡ false → a ≢ b)
+    → AreNewest keys newest → ((other : K) → later other ≡ cond (same key other) (Some (length keys + 1)) (newest other)) → AreNewest (keys ++ key ∷ []) later
+newest-push {K} same keys newest later key is_one is_other are told other =
+    let long = length_push keys key in
+    elim (same key other) as (λ b. same key other ≡ b → IsLink (keys ++ key ∷ []) other (length (keys ++ key ∷ [])) (link_told (later other))) [
+      | true ↦ λ equal.
+          let is : later other ≡ Some (length keys + 1) = told other ∙ ap (λ b. cond b (Some (length keys + 1)) (newest other)) equal in
+          subst (λ (e : Option ℕ). IsLink (keys ++ key ∷ []) other (length (keys ++ key ∷ [])) (link_told e)) (sym is) (record {
+            within = omega arith;
+            here = λ some. ap (slice_get (keys ++ key ∷ [])) (omega arith) ∙ slice_get-push keys key ∙ ap Some (is_one key other equal);
+            none = λ place from below. absurd (omega arith);
+          })
+      | false ↦ λ differs.
+          let is : later other ≡ newest other = told other ∙ ap (λ b. cond b (Some (length keys + 1)) (newest other)) differs in
+          let old = are other in
+          let within = old.within in
+          subst (λ (e : Option ℕ). IsLink (keys ++ key ∷ []) other (length (keys ++ key ∷ [])) (link_told e)) (sym is) (record {
+            within = omega arith;
+            here = λ some. slice_get_left keys (key ∷ []) (link_told (newest other) - 1) (omega arith) ∙ old.here some;
+            none = λ place from below at. elim (cases_lt place (length keys)) [
+              | inl early ↦ old.none place from early (sym (slice_get_left keys (key ∷ []) place early) ∙ at)
+              | inr late ↦
+                  let here : place ≡ length keys = omega arith in
+                  let found : Some key ≡ Some other = sym (slice_get-push keys key) ∙ ap (slice_get (keys ++ key ∷ [])) (sym here) ∙ at in
+                  is_other key other differs (cc)
+            ];
+          })
+    ] refl
 
 -- one item more
 pub chain-push : (owners : List Oid) (newest later : Oid → Option ℕ) (older : List ℕ) (oid : Oid) → AreChains owners newest older
@@ -36,32 +66,7 @@ pub chain-push : (owners : List Oid) (newest later : Oid → Option ℕ) (older 
     → AreChains (owners ++ oid ∷ []) later (older ++ link_told (newest oid) ∷ [])
 chain-push owners newest later older oid chains told = record {
   long = (let long = chains.long in omega (arith, length_push owners oid, length_push older (link_told (newest oid))));
-  last = λ other. elim (same_oid oid other) as (λ b. same_oid oid other ≡ b → IsLink (owners ++ oid ∷ []) other (length (owners ++ oid ∷ [])) (link_told (later other))) [
-    | true ↦ λ same.
-        let is : later other ≡ Some (length owners + 1) = told other ∙ ap (λ b. cond b (Some (length owners + 1)) (newest other)) same in
-        let long = length_push owners oid in
-        subst (λ (e : Option ℕ). IsLink (owners ++ oid ∷ []) other (length (owners ++ oid ∷ [])) (link_told e)) (sym is) (record {
-          within = omega arith;
-          here = λ some. ap (slice_get (owners ++ oid ∷ [])) (omega arith) ∙ slice_get-push owners oid ∙ ap Some (oid_is oid other same);
-          none = λ place from below. absurd (omega arith);
-        })
-    | false ↦ λ differs.
-        let is : later other ≡ newest other = told other ∙ ap (λ b. cond b (Some (length owners + 1)) (newest other)) differs in
-        let long = length_push owners oid in
-        let old = chains.last other in
-        let within = old.within in
-        subst (λ (e : Option ℕ). IsLink (owners ++ oid ∷ []) other (length (owners ++ oid ∷ [])) (link_told e)) (sym is) (record {
-          within = omega arith;
-          here = λ some. slice_get_left owners (oid ∷ []) (link_told (newest other) - 1) (omega arith) ∙ old.here some;
-          none = λ place from below at. elim (cases_lt place (length owners)) [
-            | inl early ↦ old.none place from early (sym (slice_get_left owners (oid ∷ []) place early) ∙ at)
-            | inr late ↦
-                let here : place ≡ length owners = omega arith in
-                let found : Some oid ≡ Some other = sym (slice_get-push owners oid) ∙ ap (slice_get (owners ++ oid ∷ [])) (sym here) ∙ at in
-                oid_differs oid other differs (cc)
-          ];
-        })
-  ] refl;
+  last = newest-push same_oid owners newest later oid oid_is oid_differs chains.last told;
   back = λ place other at. elim (cases_lt place (length owners)) [
     | inl early ↦
         let was = chains.back place other (sym (slice_get_left owners (oid ∷ []) place early) ∙ at) in

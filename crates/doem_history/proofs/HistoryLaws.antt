@@ -13,7 +13,7 @@ use Rattle.list_laws.proofs.PartLaws.{map-map}
 use Rattle.list_laws.proofs.PlaceLaws.{place_of_member}
 use Rattle.doem_history.specs.Types.{Delta, Run, STANDING, HISTORY_WEIGHT, MOMENTS}
 use Rattle.doem_history.specs.Facts.{name_order, object_order, object_weight}
-use Rattle.doem_history.specs.FactLaws.{name_total, object_total, edge_total}
+use Rattle.doem_history.specs.inside.FactLaws.{name_total, object_total, edge_total}
 use Rattle.doem_history.specs.Runs.{IsWeight}
 use Rattle.doem_history.specs.Moments.{Moment, IsHistoryWeight, IsFull}
 use Rattle.doem_history.specs.Histories.{facts_at, ordered, KeptHistory, moment_at, moments_of}

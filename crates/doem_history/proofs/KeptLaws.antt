@@ -1,32 +1,23 @@
--- Runs as they are kept are the maximal runs of the moments that they tell.
-use Rattle.std.proofs.Common.{◌≡◌, ◌≢◌, ◌⊎◌, ◌↔◌, ℕ, ◌+◌, ◌-◌, ◌<◌, ◌≤◌, min, inl, inr, List, [], length, map, get_or}
-use Rattle.std.proofs.Common.{true, ◌&&◌, nat_le, nat_lt, AllPairs, Contains, sym, ap, ◌∙◌, subst, arith}
+-- Runs as they are kept are the maximal runs of the moments that they tell, and of those that hold one moment the facts are
+-- distinct.
+use Rattle.std.proofs.Common.{◌≡◌, ◌≢◌, ◌⊎◌, ◌↔◌, ℕ, ◌+◌, ◌-◌, ◌<◌, ◌≤◌, min, inl, inr, List, [], ◌∷◌, length, map, cond, get_or}
+use Rattle.std.proofs.Common.{true, false, ◌&&◌, nat_le, nat_lt, AllPairs, Contains, refl, sym, ap, ◌∙◌, subst, arith}
 use Rattle.std.specs.List.{filter}
 use Rattle.std.proofs.lemmas.Bool.{cases_lt}
 use Rattle.std.proofs.lemmas.Bool.Decides.{nat_tests}
-use Rattle.std.proofs.lemmas.List.{get_or_default, get_or_past, length-map, get_or-map}
+use Rattle.std.proofs.lemmas.List.{get_or_past, length-map, get_or-map}
 use Rattle.lore_base.proofs.MemberLaws.{Contains-none, Contains-same}
 use Rattle.std.proofs.lemmas.List.Elements.{Contains-get_or}
+use Rattle.std.proofs.lemmas.List.Kept.{AllPairs-cons}
 use Rattle.lore_base.proofs.MemberLaws.{Contains-filter, unfiltered}
+use Rattle.lore_base.proofs.ListLaws.{AllPairs-head, AllPairs-tail}
 use Rattle.list_laws.proofs.MemberLaws.{Contains-map, Contains-from_map}
+use Rattle.list_laws.proofs.PairLaws.{AllPairs-nil}
+use Rattle.doem_facts.proofs.FactSetLaws.{pair_cases}
 use Rattle.doem_history.specs.Types.{Run}
 use Rattle.doem_history.specs.Runs.{Stands, IsRun, AreRuns}
 use Rattle.doem_history.specs.Histories.{holds, facts_at}
 use Rattle.doem_history.specs.inside.Kept.{Apart, AreKept, within}
-
--- two of a list are one, or one comes before the other
-pub pair_cases : {X : Type 0} (R : X → X → Type 0) (xs : List X) (x y : X) → AllPairs R xs → Contains xs x → Contains xs y
-    → (x ≡ y) ⊎ (R x y ⊎ R y x)
-pair_cases R xs x y pairs at_x at_y =
-    let x_is : get_or xs at_x.0 x ≡ x = at_x.2 in
-    let y_is : get_or xs at_y.0 x ≡ y = get_or_default xs at_y.0 x y at_y.1 ∙ at_y.2 in
-    elim (cases_lt at_x.0 at_y.0) [
-      | inl before ↦ inr (inl (rw (x_is, y_is) at (pairs at_x.0 at_y.0 x before at_y.1)))
-      | inr late ↦ elim (cases_lt at_y.0 at_x.0) [
-        | inl after ↦ inr (inr (rw (y_is, x_is) at (pairs at_y.0 at_x.0 x after at_x.1)))
-        | inr same ↦ (let here : at_x.0 ≡ at_y.0 = omega arith in inl (sym x_is ∙ ap (λ k. get_or xs k x) here ∙ y_is))
-      ]
-    ]
 
 -- a kept run of the fact holds the moment
 pub record IsHeld {F : Type 0} (moment : ℕ) (runs : List (Run F)) (fact : F) : Type 0 where
@@ -53,6 +44,31 @@ pub is_held : {F : Type 0} (moment : ℕ) (runs : List (Run F)) (run : Run F) �
     → Contains (facts_at moment runs) run.fact
 is_held moment runs run at since until =
     Contains-map (λ r. r.fact) (filter (holds moment) runs) run (Contains-filter (holds moment) runs run at (held_test run.begin run.end moment since until))
+
+-- Facts of runs that hold one moment.
+
+-- of two runs of one fact one ends before the other begins
+abbrev pub AreApart : {F : Type 0} → Run F → Run F → Type 0
+AreApart a b = Apart a b ⊎ Apart b a
+
+both_hold : {F : Type 0} (moment : ℕ) (a b : Run F) → AreApart a b → a.fact ≡ b.fact → a.begin ≤ moment → moment < a.end → b.begin ≤ moment → moment < b.end → ⊥
+both_hold moment a b apart same since_a until_a since_b until_b = elim apart [
+  | inl first ↦ (let ends = first same in omega arith)
+  | inr second ↦ (let ends = second (sym same) in omega arith)
+]
+
+pub distinct_held : {F : Type 0} (moment : ℕ) (runs : List (Run F)) → AllPairs AreApart runs → AllPairs (λ a b. a ≢ b) (facts_at moment runs)
+distinct_held {F} moment [] apart = AllPairs-nil (λ a b. a ≢ b)
+distinct_held {F} moment (run ∷ runs) apart =
+    let others = distinct_held moment runs (AllPairs-tail AreApart run runs apart) in
+    elim (holds moment run) as (λ b. holds moment run ≡ b → AllPairs (λ (x y : F). x ≢ y) (map (λ r. r.fact) (cond b (run ∷ filter (holds moment) runs) (filter (holds moment) runs)))) [
+      | true ↦ λ passes.
+          let both = held_begin run.begin run.end moment passes in
+          AllPairs-cons (λ (x y : F). x ≢ y) run.fact (facts_at moment runs) (λ k d lt same.
+          let other = held moment runs (get_or (facts_at moment runs) k d) (Contains-get_or (facts_at moment runs) k d lt) in
+          both_hold moment run other.run (AllPairs-head AreApart run runs apart other.run other.among) (same ∙ sym other.of) both.0 both.1 other.since other.until) others
+      | false ↦ λ fails. others
+    ] refl
 
 -- the moments are those that the runs tell
 pub record Tells {F : Type 0} (runs : List (Run F)) (times : List (List F)) : Type 0 where

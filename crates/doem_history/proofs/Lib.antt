@@ -4,13 +4,15 @@ pub mod StepLaws
 pub mod OrderLaws
 pub mod ChainLaws
 pub mod WalkLaws
-pub mod FactSetLaws
+pub mod NewestLaws
 pub mod MarkLaws
 pub mod StretchLaws
 pub mod DeltaLaws
 pub mod HistoryLaws
 pub mod PlanLaws
 pub mod StartLaws
+pub mod MomentLaws
 pub mod ViewLaws
 pub mod WeightLaws
 pub mod NameFactLaws
+pub mod DifferLaws

@@ -11,7 +11,8 @@ use Rattle.lore_base.proofs.MemberLaws.{Contains-head, Contains-tail, Contains-c
 use Rattle.lore_base.proofs.ListLaws.{AllPairs-unique}
 use Rattle.list_laws.proofs.PairLaws.{AllPairs-nil}
 use Rattle.list_laws.proofs.InsertLaws.{Contains-from_insert_key, Contains-insert_key, insert_key-contains_new, AllPairs-insert_key}
-use Rattle.doem_history.proofs.KeptLaws.{pair_cases, Tells}
+use Rattle.doem_facts.proofs.FactSetLaws.{alone}
+use Rattle.doem_history.proofs.KeptLaws.{Tells}
 use Rattle.doem_history.specs.Types.{Run, STANDING}
 use Rattle.doem_history.specs.Histories.{facts_at, ordered}
 use Rattle.doem_history.specs.Plans.{AreEnding}
@@ -50,19 +51,12 @@ module _ {F : Type 0} (cmp : F → F → Ordering) (total : IsTotalOrder cmp) wh
     | inr later ↦ Contains-insert_key cmp (ordered cmp xs) x y (in-ordered xs (λ a b at_a at_b. once a b (Contains-tail x xs a at_a) (Contains-tail x xs b at_b)) y later)
   ]
 
-  -- ascending facts have their places in the order to themselves
-  pub alone : (xs : List F) → Ascends cmp xs → (a b : F) → Contains xs a → Contains xs b → cmp a b ≡ Equal → a ≡ b
-  alone xs ascend a b at_a at_b same = elim (pair_cases (λ x y. cmp x y ≡ Less) xs a b ascend at_a at_b) [
-    | inl is ↦ is
-    | inr either ↦ elim either [ inl less ↦ cc | inr more ↦ (let back = total.antisymm a b ∙ ap ordering_reverse more in cc) ]
-  ]
-
   -- facts are ascending ones in their order where they are the same facts
   pub ordered_is : (xs after : List F) → Ascends cmp after → ((y : F) → Contains xs y ↔ Contains after y) → ordered cmp xs ≡ after
   ordered_is xs after ascend same =
       AllPairs-unique (λ a b. cmp a b ≡ Less) never-both (ordered cmp xs) after (ascend-ordered xs) ascend (λ y. (
         λ at. (same y).0 (from-ordered xs y at),
-        λ at. in-ordered xs (λ a b at_a at_b. alone after ascend a b ((same a).0 at_a) ((same b).0 at_b)) y ((same y).1 at),
+        λ at. in-ordered xs (λ a b at_a at_b. alone cmp total after ascend a b ((same a).0 at_a) ((same b).0 at_b)) y ((same y).1 at),
       ))
 
   -- The moments that runs tell.
@@ -125,7 +119,7 @@ module _ {F : Type 0} (cmp : F → F → Ordering) (total : IsTotalOrder cmp) wh
             facts.once moment early a b (subst (λ (l : List F). Contains l a) is at_a) (subst (λ (l : List F). Contains l b) is at_b) same
         | inr late ↦
             let here : moment ≡ later = omega arith in
-            alone after leads.after_ascends a b ((tells_after a).0 (subst (λ k. Contains (facts_at k (moved_on later places come runs)) a) here at_a))
+            alone cmp total after leads.after_ascends a b ((tells_after a).0 (subst (λ k. Contains (facts_at k (moved_on later places come runs)) a) here at_a))
             ((tells_after b).0 (subst (λ k. Contains (facts_at k (moved_on later places come runs)) b) here at_b)) same
       ];
     }

@@ -8,7 +8,7 @@ use Rattle.std.proofs.lemmas.List.FromFn.{map-range_with_len_more, get_or-map-ra
 use Rattle.lore_base.specs.Walks.{edge_cmp}
 use Rattle.doem_history.specs.Types.{Oid, Edge, Value, Delta, Run, STANDING, HISTORY_WEIGHT, MOMENTS}
 use Rattle.doem_history.specs.Facts.{name_order, object_order, object_weight}
-use Rattle.doem_history.specs.FactLaws.{name_total, object_total, edge_total, name_heavy, object_heavy, edge_heavy}
+use Rattle.doem_history.specs.inside.FactLaws.{name_total, object_total, edge_total, name_heavy, object_heavy, edge_heavy}
 use Rattle.doem_history.specs.Moments.{Moment, LeadsTo, IsFull}
 use Rattle.doem_history.specs.Histories.{facts_at, ordered, KeptRuns, KeptHistory, moment_at, last_moment, moments_of, AreSame, IsSame}
 use Rattle.doem_history.specs.Plans.{IsOpen, AreEnding, PlannedRuns, PlannedMoment, Ends, weight_of_come, CarriesOut, Appends}

@@ -6,9 +6,10 @@ use Rattle.std.specs.declared.cmp.Ordering.{Ordering}
 use Rattle.lore_base.specs.Walks.{edge_cmp}
 use Rattle.list_laws.proofs.MemberLaws.{Contains-from_map}
 use Rattle.list_laws.proofs.PlaceLaws.{pair_at}
+use Rattle.doem_facts.proofs.FactSetLaws.{alone}
 use Rattle.doem_history.specs.Types.{Oid, Edge, Value, Run, STANDING, HISTORY_WEIGHT}
 use Rattle.doem_history.specs.Facts.{name_order, object_order, object_weight}
-use Rattle.doem_history.specs.FactLaws.{name_total, object_total, edge_total, name_heavy, object_heavy, edge_heavy}
+use Rattle.doem_history.specs.inside.FactLaws.{name_total, object_total, edge_total, name_heavy, object_heavy, edge_heavy}
 use Rattle.doem_history.specs.Runs.{IsWeight}
 use Rattle.doem_history.specs.Moments.{moment_of, IsInOrder, IsHistoryWeight, IsFull}
 use Rattle.doem_history.specs.Histories.{facts_at, ordered, KeptRuns, KeptHistory, moments_of}
@@ -16,7 +17,7 @@ use Rattle.doem_history.specs.Plans.{weight_of}
 use Rattle.doem_history.specs.inside.Kept.{Ascends, AreFacts, IsWithin, Apart, begun, IsKept, IsHistory, weight_of_runs}
 use Rattle.doem_history.proofs.MovedLaws.{pairs_from, facts_at-begun}
 use Rattle.doem_history.proofs.StepLaws.{mapped_place, weight-begun}
-use Rattle.doem_history.proofs.OrderLaws.{alone, ordered_is, distinct_of}
+use Rattle.doem_history.proofs.OrderLaws.{ordered_is, distinct_of}
 use Rattle.doem_history.proofs.DeltaLaws.{names_ascend, objects_ascend}
 use Rattle.doem_history.proofs.HistoryLaws.{heavy_facts, weighs, one_history_weight}
 

@@ -15,13 +15,13 @@ use Rattle.lore_base.proofs.MemberLaws.{Contains-none, Contains-head, Contains-t
 use Rattle.lore_base.proofs.ListLaws.{AllPairs-head, AllPairs-tail}
 use Rattle.list_laws.proofs.PairLaws.{AllPairs-nil}
 use Rattle.list_laws.proofs.PlaceLaws.{Contains-from_place, place_of_member, pair_at}
+use Rattle.doem_facts.proofs.FactSetLaws.{pair_cases}
 use Rattle.doem_history.specs.Types.{Run, Mark}
 use Rattle.doem_history.specs.Histories.{holds, facts_at}
 use Rattle.doem_history.specs.inside.Kept.{Apart, AreKept, AreFacts}
 use Rattle.doem_history.specs.inside.Marks.{IsMark, AreMarked, runs_at, IsLeaving, IsComing}
-use Rattle.doem_history.proofs.KeptLaws.{pair_cases, held, is_held}
+use Rattle.doem_history.proofs.KeptLaws.{held, is_held, AreApart, distinct_held}
 use Rattle.doem_history.proofs.MovedLaws.{facts_at-append}
-use Rattle.doem_history.proofs.FactSetLaws.{AreApart, distinct_held}
 
 -- ---- a stretch of a list
 module _ {X : Type 0} (xs : List X) (from to : ℕ) (order : from ≤ to) (within : to ≤ length xs) where

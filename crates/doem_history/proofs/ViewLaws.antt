@@ -1,5 +1,5 @@
 -- What is read of one moment of a history, and what differs between two.
-use Rattle.std.proofs.Common.{◌≡◌, ◌≢◌, ◌↔◌, inl, ℕ, ◌+◌, ◌<◌, ◌≤◌, ◌==◌, ◌&&◌, true, List, AllPairs, Contains, Less, Equal, Some, IsPermutation, refl, sym, ap, ◌∙◌, subst, arith}
+use Rattle.std.proofs.Common.{◌≡◌, ◌≢◌, ◌↔◌, inl, ℕ, ◌+◌, ◌<◌, ◌≤◌, ◌==◌, true, List, AllPairs, Contains, Less, Equal, Some, IsPermutation, refl, sym, ap, ◌∙◌, subst, arith}
 use Rattle.std.specs.List.{slice_get}
 use Rattle.std.specs.Cmp.{IsTotalOrder}
 use Rattle.std.specs.declared.cmp.Ordering.{Ordering}
@@ -16,11 +16,11 @@ use Rattle.index_traits.proofs.ObjectLaws.{same_oid, one_value_of}
 use Rattle.index_traits.proofs.OutLaws.{ascend-out_of}
 use Rattle.doem_history.specs.Types.{Oid, Edge, Value, Run}
 use Rattle.doem_history.specs.Facts.{object_order}
-use Rattle.doem_history.specs.FactLaws.{edge_total, object_total}
+use Rattle.doem_history.specs.inside.FactLaws.{edge_total, object_total}
 use Rattle.doem_history.specs.Histories.{facts_at, ordered, KeptHistory, moment_at, moments_of}
 use Rattle.doem_history.specs.inside.Kept.{Ascends, AreFacts}
 use Rattle.doem_history.proofs.DeltaLaws.{objects_rise}
-use Rattle.doem_history.proofs.FactSetLaws.{distinct_held}
+use Rattle.doem_history.proofs.KeptLaws.{distinct_held}
 use Rattle.doem_history.proofs.OrderLaws.{never-both, ascend-ordered, from-ordered, in-ordered, ordered_is}
 
 same_number : (a b : Oid) → a ≡ b → (a.0 == b.0) ≡ true
@@ -91,10 +91,3 @@ only_told cmp total moments i j runs found facts in_i in_j exact fact = (
       (in-ordered cmp total (facts_at i runs) (facts.once i in_i) fact both.0, (λ there. both.1 (from-ordered cmp total (facts_at j runs) fact there))))),
   (λ both. (exact fact).1 (from-ordered cmp total (facts_at i runs) fact both.0, (λ there. both.1 (in-ordered cmp total (facts_at j runs) (facts.once j in_j) fact there)))),
 )
-
-pub same_edge : (a b : Edge) → ((a.parent.0 == b.parent.0) && ((a.label.0 == b.label.0) && (a.child.0 == b.child.0))) ≡ true → a ≡ b
-same_edge a b h =
-    let parent : a.parent.0 ≡ b.parent.0 = grind (arith, nat_tests) in
-    let label : a.label.0 ≡ b.label.0 = grind (arith, nat_tests) in
-    let child : a.child.0 ≡ b.child.0 = grind (arith, nat_tests) in
-    λ i. record { parent = record { 0 = parent i }; label = record { 0 = label i }; child = record { 0 = child i } }

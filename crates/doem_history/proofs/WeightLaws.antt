@@ -10,7 +10,7 @@ use Rattle.lore_base.proofs.ToldLaws.{IsTold, told_not, told_member, told_edge, 
 use Rattle.list_laws.proofs.MemberLaws.{All-from_members, Contains-from_map}
 use Rattle.doem_history.specs.Types.{Delta, Run, STANDING}
 use Rattle.doem_history.specs.Facts.{name_order, object_order, object_weight}
-use Rattle.doem_history.specs.FactLaws.{name_total, object_total, edge_total}
+use Rattle.doem_history.specs.inside.FactLaws.{name_total, object_total, edge_total}
 use Rattle.doem_history.specs.Runs.{IsWeight}
 use Rattle.doem_history.specs.Moments.{Moment, IsInOrder, LeadsTo, IsHistoryWeight}
 use Rattle.doem_history.specs.Histories.{facts_at, ordered}

@@ -1,5 +1,6 @@
 -- Histories as they are kept: the runs of facts, and the moments that they tell.
-use Rattle.std.specs.Prelude.{◌≡◌, ℕ, ◌+◌, Bool, ◌&&◌, nat_le, nat_lt, List, [], ◌∷◌, map, filter}
+pub use Rattle.doem_facts.specs.Held.{holds, facts_at}
+use Rattle.std.specs.Prelude.{◌≡◌, ℕ, ◌+◌, List, [], ◌∷◌, map}
 use Rattle.std.specs.List.{range_with_len}
 use Rattle.std.specs.BTreeSet.{insert_key}
 use Rattle.std.specs.declared.cmp.Ordering.{Ordering}
@@ -7,14 +8,6 @@ use Rattle.lore_base.specs.Walks.{edge_cmp}
 use Rattle.doem_history.specs.Types.{Oid, Edge, Value, Run}
 use Rattle.doem_history.specs.Facts.{name_order, object_order}
 use Rattle.doem_history.specs.Moments.{Moment}
-
--- the run holds the moment; one that goes on holds each moment that is to come
-abbrev pub holds : {F : Type 0} → ℕ → Run F → Bool
-holds moment run = nat_le run.begin moment && nat_lt moment run.end
-
--- the facts of the runs that hold the moment
-abbrev pub facts_at : {F : Type 0} → ℕ → List (Run F) → List F
-facts_at moment runs = map (λ run. run.fact) (filter (holds moment) runs)
 
 -- the facts in ascending order
 abbrev pub ordered : {F : Type 0} → (F → F → Ordering) → List F → List F

@@ -1,8 +1,10 @@
 -- Laws of histories: moments have one weight, and a moment more adds exactly what the facts weigh that come
--- with it.
+-- with it. What two moments differ in is one delta.
 use Rattle.std.specs.Prelude.{◌≡◌, ℕ, ◌+◌, ◌<◌, ◌≤◌, List, [], ◌∷◌, ◌++◌, length, All}
+use Rattle.lore_base.specs.Databases.{OemGraph}
+use Rattle.lore_base.specs.Deltas.{IsDelta}
 use Rattle.doem_history.specs.Types.{Delta, MOMENTS}
-use Rattle.doem_history.specs.Moments.{Moment, IsInOrder, LeadsTo, IsHistoryWeight}
+use Rattle.doem_history.specs.Moments.{Moment, graph_of, IsInOrder, LeadsTo, IsHistoryWeight}
 use Rattle.doem_history.specs.Plans.{weight_of_come}
 
 -- moments in order, one at least, and no more than a history may have: a weight is told by runs as a history
@@ -24,3 +26,13 @@ AddsWhatComes = (earlier : List Moment) (before after : Moment) (delta : Delta) 
     → AreMoments (earlier ++ before ∷ []) → LeadsTo before after delta
     → IsHistoryWeight (earlier ++ before ∷ []) weight
     → IsHistoryWeight (earlier ++ before ∷ after ∷ []) (weight + weight_of_come delta)
+
+-- two graphs differ in one delta
+abbrev pub HaveOneDelta : Type 0
+HaveOneDelta = (before after : OemGraph) (delta other : Delta)
+    → IsDelta before after delta → IsDelta before after other → delta ≡ other
+
+-- and moments in order do differ in one
+abbrev pub HaveSomeDelta : Type 0
+HaveSomeDelta = (before after : Moment) → IsInOrder before → IsInOrder after
+    → (delta : Delta) × IsDelta (graph_of before) (graph_of after) delta

@@ -1,7 +1,6 @@
+pub use Rattle.doem_facts.specs.Facts
 pub mod Types
 pub mod Faults
-pub mod Facts
-pub mod FactLaws
 pub mod Runs
 pub mod Moments
 pub mod Histories

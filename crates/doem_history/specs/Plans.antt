@@ -1,4 +1,5 @@
--- Plans of one moment more: which runs end, which facts come, and what the history weighs then.
+-- Plans of one moment more: which runs end, which facts come, and what the history weighs then. A caller
+-- needs `Appends` and `HasRoom` alone, and hands them on.
 use Rattle.std.specs.Prelude.{◌≡◌, ◌≢◌, ℕ, ◌+◌, ◌<◌, ◌≤◌, List, length, sum_by, AllPairs, Contains, Some}
 use Rattle.std.specs.Prelude.{slice_get}
 use Rattle.doem_history.specs.Types.{Oid, Edge, Value, Delta, Run, STANDING, MOMENTS, HISTORY_WEIGHT}

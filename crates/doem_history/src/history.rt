@@ -9,29 +9,30 @@ ghost use Rattle.doem_history.specs.Types.{MOMENTS as THE_MOMENTS};
 ghost use Rattle.doem_history.specs.Moments.{Moment, moment_of, graph_of, IsInOrder, LeadsTo};
 ghost use Rattle.doem_history.specs.Moments.{IsHistoryWeight, IsFull};
 ghost use Rattle.doem_history.specs.Histories.{moment_at, last_moment, moments_of, IsSame};
+ghost use Rattle.doem_history.specs.Laws.{AreMoments};
 ghost use Rattle.doem_history.specs.Plans.{weight_of, weight_of_come, CarriesOut, Appends, HasRoom};
 ghost use Rattle.doem_history.specs.declared.faults.HistoryFault.TheVariants as fault;
 
-use crate::fact_sets::{copied_facts, sort_facts, weigh};
-use crate::facts::{NameFact, ObjectFact};
+use crate::edge_timeline::EdgeTimeline;
 use crate::faults::HistoryFault;
 use crate::name_facts::{name_facts, name_table};
 use crate::plans::HistoryPlan;
 use crate::timeline::Timeline;
 use crate::view::HistoryView;
+use doem_facts::{NameFact, ObjectFact, copied_facts, sort_facts, weigh};
 use lore_base::limits::MOMENTS;
 use lore_base::{Delta, Edge, EdgeBuf, Names, NoMemory, ObjectList, Oid, Value};
 use std::alloc::Global;
 use std::marker::Model;
 
 /// The names, objects and edges of a database at successive moments, each fact with the moments at
-/// which it began and ended (after DOEM, Chawathe, Abiteboul and Widom 1998). Contracts see the runs
-/// of each kind of fact, and through `moments_of` the list of moments.
+/// which it began and ended (after DOEM, Chawathe, Abiteboul and Widom 1998). Contracts see the
+/// runs of each kind of fact, and through `moments_of` the list of moments.
 #[derive(Drop)]
 pub struct History {
     names: Timeline<NameFact>,
     objects: Timeline<ObjectFact>,
-    edges: Timeline<Edge>,
+    edges: EdgeTimeline,
     last: u32,
     weight: u64,
 }
@@ -95,13 +96,15 @@ impl History {
         ensures limit { result ≤ THE_MOMENTS }
         ensures weight { IsHistoryWeight (moments_of self.now) self.now.weight }
         ensures light { self.now.weight ≤ THE_WEIGHT }
+        ensures ordered { AreMoments (moments_of self.now) }
     {
         self.last
     }
 
     /// Works out what comes of the history where the delta leads on from its last moment. `Full`
     /// exactly where it would then weigh more than a history may, or its last moment have a number
-    /// above the greatest.
+    /// above the greatest. Takes time by the delta, however many runs there are, and for a name
+    /// that goes by the newer runs of its object's names.
     pub fn prepare(&self, delta: &Delta) -> Result<HistoryPlan, HistoryFault>
         requires { (after : Moment) × LeadsTo (last_moment self.now) after delta.now }
         ensures appends { IfOk result (λ plan. (after : Moment)
@@ -141,7 +144,7 @@ impl History {
         self.make_room(plan)
     }
 
-    /// Appends the moment. Takes no memory.
+    /// Appends the moment. Takes no memory, and time by the plan.
     pub fn commit(&mut self, plan: HistoryPlan)
         requires appends { (after : Moment) × Appends self.old plan after }
         requires room { HasRoom self.old plan }
@@ -161,23 +164,25 @@ impl History {
         self.weight = weight;
     }
 
-    /// The moment, for readers. Takes no memory.
+    /// The moment, for readers. Takes no memory. How long reading it takes, `HistoryView` says.
     pub fn view<'a>(&'a self, moment: u32) -> HistoryView<'a>
         requires { moment ≤ self.now.last }
         ensures moment { result ≡ moment_at self.now moment }
+        ensures ordered { IsInOrder result }
         ensures among { slice_get (moments_of self.now) moment ≡ Some result }
     {
         HistoryView::new(self, moment)
     }
 
     /// The object's value at the moment; None exactly where the object isn't live at it. Takes no
-    /// memory.
+    /// memory, and time by the runs that the object had, from the newest back.
     pub fn value_at(&self, moment: u32, oid: Oid) -> Option<&Value>
         requires { moment ≤ self.now.last }
         ensures found { IfSome result (λ value.
             Contains (moment_at self.now moment).objects (oid, value.now)) }
         ensures none { IfNone result (¬ IsLive (moment_at self.now moment).objects oid) }
-        ensures only { (value : TheValue) → Contains (moment_at self.now moment).objects (oid, value)
+        ensures only { (value : TheValue)
+            → Contains (moment_at self.now moment).objects (oid, value)
             → option_copied result ≡ Some value }
     {
         match self.objects.held_at(oid, moment) {
@@ -186,7 +191,7 @@ impl History {
         }
     }
 
-    /// The names of the moment.
+    /// The names of the moment. Takes time by all runs of names.
     pub fn names_at(&self, moment: u32) -> Result<Names, NoMemory>
         requires { moment ≤ self.now.last }
         ensures { IfOk result (λ names. names ≡ (moment_at self.now moment).names) }
@@ -196,8 +201,8 @@ impl History {
         name_table(self.names.allocator(), facts.as_slice())
     }
 
-    /// What leads from the one moment to the other. Only facts that begin or end between the two are
-    /// looked at.
+    /// What leads from the one moment to the other. Only facts that begin or end between the two
+    /// are looked at.
     pub fn between(&self, i: u32, j: u32) -> Result<Delta, NoMemory>
         requires order { i ≤ j }
         requires last { j ≤ self.now.last }
@@ -250,8 +255,8 @@ impl History {
         self.last >= MOMENTS
     }
 
-    // The plan by which the delta is carried out, where these are the names that come with it and the
-    // history weighs so much then.
+    // The plan by which the delta is carried out, where these are the names that come with it and
+    // the history weighs so much then.
     fn plan(
         &self,
         delta: &Delta,
@@ -299,7 +304,7 @@ fn first(
     let come = copied_facts(alloc, objects)?;
     let objects = Timeline::first(alloc, come)?;
     let come = copied_facts(alloc, edges)?;
-    let edges = Timeline::first(alloc, come)?;
+    let edges = EdgeTimeline::first(alloc, come)?;
     Ok(History {
         names,
         objects,
@@ -309,8 +314,8 @@ fn first(
     })
 }
 
-// The weight with that of names, objects and edges; None exactly where it is more than a history may
-// weigh.
+// The weight with that of names, objects and edges; None exactly where it is more than a history
+// may weigh.
 fn weigh_all(names: &[NameFact], objects: &[ObjectFact], edges: &[Edge], start: u64) -> Option<u64>
     requires { start ≤ THE_WEIGHT }
     ensures some { IfSome result

@@ -10,15 +10,13 @@ pub use history::History;
 pub use plans::HistoryPlan;
 pub use view::HistoryView;
 
-mod fact_sets;
-mod facts;
+mod edge_timeline;
 mod faults;
 mod history;
 pub mod laws;
+mod links;
 mod name_facts;
 mod plans;
 mod run_chains;
-mod runs;
 mod timeline;
-mod values;
 mod view;

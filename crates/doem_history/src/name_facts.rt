@@ -1,7 +1,7 @@
 ghost use Rattle.std.specs.Prelude.{◌≡◌, IfOk};
 ghost use Rattle.lore_base.specs.Names.{IsNameTable};
 
-use crate::facts::NameFact;
+use doem_facts::NameFact;
 use lore_base::{Names, NoMemory, TryCopy};
 use std::alloc::Global;
 

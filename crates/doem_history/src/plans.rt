@@ -1,4 +1,7 @@
-use crate::facts::{NameFact, ObjectFact};
+ghost use Rattle.std.specs.Prelude.{◌≡◌};
+ghost use Rattle.doem_history.specs.Plans.{steps_in};
+
+use doem_facts::{NameFact, ObjectFact};
 use lore_base::Edge;
 use std::marker::Model;
 
@@ -15,6 +18,18 @@ impl<F> Model for RunPlan<F> {
     ghost Value = { PlannedRuns F };
 
     ghost view = { λ p. record { places = p.places.items; come = p.come.items } };
+}
+
+impl<F> RunPlan<F> {
+    // How many beginnings, endings and moments there are.
+    pub(crate) fn steps(&self) -> usize
+        ensures { result ≡ steps_in self.now }
+    {
+        self.come
+            .len()
+            .saturating_add(self.places.len())
+            .saturating_add(1)
+    }
 }
 
 /// What comes of a history with one moment more, worked out by `History::prepare` and put in place

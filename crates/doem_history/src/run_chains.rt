@@ -1,15 +1,13 @@
 ghost use Rattle.std.specs.Prelude.{◌≡◌, ◌≢◌, ◌↔◌, ℕ, ◌+◌, ◌<◌, ◌≤◌, ◌^◌, [], ◌∷◌, ◌++◌, length};
-ghost use Rattle.std.specs.Prelude.{All, AllPairs, Contains, cond, IsTrue, Some};
+ghost use Rattle.std.specs.Prelude.{All, AllPairs, Contains, IsTrue};
 ghost use Rattle.std.specs.Prelude.{IfSome, IfNone, IfOk, OnOk};
-ghost use Rattle.indexmap.specs.IndexMap.{get, spare};
-ghost use Rattle.doem_history.specs.Types.{Oid as TheOid, STANDING as THE_STANDING};
+ghost use Rattle.doem_history.specs.Types.{STANDING as THE_STANDING};
 ghost use Rattle.doem_history.specs.Histories.{facts_at};
 ghost use Rattle.doem_history.specs.Plans.{IsOpen, AreEnding};
 ghost use Rattle.doem_history.specs.inside.Kept.{end_at, ended, begun, moved_on};
-ghost use Rattle.doem_history.specs.inside.Chains.{same_oid, link_told};
 
-use crate::facts::Fact;
-use crate::runs::{Run, STANDING};
+use crate::links::{link_of, put_link};
+use doem_facts::{Fact, Run, STANDING};
 use indexmap::IndexMap;
 use lore_base::{Listing, NoMemory, Oid};
 use std::alloc::Global;
@@ -144,7 +142,8 @@ impl<F: Fact + Drop> RunChains<F> {
 }
 
 impl<F: Fact> RunChains<F> {
-    // The place of the fact's run that goes on; None exactly where there is none.
+    // The place of the fact's run that goes on; None exactly where there is none. An object's is its
+    // newest run.
     fn open_place(&self, fact: &F) -> Option<u32>
         ensures some { IfSome result (λ place. IsOpen self.now.runs place fact.now) }
         ensures none { IfNone result ((place : ℕ) → ¬ IsOpen self.now.runs place fact.now) }
@@ -216,28 +215,6 @@ impl<F: Fact + Copy + Drop> RunChains<F> {
         }
         Ok(held)
     }
-}
-
-// The link to the object's newest run; 0 where it has none.
-fn link_of(newest: &IndexMap<Oid, u32>, oid: Oid) -> u32
-    ensures { result ≡ link_told (get same_oid newest.now oid) }
-{
-    match newest.get(&oid) {
-        Some(link) => *link,
-        None => 0,
-    }
-}
-
-// Makes this the link to the object's newest run. Takes no memory.
-fn put_link(newest: &mut IndexMap<Oid, u32>, oid: Oid, link: u32)
-    requires { 1 ≤ spare newest.old }
-    ensures told { (other : TheOid) → get same_oid newest.new other
-        ≡ cond (same_oid oid other) (Some link) (get same_oid newest.old other) }
-    ensures room { spare newest.old ≤ spare newest.new + 1 }
-{
-    let Ok(_) = newest.insert(oid, link) else {
-        unreachable!();
-    };
 }
 
 // Whether the run is one of the fact, and goes on.

@@ -7,11 +7,9 @@ ghost use Rattle.doem_history.specs.Plans.{IsOpen, AreEnding, Ends, steps_in};
 ghost use Rattle.doem_history.specs.inside.Kept.{Ascends, AreKept, AreFacts, begun, moved_on};
 ghost use Rattle.doem_history.specs.inside.Marks.{runs_at, IsLeaving, IsComing};
 
-use crate::fact_sets::{held_facts, sort_facts, without};
-use crate::facts::Fact;
 use crate::plans::RunPlan;
 use crate::run_chains::RunChains;
-use crate::runs::Run;
+use doem_facts::{Fact, Run, held_facts, sort_facts, without};
 use lore_base::{Listing, NoMemory, Oid};
 use std::alloc::Global;
 use std::marker::Model;
@@ -101,11 +99,7 @@ impl<F: Fact + Drop> Timeline<F> {
         ensures same { AreSame self.old self.new }
         ensures room { OnOk result (steps_in plan.now ≤ self.new.room) }
     {
-        let more = plan
-            .come
-            .len()
-            .saturating_add(plan.places.len())
-            .saturating_add(1);
+        let more = plan.steps();
         self.chains.reserve(more)?;
         self.over.reserve(more)?;
         self.marks.reserve(more)?;
@@ -202,6 +196,13 @@ impl<F: Fact> Timeline<F> {
     // The allocator that the timeline takes its memory from.
     pub(crate) fn allocator(&self) -> Global {
         self.chains.allocator()
+    }
+
+    // The number of runs.
+    pub(crate) fn count(&self) -> usize
+        ensures { result ≡ length self.now.runs }
+    {
+        self.chains.runs().len()
     }
 
     // A fact of the object that stands at the moment; None exactly where there is none. Takes no

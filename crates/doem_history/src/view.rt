@@ -7,7 +7,9 @@ use lore_base::{EdgeBuf, NoMemory, Oid, Steps, Value};
 use std::marker::Model;
 use std::sync::ledger::Ledger;
 
-/// One moment of a history, read as a graph is. Contracts see its names, objects and edges.
+/// One moment of a history, read as a graph is. The edges of an object are read in time by all runs
+/// of edges that ever left it, its value in time by the runs of its values. Contracts see the names,
+/// objects and edges of the moment.
 #[derive(Drop)]
 pub struct HistoryView<'a> {
     history: &'a History,

@@ -1,9 +1,7 @@
-ghost use Rattle.std.specs.Prelude.{◌≡◌, ◌<◌, IfOk};
-ghost use Rattle.lore_base.specs.Databases.{AreAscendingEdges};
-ghost use Rattle.dataguide.specs.Guides.{StandsFor};
+ghost use Rattle.std.specs.Prelude.{◌≡◌, ◌<◌};
 
 use crate::sets::set_of;
-use dataguide::{Guide, GuideFault, Node};
+use dataguide::{Guide, GuideDelta, GuideFault, Origin};
 use index_traits::NaiveEdges;
 use lore_base::{Edge, EdgeBuf, Label, Names, NoMemory, OemText, Oid, Steps};
 use std::alloc::Global;
@@ -11,74 +9,66 @@ use std::marker::Brand;
 use std::sync::ledger::{Blank, Ledger};
 use std::test::Fail;
 
-// Names, each with the digit of its object, and edges as the digits of parent, label and child.
-pub(crate) type Shape = (&'static str, &'static str);
+// Names with their objects, and edges as parent, label and child.
+type Shape = (&'static [(&'static str, u32)], &'static [[u32; 3]]);
 
 // Two restaurants (0), each with a name (1) and a price (2). Objects are numbered otherwise than
 // paths are ordered.
-pub(crate) const RESTAURANTS: Shape = ("Guide8", "809 803 917 922 316 325");
+const RESTAURANTS: Shape = (
+    &[("Guide", 8)],
+    &[
+        [8, 0, 9],
+        [8, 0, 3],
+        [9, 1, 7],
+        [9, 2, 2],
+        [3, 1, 6],
+        [3, 2, 5],
+    ],
+);
 
 // A ring of two objects, and a third one that hangs on it.
-pub(crate) const RING: Shape = ("Guide1", "102 201 213");
+const RING: Shape = (&[("Guide", 1)], &[[1, 0, 2], [2, 0, 1], [2, 1, 3]]);
 
 // Two names of one object, and an edge that no path reaches.
-const TWO_NAMES: Shape = ("Home4 Guide4", "104 414");
+const TWO_NAMES: Shape = (&[("Home", 4), ("Guide", 4)], &[[1, 0, 4], [4, 1, 4]]);
 
 // Short paths from two names come before longer ones, and those of a lower name before others.
-const TWO_TREES: Shape = ("Movies1 Guide2", "103 214 205 506");
+const TWO_TREES: Shape = (
+    &[("Movies", 1), ("Guide", 2)],
+    &[[1, 0, 3], [2, 1, 4], [2, 0, 5], [5, 0, 6]],
+);
 
 // Each set of the first object with some of the two others is led to.
-const ALL_SUBSETS: Shape = ("Q1", "101 111 102 203 213");
+const ALL_SUBSETS: Shape = (
+    &[("Q", 1)],
+    &[[1, 0, 1], [1, 1, 1], [1, 0, 2], [2, 0, 3], [2, 1, 3]],
+);
 
 // Two sets have equal hashes.
-const EQUAL_HASHES: Shape = ("Guide1", "105 110 115");
+const EQUAL_HASHES: Shape = (&[("Guide", 1)], &[[1, 0, 5], [1, 1, 0], [1, 1, 5]]);
 
 // Edges without a name.
-const NAMELESS: Shape = ("", "102 201");
+const NAMELESS: Shape = (&[], &[[1, 0, 2], [2, 0, 1]]);
 
-fn number(digit: u8) -> u32 {
-    u32::from(digit.saturating_sub(b'0'))
-}
-
-pub(crate) fn names_of(alloc: Global, words: &str) -> Result<Names, NoMemory> {
+fn names_of(alloc: Global, bound: &[(&str, u32)]) -> Result<Names, NoMemory> {
     let mut names = Names::new(alloc);
-    for word in words.as_bytes().split(|byte| *byte == b' ') {
-        if let Some((digit, name)) = word.split_last() {
-            names.put(OemText::from_bytes(alloc, name)?, Oid(number(*digit)))?;
-        }
+    for (name, object) in bound {
+        names.put(OemText::from_bytes(alloc, name.as_bytes())?, Oid(*object))?;
     }
     Ok(names)
 }
 
-// The edges of a shape in order.
-pub(crate) fn edges_of(alloc: Global, words: &str) -> Result<EdgeBuf, NoMemory>
-    ensures { IfOk result AreAscendingEdges }
-{
+fn graph_of(alloc: Global, numbers: &[[u32; 3]]) -> Result<NaiveEdges, NoMemory> {
     let mut edges = EdgeBuf::new(alloc);
-    for word in words.as_bytes().split(|byte| *byte == b' ') {
-        if let [parent, label, child] = word {
-            edges.push(Edge {
-                parent: Oid(number(*parent)),
-                label: Label(number(*label)),
-                child: Oid(number(*child)),
-            })?;
-        }
+    for [parent, label, child] in numbers {
+        edges.push(Edge {
+            parent: Oid(*parent),
+            label: Label(*label),
+            child: Oid(*child),
+        })?;
     }
     edges.sort_set();
-    Ok(edges)
-}
-
-// The guide of a graph with at most so many nodes.
-pub(crate) fn guide_of<L: Ledger>(
-    alloc: Global,
-    graph: &NaiveEdges,
-    names: &Names,
-    limit: u32,
-    steps: &mut Steps<L>,
-) -> Result<Guide, GuideFault>
-    ensures { IfOk result (λ guide. StandsFor guide names.now graph.now) }
-{
-    Guide::build(alloc, graph, names, limit, steps)
+    Ok(NaiveEdges::new(edges))
 }
 
 fn built<L: Ledger>(
@@ -91,9 +81,9 @@ fn built<L: Ledger>(
     requires parts { blank.parts ≡ L.parts }
     requires some { 0 < blank.parts }
 {
-    let graph = NaiveEdges::new(edges_of(alloc, shape.1)?);
+    let graph = graph_of(alloc, shape.1)?;
     let names = names_of(alloc, shape.0)?;
-    guide_of(alloc, &graph, &names, limit, &mut Steps::<L>::new(blank))
+    Guide::build(alloc, &graph, &names, limit, &mut Steps::<L>::new(blank))
 }
 
 // The guide of the shape, with at most so many nodes.
@@ -101,97 +91,90 @@ fn guide_within(alloc: Global, shape: Shape, limit: u32) -> Result<Guide, GuideF
     built::<Brand>(alloc, shape, limit, Blank::new(1))
 }
 
-// The number of nodes, or why there is no guide.
-fn count_within(alloc: Global, shape: Shape, limit: u32) -> Result<u32, GuideFault> {
-    Ok(guide_within(alloc, shape, limit)?.len())
+// Whether the guide has so many nodes; none where it would have more than the limit.
+fn has_nodes(alloc: Global, shape: Shape, limit: u32, wanted: Option<u32>) -> bool {
+    match guide_within(alloc, shape, limit) {
+        Ok(guide) => wanted == Some(guide.len()),
+        Err(fault) => fault == GuideFault::Nodes && wanted.is_none(),
+    }
 }
+
+const COUNTS: [(Shape, u32, Option<u32>); 12] = [
+    (ALL_SUBSETS, 4, Some(4)),
+    (ALL_SUBSETS, 3, None),
+    (ALL_SUBSETS, u32::MAX, Some(4)),
+    (RESTAURANTS, 4, Some(4)),
+    (RESTAURANTS, 3, None),
+    (RESTAURANTS, 0, None),
+    (RING, 9, Some(3)),
+    (TWO_NAMES, 1, Some(1)),
+    (TWO_TREES, 9, Some(6)),
+    (TWO_TREES, 1, None),
+    (EQUAL_HASHES, 9, Some(3)),
+    (NAMELESS, 0, Some(0)),
+];
 
 #[test]
 fn more_sets_than_the_limit_are_refused(rt: HostRuntime) -> Result<(), Fail> {
-    let table = [
-        (ALL_SUBSETS, 4, Ok(4)),
-        (ALL_SUBSETS, 3, Err(GuideFault::Nodes)),
-        (ALL_SUBSETS, u32::MAX, Ok(4)),
-        (RESTAURANTS, 4, Ok(4)),
-        (RESTAURANTS, 3, Err(GuideFault::Nodes)),
-        (RESTAURANTS, 0, Err(GuideFault::Nodes)),
-        (RING, 9, Ok(3)),
-        (TWO_NAMES, 1, Ok(1)),
-        (TWO_TREES, 9, Ok(6)),
-        (TWO_TREES, 1, Err(GuideFault::Nodes)),
-        (EQUAL_HASHES, 9, Ok(3)),
-        (NAMELESS, 0, Ok(0)),
-    ];
-    for (shape, limit, wanted) in table {
-        assert_eq!(rt; count_within(rt.alloc(), shape, limit), wanted);
+    for (shape, limit, wanted) in COUNTS {
+        if !has_nodes(rt.alloc(), shape, limit, wanted) {
+            return Err(Fail::new("a guide has other nodes, or is not refused"));
+        }
     }
     Ok(())
 }
 
-// The number of the node with the set of these objects.
-fn node_with(alloc: Global, guide: &Guide, digits: &str) -> Result<Option<u32>, NoMemory> {
-    let set = set_of(alloc, digits)?;
-    Ok(guide.find_set(&set).map(|node| node.0))
+// The number of the node with the set of these objects, in the shape's guide.
+fn node_in(alloc: Global, shape: Shape, members: &[u32]) -> Result<Option<u32>, GuideFault> {
+    let guide = guide_within(alloc, shape, 9)?;
+    let set = set_of(alloc, members)?;
+    match guide.find_set(&set) {
+        Some(node) => Ok(Some(node.0)),
+        None => Ok(None),
+    }
 }
 
-// The same in the shape's guide.
-fn node_in(alloc: Global, shape: Shape, digits: &str) -> Result<Option<u32>, GuideFault> {
-    Ok(node_with(alloc, &guide_within(alloc, shape, 9)?, digits)?)
-}
+// A shape, a set of objects, and the node that has it.
+const NODES: [(Shape, &[u32], Option<u32>); 14] = [
+    (RESTAURANTS, &[8], Some(0)),
+    (RESTAURANTS, &[9, 3], Some(1)),
+    (RESTAURANTS, &[7, 6], Some(2)),
+    (RESTAURANTS, &[2, 5], Some(3)),
+    (RESTAURANTS, &[9], None),
+    (RESTAURANTS, &[3, 8, 9], None),
+    (RESTAURANTS, &[], None),
+    (TWO_NAMES, &[1], None),
+    (ALL_SUBSETS, &[3, 1], Some(3)),
+    (ALL_SUBSETS, &[2, 3], None),
+    (EQUAL_HASHES, &[5], Some(1)),
+    (EQUAL_HASHES, &[0, 5], Some(2)),
+    (EQUAL_HASHES, &[0], None),
+    (NAMELESS, &[], None),
+];
 
 #[test]
 fn sets_are_those_of_these_nodes(rt: HostRuntime) -> Result<(), Fail> {
-    let table = [
-        (RESTAURANTS, "8", Some(0)),
-        (RESTAURANTS, "93", Some(1)),
-        (RESTAURANTS, "76", Some(2)),
-        (RESTAURANTS, "25", Some(3)),
-        (RESTAURANTS, "9", None),
-        (RESTAURANTS, "389", None),
-        (RESTAURANTS, "", None),
-        (TWO_NAMES, "1", None),
-        (ALL_SUBSETS, "31", Some(3)),
-        (ALL_SUBSETS, "23", None),
-        (EQUAL_HASHES, "5", Some(1)),
-        (EQUAL_HASHES, "05", Some(2)),
-        (EQUAL_HASHES, "0", None),
-        (NAMELESS, "", None),
-    ];
-    for (shape, digits, wanted) in table {
-        assert_eq!(rt; node_in(rt.alloc(), shape, digits)?, wanted);
+    for (shape, members, wanted) in NODES {
+        if node_in(rt.alloc(), shape, members)? != wanted {
+            return Err(Fail::new("another node has a set, or none"));
+        }
     }
     Ok(())
 }
 
-// The edges of the first ten nodes by their first four places: the digits of node, label and next
-// node, behind a 1.
-pub(crate) fn edges_by_place(guide: &Guide) -> u64 {
-    let mut edges = 1_u64;
-    for at in 0..40 {
-        if let Some((label, next)) = guide.labels_of(Node(at / 4), at % 4) {
-            let edge = u64::from(at / 4) * 100 + u64::from(label.0) * 10 + u64::from(next.0);
-            edges = edges.wrapping_mul(1_000).wrapping_add(edge);
-        }
-    }
-    edges
-}
-
-// The same in the shape's guide.
-fn edges_in(alloc: Global, shape: Shape) -> Result<u64, GuideFault> {
-    Ok(edges_by_place(&guide_within(alloc, shape, 9)?))
+// The place of a node that is planned, with an edge to itself.
+fn planned(alloc: Global) -> Result<u32, NoMemory> {
+    let mut delta = GuideDelta::new(alloc);
+    let place = delta.node(Origin::Fresh(set_of(alloc, &[1, 2])?))?;
+    delta.edge(place, Label(7), place)?;
+    Ok(place)
 }
 
 #[test]
-fn nodes_have_these_edges_in_order(rt: HostRuntime) -> Result<(), Fail> {
-    let table = [
-        (RESTAURANTS, 1_001_112_123),
-        (RING, 1_001_100_112),
-        (TWO_NAMES, 1_010),
-        (TWO_TREES, 1_002_013_104_205),
-        (NAMELESS, 1),
-    ];
-    for (shape, wanted) in table {
-        assert_eq!(rt; edges_in(rt.alloc(), shape)?, wanted);
+fn an_edge_is_planned(rt: HostRuntime) -> Result<(), Fail> {
+    if planned(rt.alloc())? == 0 {
+        Ok(())
+    } else {
+        Err(Fail::new("the first node has another place"))
     }
-    Ok(())
 }

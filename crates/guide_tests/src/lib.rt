@@ -1,12 +1,11 @@
-//! Tests of sets of objects, and of guides of small graphs: where they pass a limit, which node
-//! has a set, their edges in order, and what they become after a change.
+//! Tests of sets of objects, and of guides of small graphs: where they pass a limit, which node has
+//! a set, and an edge that is planned.
 //!
-//! Values are from outside the program. Whole scripts test what a guide tells of paths.
+//! Values are from outside the program. Whole scripts test what a guide tells of paths, and what it
+//! becomes after a change.
 #![tactic(auto)]
 
 #[cfg(test)]
 mod guides;
-#[cfg(test)]
-mod plans;
 #[cfg(test)]
 mod sets;

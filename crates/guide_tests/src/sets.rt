@@ -5,11 +5,10 @@ use oem_set::{BitSet, OidSet};
 use std::alloc::Global;
 use std::test::Fail;
 
-// The set of the objects whose numbers are these digits.
-pub(crate) fn set_of(alloc: Global, digits: &str) -> Result<OidSet, NoMemory> {
+pub(crate) fn set_of(alloc: Global, numbers: &[u32]) -> Result<OidSet, NoMemory> {
     let mut oids = OidBuf::new(alloc);
-    for digit in digits.as_bytes() {
-        oids.push(Oid(u32::from(digit.saturating_sub(b'0'))))?;
+    for number in numbers {
+        oids.push(Oid(*number))?;
     }
     OidSet::from_buf(&mut oids)
 }
@@ -36,61 +35,81 @@ fn contained(set: &OidSet) -> u64 {
     digits
 }
 
-// Both of the set of these objects, how many members it has, and its hash.
-fn told(alloc: Global, numbers: &str) -> Result<(u64, u64, usize, u64), NoMemory> {
+// Whether the set of these objects has these members as digits, so many, and this hash.
+fn has_members(
+    alloc: Global,
+    numbers: &[u32],
+    (members, len, hash): (u64, usize, u64),
+) -> Result<bool, NoMemory> {
     let set = set_of(alloc, numbers)?;
-    Ok((digits(&set), contained(&set), set.len(), set.hash64()))
+    let exact = digits(&set) == members && contained(&set) == members;
+    Ok(exact && set.len() == len && set.hash64() == hash)
 }
+
+const MEMBERS: [(&[u32], (u64, usize, u64)); 6] = [
+    (&[], (0, 0, 0)),
+    (&[0], (0, 1, 0)),
+    (&[5, 5], (5, 1, 5)),
+    (&[0, 5], (5, 2, 5)),
+    (&[1, 2], (12, 2, 6_364_136_223_846_793_007)),
+    (&[2, 1, 2], (12, 2, 6_364_136_223_846_793_007)),
+];
 
 #[test]
 fn members_stand_once_in_ascending_order(rt: HostRuntime) -> Result<(), Fail> {
-    let table = [
-        ("", 0, 0, 0),
-        ("0", 0, 1, 0),
-        ("55", 5, 1, 5),
-        ("05", 5, 2, 5),
-        ("12", 12, 2, 6_364_136_223_846_793_007),
-        ("212", 12, 2, 6_364_136_223_846_793_007),
-    ];
-    for (numbers, digits, len, hash) in table {
-        assert_eq!(rt; told(rt.alloc(), numbers)?, (digits, digits, len, hash));
+    for (numbers, wanted) in MEMBERS {
+        if !has_members(rt.alloc(), numbers, wanted)? {
+            return Err(Fail::new("a set has other members"));
+        }
     }
     Ok(())
 }
 
-// Whether the sets of these objects meet and are equal, each told of the one and of the other, and
-// the first one once the other one is put into it, as digits.
-fn compared(alloc: Global, one: &str, other: &str) -> Result<([bool; 4], u64), NoMemory> {
-    let mut set = set_of(alloc, one)?;
-    let other = set_of(alloc, other)?;
-    let told = [
-        set.meets(&other),
-        other.meets(&set),
-        set.equal(&other),
-        other.equal(&set),
-    ];
-    other.union_into(&mut set)?;
-    Ok((told, digits(&set)))
+// Whether two sets meet and are equal so, each told of the one and of the other.
+fn compare_so(set: &OidSet, other: &OidSet, meet: bool, equal: bool) -> bool {
+    set.meets(other) == meet
+        && other.meets(set) == meet
+        && set.equal(other) == equal
+        && other.equal(set) == equal
 }
 
-// The sets of the last two pairs have equal hashes.
+// Whether the sets of these objects meet and are equal so, and the first one, once the other one is
+// put into it, has these members as digits.
+fn unite(
+    alloc: Global,
+    (one, other): (&[u32], &[u32]),
+    (meet, equal): (bool, bool),
+    members: u64,
+) -> Result<bool, NoMemory> {
+    let mut set = set_of(alloc, one)?;
+    let other = set_of(alloc, other)?;
+    let same = compare_so(&set, &other, meet, equal);
+    other.union_into(&mut set)?;
+    Ok(same && digits(&set) == members)
+}
+
+// Two sets, whether they meet and are equal, and the members of both. Those of the last two pairs
+// have equal hashes.
+const PAIRS: [(&[u32], &[u32], bool, bool, u64); 11] = [
+    (&[], &[], false, true, 0),
+    (&[], &[1], false, false, 1),
+    (&[2, 4], &[], false, false, 24),
+    (&[1], &[1, 1], true, true, 1),
+    (&[1, 2, 3], &[3, 2, 1, 2], true, true, 123),
+    (&[1, 2, 3], &[1, 2, 4], true, false, 1_234),
+    (&[1, 2, 3], &[3, 4, 5, 6], true, false, 123_456),
+    (&[1, 3, 5], &[2, 4, 6, 8], false, false, 1_234_568),
+    (&[9], &[1, 5], false, false, 159),
+    (&[0, 5], &[5], true, false, 5),
+    (&[], &[0], false, false, 0),
+];
+
 #[test]
 fn sets_meet_are_equal_and_unite(rt: HostRuntime) -> Result<(), Fail> {
-    let table = [
-        ("", "", [false, false, true, true], 0),
-        ("", "1", [false; 4], 1),
-        ("24", "", [false; 4], 24),
-        ("1", "11", [true; 4], 1),
-        ("123", "3212", [true; 4], 123),
-        ("123", "124", [true, true, false, false], 1_234),
-        ("123", "3456", [true, true, false, false], 123_456),
-        ("135", "2468", [false; 4], 1_234_568),
-        ("9", "15", [false; 4], 159),
-        ("05", "5", [true, true, false, false], 5),
-        ("", "0", [false; 4], 0),
-    ];
-    for (one, other, wanted, digits) in table {
-        assert_eq!(rt; compared(rt.alloc(), one, other)?, (wanted, digits));
+    for (one, other, meet, equal, members) in PAIRS {
+        if !unite(rt.alloc(), (one, other), (meet, equal), members)? {
+            return Err(Fail::new("two sets meet, are equal or unite otherwise"));
+        }
     }
     Ok(())
 }

@@ -11,7 +11,7 @@ use Rattle.oem_labels.specs.Labels.{TextFits}
 use Rattle.live_views.specs.Types.{Label, Edge, Pattern, Delta}
 use Rattle.live_views.specs.Concerns.{IsTurned, Concerns}
 use Rattle.live_views.specs.inside.Looks.{IsLookOf}
-use Rattle.live_views.specs.inside.Touched.{AreTouched}
+use Rattle.live_views.specs.inside.Touched.{TellsTouched}
 use Rattle.live_views.specs.declared.steps.StepPatterns.{StepPatterns}
 use Rattle.live_views.specs.declared.looks.Looks.{Looks}
 use Rattle.live_views.specs.declared.touched.Touched.{Touched}
@@ -51,7 +51,7 @@ text_of_fit labels (Wild pattern) label h = h
 
 -- ---- both say the same
 module _ (query : SelectTree) (labels : List (List ℕ)) (delta : Delta) (looks : Looks) (touched : Touched)
-    (of : IsLookOf query looks) (by : AreTouched labels delta touched) where
+    (of : IsLookOf query looks) (by : TellsTouched labels delta touched) where
   edges_told : AsksEdges looks.steps touched.edges touched.texts.items → Concerns labels query delta
   edges_told (inl both) =
       let some = by.edges.0 both.1 in

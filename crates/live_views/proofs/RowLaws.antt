@@ -18,7 +18,7 @@ use Rattle.lore_base.proofs.ToldLaws.{told_bytes}
 use Rattle.list_laws.proofs.MemberLaws.{Contains-map}
 use Rattle.list_laws.proofs.OrderLaws.{Equal-from_test}
 use Rattle.list_laws.proofs.AscentLaws.{never_less}
-use Rattle.live_views.specs.Views.{Rows, View, NamedView, TurnsRows}
+use Rattle.live_views.specs.Views.{KeptRows, View, NamedView, TurnsRows}
 
 -- ---- names
 names_equiv : IsEquivalence (eq_by_cmp bytes_cmp)
@@ -31,7 +31,7 @@ own_name : (name other : List ℕ) → other ≡ name → is_at (bytes_cmp name)
 own_name name other same = subst (λ (own : List ℕ). is_at (bytes_cmp name) own ≡ true) (sym same) (names_equiv.refl name)
 
 -- ---- rows of one name
-pub TurnsRows-untold : (Told : List ℕ → Type 0) (rows : Option Rows) (views : List NamedView)
+pub TurnsRows-untold : (Told : List ℕ → Type 0) (rows : Option KeptRows) (views : List NamedView)
     → ((entry : NamedView) → Contains views entry → Told entry.0 → ⊥) → TurnsRows Told rows views views
 TurnsRows-untold Told rows [] none = tt
 TurnsRows-untold Told rows (entry ∷ views) none = (
@@ -48,7 +48,7 @@ apart_behind name entry views sorted same other there is =
     (Contains-map (λ (e : NamedView). e.0) views other there) in
     never_less bytes_cmp nat_list_cmp_total entry.0 (subst (λ (key : List ℕ). bytes_cmp entry.0 key ≡ Less) (is ∙ same) below)
 
-pub TurnsRows-set : (name : List ℕ) (rows : Option Rows) (views : List NamedView) (view after : View)
+pub TurnsRows-set : (name : List ℕ) (rows : Option KeptRows) (views : List NamedView) (view after : View)
     → IsStrictlySortedBy bytes_cmp (keys_of views) → lookup (is_at (bytes_cmp name)) views ≡ Some view
     → after.select ≡ view.select → after.rows ≡ rows
     → TurnsRows (λ own. own ≡ name) rows views (set_value (is_at (bytes_cmp name)) views after)
@@ -79,14 +79,14 @@ TurnsRows-set name rows (entry ∷ views) view after sorted found select_is rows
     ] refl found
 
 -- where no view has the name all stay as they are
-pub TurnsRows-none : (name : List ℕ) (rows : Option Rows) (views : List NamedView) → IsStrictlySortedBy bytes_cmp (keys_of views)
+pub TurnsRows-none : (name : List ℕ) (rows : Option KeptRows) (views : List NamedView) → IsStrictlySortedBy bytes_cmp (keys_of views)
     → lookup (is_at (bytes_cmp name)) views ≡ None → TurnsRows (λ own. own ≡ name) rows views views
 TurnsRows-none name rows views sorted none = TurnsRows-untold (λ own. own ≡ name) rows views (λ entry there same.
     absurd (none-some entry.1 (sym none ∙ lookup-from_Contains names_equiv name entry.1 views (IsDistinct-from_sorted bytes_cmp (keys_of views) sorted)
     (subst (λ (own : List ℕ). Contains views (own, entry.1)) same there))))
 
 -- ---- one name after another
-pub TurnsRows-push : (names : List (List ℕ)) (name : List ℕ) (rows : Option Rows) (first second third : List NamedView)
+pub TurnsRows-push : (names : List (List ℕ)) (name : List ℕ) (rows : Option KeptRows) (first second third : List NamedView)
     → TurnsRows (Contains names) rows first second → TurnsRows (λ own. own ≡ name) rows second third
     → TurnsRows (Contains (names ++ name ∷ [])) rows first third
 TurnsRows-push names name rows [] [] [] one two = tt

@@ -1,9 +1,10 @@
--- When a change concerns a select: it turns a name that one of its paths starts at, an edge whose label one of their
--- steps takes, or a value, where the select compares values.
+-- When a change concerns a select: it turns a name that one of its paths starts at, an edge whose label one
+-- of their steps takes, or a value, where the select compares values.
 use Rattle.std.specs.Prelude.{◌≡◌, ◌⊎◌, ℕ, List, MatchOption, Contains}
 use Rattle.lore_base.specs.Databases.{IsLive}
 use Rattle.lore_base.specs.ChangeSets.{IsBound}
-use Rattle.lore_base.specs.Paths.{PathTree, PathTrees, step, any, seq, alt, opt, star, plus, none, more, trees_of, Fits}
+use Rattle.lore_base.specs.Paths.{PathTree, PathTrees, step, any, seq, alt, opt, star, plus, none, more}
+use Rattle.lore_base.specs.Paths.{trees_of, Fits}
 use Rattle.lorel_trees.specs.Trees.{CondTree, CondTrees, SelectTree}
 use Rattle.lorel_trees.specs.Trees as t
 use Rattle.lorel_ranges.specs.Places.{named, Place}
@@ -14,7 +15,8 @@ use Rattle.live_views.specs.Types.{Oid, Label, Edge, Delta}
 abbrev pub IsStart : SelectTree → List ℕ → Type 0
 IsStart query name = (place : Place) × Contains (text_places query) place × (place.root ≡ named name)
 
--- some step of the path takes the label: its text is that of the step, or is matched by it. A `#` takes each label
+-- some step of the path takes the label: its text is that of the step, or is matched by it. A `#` takes each
+-- label
 abbrev mutual
   pub HasStep : List (List ℕ) → PathTree → Label → Type 0
   HasStep labels (step pattern) label = Fits labels pattern label

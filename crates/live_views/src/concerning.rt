@@ -42,8 +42,8 @@ fn is_bound(names: &Names, name: &OemText) -> bool
     }
 }
 
-// Whether one of the steps takes the label of some edge, where there is an edge or not, and the labels
-// of all edges have these texts.
+// Whether one of the steps takes the label of some edge, where there is an edge or not, and the
+// labels of all edges have these texts.
 pub(crate) fn takes_some(steps: &StepPatterns, edges: bool, labels: &[&OemText]) -> bool
     ensures { IsTrue result ↔ ((IsTrue steps.now.any × IsTrue edges)
         ⊎ ((pattern : ThePattern) × Contains steps.now.patterns pattern

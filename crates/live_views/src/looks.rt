@@ -1,4 +1,5 @@
-ghost use Rattle.std.specs.Prelude.{◌≡◌, ◌⊎◌, ◌↔◌, ℕ, List, [], ◌∷◌, ◌++◌, Contains, IsTrue, IfOk, OnOk};
+ghost use Rattle.std.specs.Prelude.{◌≡◌, ◌⊎◌, ◌↔◌, ℕ, List, [], ◌∷◌, ◌++◌, Contains, IsTrue, IfOk};
+ghost use Rattle.std.specs.Prelude.{OnOk};
 ghost use Rattle.lorel_trees.specs.Trees.{SelectTree, select_tree};
 ghost use Rattle.lorel_ranges.specs.Places.{Place as ThePlace, named};
 ghost use Rattle.lorel_ranges.specs.Texts.{IsShallow};
@@ -6,7 +7,7 @@ ghost use Rattle.lorel_ranges.specs.Views.{root_tree, place_tree, place_trees};
 ghost use Rattle.live_views.specs.Types.{Delta as TheDelta};
 ghost use Rattle.live_views.specs.Concerns.{Concerns};
 ghost use Rattle.live_views.specs.inside.Looks.{IsLookOf, LooksAt};
-ghost use Rattle.live_views.specs.inside.Touched.{AreTouched};
+ghost use Rattle.live_views.specs.inside.Touched.{TellsTouched};
 
 use crate::comparisons::compares_values;
 use crate::concerning::{some_turned, takes_some};
@@ -75,7 +76,7 @@ impl Looks {
     // Whether something is touched that the select looks at.
     pub(crate) fn are_touched(&self, touched: &Touched) -> bool
         ensures { (query : SelectTree) (labels : List (List ℕ)) (delta : TheDelta)
-            → IsLookOf query self.now → AreTouched labels delta touched.now
+            → IsLookOf query self.now → TellsTouched labels delta touched.now
             → IsTrue result ↔ Concerns labels query delta }
     {
         if some_turned(touched.delta, self.starts.as_slice()) {

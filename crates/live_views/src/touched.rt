@@ -2,7 +2,7 @@ ghost use Rattle.std.specs.Prelude.{◌↔◌, ◌++◌, IsTrue, IfOk};
 ghost use Rattle.lore_base.specs.Databases.{AreAscendingObjects};
 ghost use Rattle.live_views.specs.Types.{Edge as TheEdge};
 ghost use Rattle.live_views.specs.Concerns.{IsTurned};
-ghost use Rattle.live_views.specs.inside.Touched.{AreTouched};
+ghost use Rattle.live_views.specs.inside.Touched.{TellsTouched};
 
 use crate::labels::label_texts;
 use crate::shared::share_object;
@@ -30,7 +30,7 @@ impl<'a> Touched<'a> {
     ) -> Result<Touched<'a>, NoMemory>
         requires gone { AreAscendingObjects delta.now.objects_gone }
         requires come { AreAscendingObjects delta.now.objects_come }
-        ensures { IfOk result (AreTouched (labels.now ++ new_labels.now) delta.now) }
+        ensures { IfOk result (TellsTouched (labels.now ++ new_labels.now) delta.now) }
     {
         Ok(Touched {
             delta,

@@ -4,7 +4,7 @@ ghost use Rattle.lorel_trees.specs.Trees.{select_tree};
 ghost use Rattle.lorel_ranges.specs.Texts.{IsShallow};
 ghost use Rattle.live_views.specs.Types.{Delta as TheDelta};
 ghost use Rattle.live_views.specs.Concerns.{Concerns};
-ghost use Rattle.live_views.specs.inside.Touched.{AreTouched};
+ghost use Rattle.live_views.specs.inside.Touched.{TellsTouched};
 
 use crate::looks::Looks;
 use crate::touched::Touched;
@@ -79,7 +79,8 @@ impl View {
 
     // Whether what is touched concerns the select.
     pub(crate) fn is_concerned(&self, touched: &Touched) -> bool
-        ensures { (labels : List (List ℕ)) (delta : TheDelta) → AreTouched labels delta touched.now
+        ensures { (labels : List (List ℕ)) (delta : TheDelta)
+            → TellsTouched labels delta touched.now
             → IsTrue result ↔ Concerns labels (select_tree self.now.select) delta }
     {
         self.looks.are_touched(touched)

@@ -9,7 +9,7 @@ ghost use Rattle.lore_base.specs.Bytes.{bytes_cmp};
 ghost use Rattle.lore_base.specs.Databases.{AreAscendingObjects};
 ghost use Rattle.lorel_trees.specs.Trees.{select_tree};
 ghost use Rattle.lorel_ranges.specs.Texts.{IsShallow};
-ghost use Rattle.live_views.specs.Views.{view_of, select_in, rows_in, TurnsRows, IsConcerned};
+ghost use Rattle.live_views.specs.Views.{view_of, select_in, rows_in, TurnsRows, ConcernsView};
 
 use crate::marks::Marks;
 use crate::touched::Touched;
@@ -22,8 +22,8 @@ use std::alloc::Global;
 use std::collections::BTreeMap;
 use std::marker::Model;
 
-/// Views under their names, seen by contracts as the list of both, ascending by name. A view is fresh
-/// as long as it has its rows.
+/// Views under their names, seen by contracts as the list of both, ascending by name. A view is
+/// fresh as long as it has its rows.
 #[derive(Drop)]
 pub struct Views {
     alloc: Global,
@@ -77,8 +77,8 @@ impl Views {
         }
     }
 
-    /// The rows of the view; None exactly where there is no such view, or where it isn't fresh. Takes
-    /// no memory.
+    /// The rows of the view; None exactly where there is no such view, or where it isn't fresh.
+    /// Takes no memory.
     pub fn rows(&self, name: &OemText) -> Option<&Answer>
         ensures { option_copied result ≡ rows_in (view_of self.now name.now) }
     {
@@ -88,8 +88,8 @@ impl Views {
         }
     }
 
-    /// Keeps a fresh view, in place of an older one of this name. Where memory is refused all stays as
-    /// it is.
+    /// Keeps a fresh view, in place of an older one of this name. The select's quantifiers stand in
+    /// one another no deeper than a statement nests. Where memory is refused all stays as it is.
     pub fn put(&mut self, name: OemText, select: Select, answer: Answer) -> Result<(), NoMemory>
         requires shallow { IsShallow (select_tree select) }
         ensures ok { OnOk result (self.new ≡ insert_entry bytes_cmp self.old name
@@ -117,8 +117,8 @@ impl Views {
         self.set_rows(name, Some(answer));
     }
 
-    /// The views that a change concerns, by what goes and comes with it. Its new labels are numbered on
-    /// from the table.
+    /// The views that a change concerns, by what goes and comes with it. Its new labels are
+    /// numbered on from the table.
     pub fn marks(
         &self,
         delta: &Delta,
@@ -129,7 +129,7 @@ impl Views {
         requires come { AreAscendingObjects delta.now.objects_come }
         ensures ascend { IfOk result (AllPairs (λ a b. bytes_cmp a b ≡ Less)) }
         ensures exact { IfOk result (λ marks. (name : List ℕ) → Contains marks name
-            ↔ IsConcerned (labels.now ++ new_labels.now) self.now delta.now name) }
+            ↔ ConcernsView (labels.now ++ new_labels.now) self.now delta.now name) }
     {
         let mut names = TextList::new(self.alloc);
         if self.kept.is_empty() {

@@ -1,7 +1,4 @@
 pub mod Types
-pub mod Forms
-pub mod Effects
-pub mod Plans
-pub mod Statements
-pub mod Uncounted
+pub mod Changes
+pub mod States
 pub mod inside

@@ -1,7 +1,3 @@
 -- Definitions that no public contract cites.
-pub mod Stops
-pub mod Views
-pub mod Listed
-pub mod Stages
-pub mod Starts
-pub mod Locals
+pub mod Kept
+pub mod Merged

@@ -1,28 +1,36 @@
-ghost use Rattle.std.specs.Prelude.{◌≡◌, IfOk, IfErr, OnOk, OnErr};
-ghost use Rattle.lore_base.specs.ChangeSets.{Fits, IsAfter};
-ghost use Rattle.lore_base.specs.ChangeCauses.{DatabaseCause};
-ghost use Rattle.lore_base.specs.Verdicts.{IsClear, IsToldBy};
-ghost use Rattle.lore_store.specs.Stores.{order};
+ghost use Rattle.std.specs.Prelude.{◌≡◌, ◌⊎◌, Some, None, IfSome, IfOk, IfErr, OnOk, OnErr};
+ghost use Rattle.lore_base.specs.Deltas.{IsDelta};
+ghost use Rattle.lore_base.specs.Verdicts.{IsToldBy};
+ghost use Rattle.lore_store.specs.Stores.{LeadsOn, database_then};
 ghost use Rattle.lorel_trees.specs.Trees.{statement_tree};
 ghost use Rattle.lorel_trees.specs.Sound.{IsSound};
-ghost use Rattle.lore_db.specs.Statements.{Cause, cause_order, Counts, Executes};
-ghost use Rattle.lore_db.specs.Uncounted.{ReadsNoEdge};
-ghost use Rattle.lore_db.specs.inside.Listed.{IsChanging};
-ghost use Rattle.lore_db.specs.inside.Stops.{told};
+ghost use Rattle.doem_history.specs.Moments.{Moment};
+ghost use Rattle.statements.specs.Types.refusals;
+ghost use Rattle.statements.specs.Forms.{IsChanging};
+ghost use Rattle.statements.specs.Statements.{Counts};
+ghost use Rattle.statements.specs.Stops.{told};
+ghost use Rattle.statements.specs.Bounds.{ListsUnread};
+ghost use Rattle.lore_db.specs.Types.{Refused};
+ghost use Rattle.lore_db.specs.States.{Performs, StateCause, state_order, CountsNoStep};
+ghost use Rattle.lore_db.specs.States.{present, ReadsInState};
+ghost use Rattle.lore_db.specs.inside.Kept.{kept_moments, moments_then, IsLast, IsFullWith};
+ghost use Rattle.lore_db.specs.inside.Kept.{AppendsTo, HasRoomFor};
 
 use crate::db::Db;
-use crate::listing::listed;
-use crate::replies::Reply;
-use crate::stops::Stop;
-use lore_base::{Changes, Steps};
+use doem_history::{History, HistoryPlan};
+use lore_base::{Fault, NoMemory, Steps};
+use lore_store::{Prepared, Store};
 use lorel_trees::Statement;
+use statements::{Reply, Stop, counts, planned};
 use std::alloc::Global;
 use std::sync::ledger::Ledger;
 
 impl Db {
     /// Makes the changes that a statement lists over the database before it, and answers how many
-    /// objects, edges and nodes of the guide there are then. No step is counted for numbers out of
-    /// range by which objects were to be generated.
+    /// objects, edges and nodes of the guide there are then. Where a history is kept, the moment after
+    /// is appended to it, also where nothing differs; a history that would be full is refused
+    /// (`HistoryFull`). No step is counted for numbers out of range by which objects were to be
+    /// generated.
     pub(crate) fn change<L: Ledger>(
         &mut self,
         alloc: Global,
@@ -32,51 +40,113 @@ impl Db {
         requires sound { IsSound (statement_tree statement.now) }
         requires changing { IsChanging (statement_tree statement.now) }
         ensures ok { IfOk result (λ reply.
-            Executes self.old (statement_tree statement.now) reply self.new) }
+            Performs self.old.state (statement_tree statement.now) reply self.new.state) }
+        ensures refused { let cause = StateCause self.old.state (statement_tree statement.now) in
+            IfErr result (λ stop. IsToldBy cause state_order (told stop)) }
         ensures same { OnErr result (self.new ≡ self.old) }
-        ensures refused { IfErr result (λ stop.
-            IsToldBy (Cause self.old (statement_tree statement.now)) cause_order (told stop)) }
-        ensures uncounted { ReadsNoEdge self.old (statement_tree statement.now)
+        ensures uncounted { CountsNoStep self.old.state (statement_tree statement.now)
             → steps.new ≡ steps.old }
+        ensures bounded { let tree = statement_tree statement.now in
+            IfOk result (λ reply. ListsUnread tree
+            → ReadsInState self.old.state tree reply steps.old steps.new) }
+        ensures stopped { let tree = statement_tree statement.now in
+            IfErr result (λ stop. IfSome (told stop) (λ refusal. ListsUnread tree
+            → ReadsInState self.old.state tree (Refused refusal) steps.old steps.new)) }
     {
-        let changes = listed(alloc, &self.store, statement, steps)?;
-        self.apply(alloc, &changes, steps)?;
-        Ok(self.counts())
+        let prepared = planned(alloc, &self.store, statement, steps)?;
+        make(&mut self.store, &mut self.history, prepared)
     }
+}
 
-    // Makes changes that fit the database, and takes away what no name walks to then. Refused are
-    // changes that leave more names, objects or edges than a database holds, or a guide with more nodes
-    // than its limit, or whose sets have too many members in all.
-    fn apply<L: Ledger>(
-        &mut self,
-        alloc: Global,
-        changes: &Changes,
-        steps: &mut Steps<L>,
-    ) -> Result<(), Stop>
-        requires fits { Fits self.old changes.now }
-        ensures ok { OnOk result (IsAfter self.old changes.now self.new) }
-        ensures clear { OnOk result (IsClear (DatabaseCause self.old changes.now) order) }
-        ensures same { OnErr result (self.new ≡ self.old) }
-        ensures refused { let cause = DatabaseCause self.old changes.now in
-            IfErr result (λ stop. IsToldBy cause order (told stop)) }
-    {
-        let prepared = self.store.prepare(alloc, changes, steps)?;
-        let Ok(()) = self.store.reserve(&prepared) else {
-            return Err(Stop::NoMemory);
-        };
-        self.store.commit(prepared);
-        Ok(())
-    }
+// Makes a change that was prepared: the moment that it leads to is planned, and room is made for both,
+// before either is put in place. Answers what there is then. Nothing changes where the history would be
+// full, or memory is refused.
+fn make(store: &mut Store, history: &mut Option<History>, prepared: Prepared) -> Result<Reply, Stop>
+    requires leads { LeadsOn store.old.db store.old.guide prepared }
+    requires delta { IsDelta store.old.db.graph (database_then store.old.db prepared).graph
+        prepared.graph.delta }
+    requires last { IsLast history.old (present store.old.db) }
+    ensures ok { OnOk result (store.new.db ≡ database_then store.old.db prepared) }
+    ensures moments { let after = present (database_then store.old.db prepared) in
+        OnOk result (kept_moments history.new ≡ moments_then (kept_moments history.old) after) }
+    ensures last { OnOk result (IsLast history.new (present store.new.db)) }
+    ensures light { let after = present (database_then store.old.db prepared) in
+        OnOk result (¬ IsFullWith history.old after) }
+    ensures counts { IfOk result (Counts store.new.db) }
+    ensures same { OnErr result (store.new.db ≡ store.old.db) }
+    ensures same_moments { OnErr result (kept_moments history.new ≡ kept_moments history.old) }
+    ensures same_last { OnErr result (IsLast history.new (present store.new.db)) }
+    ensures refused { let after = present (database_then store.old.db prepared) in
+        IfErr result (λ stop. (told stop ≡ None)
+        ⊎ ((told stop ≡ Some refusals.HistoryFull) × IsFullWith history.old after)) }
+{
+    let moment = plan_moment(history, store, &prepared)?;
+    store.reserve(&prepared)?;
+    reserve_moment(history, &moment)?;
+    store.commit(prepared);
+    commit_moment(history, moment);
+    Ok(counts(store))
+}
 
-    /// The reply that counts what the database holds.
-    pub(crate) fn counts(&self) -> Reply
-        ensures { Counts self.now result }
-    {
-        let graph = self.store.graph();
-        Reply::Changed {
-            objects: graph.objects(),
-            edges: graph.edges(),
-            nodes: self.store.guide().len(),
-        }
+// The plan of the moment that a change leads to; none where no history is kept. Refused is one with
+// which the history would be full.
+fn plan_moment(
+    history: &Option<History>,
+    store: &Store,
+    prepared: &Prepared,
+) -> Result<Option<HistoryPlan>, Stop>
+    requires leads { LeadsOn store.now.db store.now.guide prepared.now }
+    requires delta { IsDelta store.now.db.graph (database_then store.now.db prepared.now).graph
+        prepared.now.graph.delta }
+    requires last { IsLast history.now (present store.now.db) }
+    ensures appends { let after = present (database_then store.now.db prepared.now) in
+        IfOk result (λ plan. AppendsTo history.now plan after) }
+    ensures light { let after = present (database_then store.now.db prepared.now) in
+        OnOk result (¬ IsFullWith history.now after) }
+    ensures refused { let after = present (database_then store.now.db prepared.now) in
+        IfErr result (λ stop. (told stop ≡ None)
+        ⊎ ((told stop ≡ Some refusals.HistoryFull) × IsFullWith history.now after)) }
+{
+    let Some(history) = history else {
+        return Ok(None);
+    };
+    match history.prepare(prepared.delta()) {
+        Ok(plan) => Ok(Some(plan)),
+        Err(fault) => Err(Stop::by(fault.refusal())),
     }
+}
+
+// Makes room for the moment, where a history is kept.
+fn reserve_moment(history: &mut Option<History>, plan: &Option<HistoryPlan>) -> Result<(), NoMemory>
+    ensures room { OnOk result (HasRoomFor history.new plan.now) }
+    ensures moments { kept_moments history.new ≡ kept_moments history.old }
+    ensures last { (moment : Moment) → IsLast history.old moment → IsLast history.new moment }
+    ensures appends { (after : Moment)
+        → AppendsTo history.old plan.now after → AppendsTo history.new plan.now after }
+{
+    let Some(history) = history else {
+        return Ok(());
+    };
+    let Some(plan) = plan else {
+        return Ok(());
+    };
+    history.reserve(plan)
+}
+
+// Appends the moment, where a history is kept.
+fn commit_moment(history: &mut Option<History>, plan: Option<HistoryPlan>)
+    requires appends { (after : Moment) × AppendsTo history.old plan after }
+    requires room { HasRoomFor history.old plan }
+    ensures moments { (after : Moment) → AppendsTo history.old plan after
+        → kept_moments history.new ≡ moments_then (kept_moments history.old) after }
+    ensures last { (after : Moment) → AppendsTo history.old plan after
+        → IsLast history.new after }
+{
+    let Some(history) = history else {
+        return;
+    };
+    let Some(plan) = plan else {
+        return;
+    };
+    history.commit(plan);
 }

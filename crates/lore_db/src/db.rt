@@ -1,81 +1,121 @@
-ghost use Rattle.std.specs.Prelude.{◌≡◌, Some, Contains, slice_get, IfOk, OnOk, OnErr, IfSome, IfNone};
+ghost use Rattle.std.specs.Prelude.{◌≡◌, None, Some, Contains, slice_get, IfOk, IfErr, OnOk, OnErr, IfSome, IfNone};
 ghost use Rattle.std.specs.Option.{option_copied};
-ghost use Rattle.lore_db.specs.Types.{Value as TheValue};
-ghost use Rattle.lore_base.specs.Databases.{IsLive, new_database};
+ghost use Rattle.lore_base.specs.Databases.{IsLive};
+ghost use Rattle.lore_base.specs.Verdicts.{IsToldBy};
 ghost use Rattle.lorel_trees.specs.Trees.{statement_tree};
 ghost use Rattle.lorel_trees.specs.Sound.{IsSound};
-ghost use Rattle.lore_db.specs.Statements.{Executes};
-ghost use Rattle.lore_db.specs.Uncounted.{ReadsNoEdge};
+ghost use Rattle.doem_history.specs.Histories.{moments_of, last_moment};
+ghost use Rattle.statements.specs.Types.{Value as TheValue};
+ghost use Rattle.statements.specs.Forms.{IsOfHistory};
+ghost use Rattle.statements.specs.Stops.{told, OnReply};
+ghost use Rattle.lore_db.specs.States.{Performs, StateCause, state_order, CountsNoStep};
+ghost use Rattle.statements.specs.Bounds.{ListsUnread};
+ghost use Rattle.lore_db.specs.Types.{Refused};
+ghost use Rattle.lore_db.specs.States.{new_state, present, objects_at, ReadsInState};
 
-use crate::explain::plan_shown;
-use crate::replies::Reply;
-use crate::selects::select;
-use crate::stops::reply_of;
-use crate::unbuilt::unbuilt;
+use doem_history::History;
 use index_traits::ValueOf;
 use lore_base::{Label, NoMemory, OemText, Oid, Steps, Value};
 use lore_store::Store;
 use lorel_trees::Statement;
+use statements::{Reply, Stop, is_changing, reply_of};
 use std::alloc::Global;
 use std::marker::Model;
 use std::sync::ledger::Ledger;
 
-/// A database that statements are executed on, seen by contracts as that database.
+/// A database that statements are executed on, and the history that is kept of it. Contracts see the
+/// state of both: that database, and the moments of the history.
 #[derive(Drop)]
 pub struct Db {
     pub(crate) store: Store,
+    pub(crate) history: Option<History>,
 }
 
 impl Model for Db {
-    ghost use Rattle.lore_base.specs.Databases.{Database, IsValid};
+    ghost use Rattle.lore_db.specs.States.{Kept};
+    ghost use Rattle.lore_db.specs.inside.Kept.{kept_moments, IsKept};
 
-    ghost Value = { Database };
+    ghost Value = { Kept };
 
-    ghost view = { λ s. s.store.db };
+    ghost view = { λ s.
+        record { state = record { db = s.store.db; history = kept_moments s.history } } };
 
-    ghost invariant = { λ s. IsValid s.store.db };
+    ghost invariant = { λ s. IsKept s.store.db s.history };
 }
 
 impl Db {
-    /// The new database.
+    /// The new database, and no history.
     pub fn new(alloc: Global) -> Result<Db, NoMemory>
-        ensures { IfOk result (λ db. db ≡ new_database) }
+        ensures { IfOk result (λ db. db.state ≡ new_state) }
     {
         Ok(Db {
             store: Store::new(alloc),
+            history: None,
         })
     }
 
     /// The store that the database is kept in. Takes no memory.
     pub fn store(&self) -> &Store
-        ensures { result.now.db ≡ self.now }
+        ensures { result.now.db ≡ self.now.state.db }
     {
         &self.store
+    }
+
+    /// The history, whose last moment is the present; None exactly where none is kept. Takes no memory.
+    pub fn history(&self) -> Option<&History>
+        ensures some { IfSome result (λ history.
+            self.now.state.history ≡ Some (moments_of history.now)) }
+        ensures last { IfSome result (λ history.
+            last_moment history.now ≡ present self.now.state.db) }
+        ensures none { IfNone result (self.now.state.history ≡ None) }
+    {
+        self.history.as_ref()
     }
 
     /// The object's value; None exactly where the object isn't live. Takes no memory.
     pub fn value(&self, oid: Oid) -> Option<&Value>
         ensures found { IfSome result (λ value.
-            Contains self.now.graph.objects (oid, value.now)) }
-        ensures none { IfNone result (¬ IsLive self.now.graph.objects oid) }
-        ensures only { (value : TheValue) → Contains self.now.graph.objects (oid, value)
+            Contains self.now.state.db.graph.objects (oid, value.now)) }
+        ensures none { IfNone result (¬ IsLive self.now.state.db.graph.objects oid) }
+        ensures only { (value : TheValue) → Contains self.now.state.db.graph.objects (oid, value)
             → option_copied result ≡ Some value }
     {
         self.store.graph().value_of(oid)
     }
 
+    /// The object's value at a moment; None exactly where there is no such moment, or the object isn't
+    /// live at it. Takes no memory.
+    pub fn past_value(&self, moment: u32, oid: Oid) -> Option<&Value>
+        ensures found { IfSome result (λ value.
+            Contains (objects_at self.now.state.history moment) (oid, value.now)) }
+        ensures none { IfNone result (¬ IsLive (objects_at self.now.state.history moment) oid) }
+        ensures only { (value : TheValue)
+            → Contains (objects_at self.now.state.history moment) (oid, value)
+            → option_copied result ≡ Some value }
+    {
+        let history = self.history()?;
+        if moment > history.last() {
+            return None;
+        }
+        history.value_at(moment, oid)
+    }
+
     /// The label's text; None exactly where the label has no text. Takes no memory.
     pub fn label(&self, label: Label) -> Option<&OemText>
-        ensures { option_copied result ≡ slice_get self.now.labels label.0 }
+        ensures { option_copied result ≡ slice_get self.now.state.db.labels label.0 }
     {
         self.store.labels().text(label)
     }
 
-    /// Executes a statement. A refusal, and want of memory, leave the database as it was. A form that
-    /// isn't built is refused (`Syntax`). No step is counted for such a one, for a statement that shows
-    /// a plan, the guide, or where a label path leads, or sets something, for numbers out of range by
-    /// which objects were to be generated, and for a select for which no edge is read: where the guide
-    /// tells all and no cell shows a word, or no value is found to begin with.
+    /// Executes a statement. A refusal, and want of memory, leave the database and its history as they
+    /// were. A form that isn't built is refused (`Syntax`). No step is counted for such a one, for a
+    /// statement that shows a plan, the guide, where a label path leads, or what differs between two
+    /// moments, or that sets something or ends the history, for numbers out of range by which objects
+    /// were to be generated, for a moment that isn't kept, for a dump that a history keeps out, and for
+    /// a select for which no edge is read: where the guide tells all and no cell shows a word, or no
+    /// value is found to begin with. For a load, a name that is taken away and generated objects no
+    /// more is read than four times the work of their changes, and nothing where they are refused for
+    /// any other cause than what the database or its history would hold.
     pub fn execute<L: Ledger>(
         &mut self,
         alloc: Global,
@@ -84,30 +124,77 @@ impl Db {
     ) -> Result<Reply, NoMemory>
         requires { IsSound (statement_tree statement.now) }
         ensures ok { IfOk result (λ reply.
-            Executes self.old (statement_tree statement.now) reply self.new) }
+            Performs self.old.state (statement_tree statement.now) reply self.new.state) }
         ensures err { OnErr result (self.new ≡ self.old) }
-        ensures uncounted { OnOk result (ReadsNoEdge self.old (statement_tree statement.now)
+        ensures uncounted { OnOk result (CountsNoStep self.old.state (statement_tree statement.now)
             → steps.new ≡ steps.old) }
+        ensures bounded { let tree = statement_tree statement.now in
+            IfOk result (λ reply. ListsUnread tree
+            → ReadsInState self.old.state tree reply steps.old steps.new) }
+    {
+        reply_of(self.perform(alloc, statement, steps))
+    }
+
+    // Executes a statement: on the database, or on its history.
+    fn perform<L: Ledger>(
+        &mut self,
+        alloc: Global,
+        statement: &Statement,
+        steps: &mut Steps<L>,
+    ) -> Result<Reply, Stop>
+        requires { IsSound (statement_tree statement.now) }
+        ensures ok { IfOk result (λ reply.
+            Performs self.old.state (statement_tree statement.now) reply self.new.state) }
+        ensures refused { let cause = StateCause self.old.state (statement_tree statement.now) in
+            IfErr result (λ stop. IsToldBy cause state_order (told stop)) }
+        ensures same { OnErr result (self.new ≡ self.old) }
+        ensures uncounted { OnReply result
+            (CountsNoStep self.old.state (statement_tree statement.now) → steps.new ≡ steps.old) }
+        ensures bounded { let tree = statement_tree statement.now in
+            IfOk result (λ reply. ListsUnread tree
+            → ReadsInState self.old.state tree reply steps.old steps.new) }
+        ensures stopped { let tree = statement_tree statement.now in
+            IfErr result (λ stop. IfSome (told stop) (λ refusal. ListsUnread tree
+            → ReadsInState self.old.state tree (Refused refusal) steps.old steps.new)) }
     {
         match statement {
-            Statement::Select(query) => reply_of(select(alloc, &self.store, query, steps)),
-            Statement::Explain(query) => reply_of(plan_shown(alloc, &self.store, query)),
-            Statement::Guide => reply_of(self.show_guide()),
-            Statement::Browse(path) => reply_of(self.browse(path)),
-            Statement::Sample(path, count) => reply_of(self.sample(path, *count)),
-            Statement::SetNodes(nodes) => reply_of(self.set_nodes(*nodes)),
-            Statement::SetPlan(mode) => Ok(self.set_plan(*mode)),
-            Statement::Dump => reply_of(self.dump(alloc, steps)),
-            Statement::Restore(text) => reply_of(self.restore(alloc, text, steps)),
-            Statement::History(_)
-            | Statement::At(..)
-            | Statement::ChangesList(..)
-            | Statement::Blocks
-            | Statement::BlocksSelect(_)
-            | Statement::Watch { .. }
-            | Statement::Unwatch(_)
-            | Statement::Show(_) => Ok(unbuilt(statement)),
-            changing => reply_of(self.change(alloc, changing, steps)),
+            Statement::History(on) => self.keep(alloc, *on, steps),
+            Statement::At(moment, query) => self.select_at(alloc, *moment, query, steps),
+            Statement::ChangesList(first, last) => self.changes(alloc, *first, *last),
+            other => self.proceed(alloc, other, steps),
+        }
+    }
+
+    // Executes a statement on the database; its history goes on.
+    fn proceed<L: Ledger>(
+        &mut self,
+        alloc: Global,
+        statement: &Statement,
+        steps: &mut Steps<L>,
+    ) -> Result<Reply, Stop>
+        requires sound { IsSound (statement_tree statement.now) }
+        requires plain { ¬ IsOfHistory (statement_tree statement.now) }
+        ensures ok { IfOk result (λ reply.
+            Performs self.old.state (statement_tree statement.now) reply self.new.state) }
+        ensures refused { let cause = StateCause self.old.state (statement_tree statement.now) in
+            IfErr result (λ stop. IsToldBy cause state_order (told stop)) }
+        ensures same { OnErr result (self.new ≡ self.old) }
+        ensures uncounted { OnReply result
+            (CountsNoStep self.old.state (statement_tree statement.now) → steps.new ≡ steps.old) }
+        ensures bounded { let tree = statement_tree statement.now in
+            IfOk result (λ reply. ListsUnread tree
+            → ReadsInState self.old.state tree reply steps.old steps.new) }
+        ensures stopped { let tree = statement_tree statement.now in
+            IfErr result (λ stop. IfSome (told stop) (λ refusal. ListsUnread tree
+            → ReadsInState self.old.state tree (Refused refusal) steps.old steps.new)) }
+    {
+        if is_changing(statement) {
+            self.change(alloc, statement, steps)
+        } else {
+            self.execute_still(alloc, statement, steps)
         }
     }
 }
+
+#[cfg(test)]
+mod tests;

@@ -7,10 +7,10 @@ use Rattle.std.proofs.lemmas.List.Elements.{All-append}
 use Rattle.lore_base.specs.Chunks.{joined_chunks}
 use Rattle.lore_run.specs.Types.{SCRIPT_BYTES}
 use Rattle.lore_base.specs.Causes.{Rose}
-use Rattle.lore_base.specs.Databases.{Database, new_database}
+use Rattle.lore_db.specs.States.{State, new_state}
 use Rattle.lorel_lex.specs.Scan.{IsChunk, IsScript}
 use Rattle.lorel_lex.specs.Gaps.{IsBlank}
-use Rattle.lore_run.specs.Replies.{rendered}
+use Rattle.lore_run.specs.Replies.{reply_text}
 use Rattle.lore_run.specs.Runs.{refusals, BeginsWith, ScriptPart, chunk, rest, EndsInRest, Runs, RunState, RepliesTo, RepliesToAll}
 use Rattle.lore_run.specs.declared.pieces.TheConstants.{PIECE_BYTES}
 use Rattle.lore_run.specs.declared.status.Outcome.{Outcome}
@@ -40,15 +40,15 @@ cut reached kept = record { whole = reached.whole; each = reached.each; unended 
 
 -- they were replied to
 replies : {written : Option (List ℕ)} {taken : List ℕ} {now : Standing} (status : Status) (all : List ℕ) → (reached : Reaches written taken now)
-    → RepliesTo (map chunk reached.chunks) (state_of (outcome_at status now) all reached.printed now.database)
+    → RepliesTo (map chunk reached.chunks) (state_of (outcome_at status now) all reached.printed now.state)
 replies {now = now} status all reached = record {
   counted = omega (arith, reached.done, length-map reached.chunks chunk);
-  ran = subst (λ (n : ℕ). Runs new_database (map chunk reached.chunks) reached.printed n now.database) (let same : reached.count ≡ now.tally.refused = omega (arith, reached.refused) in same) reached.ran;
+  ran = subst (λ (n : ℕ). Runs new_state (map chunk reached.chunks) reached.printed n now.state) (let same : reached.count ≡ now.tally.refused = omega (arith, reached.refused) in same) reached.ran;
 }
 
 -- a run that a read fault ends
 pub ends_read_fault : (before : Outside) (count : ℕ) (left new_left : Option (List ℕ)) (now : Standing) → RunsSoFar before count left now → Keeps left new_left
-    → RunEnds (outcome_at ReadFault now) now.database before (outside new_left now.written)
+    → RunEnds (outcome_at ReadFault now) now.state before (outside new_left now.written)
 ends_read_fault before count left new_left now so_far keeps =
     let reached = so_far.advanced in
     record {
@@ -71,7 +71,7 @@ one_byte (byte ∷ (other ∷ others)) one = absurd (omega (arith, one))
 
 pub ends_too_long : (before : Outside) (count : ℕ) (left new_left : Option (List ℕ)) (now : Standing) (piece : List ℕ) → RunsSoFar before count left now
     → count ≡ SCRIPT_BYTES → Consumes left new_left piece → length piece ≡ 1
-    → RunEnds (outcome_at ScriptTooLong now) now.database before (outside new_left now.written)
+    → RunEnds (outcome_at ScriptTooLong now) now.state before (outside new_left now.written)
 ends_too_long before count left new_left now piece so_far full took one =
     let reached = so_far.advanced in
     let (byte, is) = one_byte piece one in
@@ -100,7 +100,7 @@ reaches_unmoved {written} {taken} {now} {after} reached unmoved = record {
   whole = reached.whole;
   each = reached.each;
   sized = reached.sized;
-  ran = subst (λ (db : Database). Runs new_database (map chunk reached.chunks) reached.printed reached.count db) (sym unmoved.database) reached.ran;
+  ran = subst (λ (db : State). Runs new_state (map chunk reached.chunks) reached.printed reached.count db) (sym unmoved.state) reached.ran;
   done = ap (λ (t : Tally). t.done) unmoved.tally ∙ reached.done;
   refused = ap (λ (t : Tally). t.refused) unmoved.tally ∙ reached.refused;
   written = subst (λ (w : Option (List ℕ)). Appends written w reached.printed) (sym unmoved.written) reached.written;
@@ -110,7 +110,7 @@ reaches_unmoved {written} {taken} {now} {after} reached unmoved = record {
 fails_in_reply : {written : Option (List ℕ)} {taken : List ℕ} {now after : Standing} (all : List ℕ) (left : Option (List ℕ)) (last : ScriptPart) (behind : List ℕ)
     → (reached : Reaches written taken now) → (replied : RepliedInPart now last after) → length behind < PIECE_BYTES
     → ((chunks : List (List ℕ)) × BeginsWith all chunks behind × (map chunk reached.chunks ++ last ∷ [] ≡ map chunk chunks)) ⊎ (EndsInRest all (map chunk reached.chunks ++ last ∷ []) × IsAtEnd left × (behind ≡ []))
-    → FailsInReply (state_of (outcome_at WriteFault after) all (reached.printed ++ take replied.printed.count (rendered after.database.labels after.database.graph.objects replied.reply)) after.database) left
+    → FailsInReply (state_of (outcome_at WriteFault after) all (reached.printed ++ take replied.printed.count (reply_text after.state replied.reply)) after.state) left
 fails_in_reply {written} {taken} {now} {after} all left last behind reached replied few first = record {
   earlier = map chunk reached.chunks;
   last = last;
@@ -119,7 +119,7 @@ fails_in_reply {written} {taken} {now} {after} all left last behind reached repl
   at_hand = few;
   bytes = reached.printed;
   count = reached.count;
-  before = now.database;
+  before = now.state;
   ran = reached.ran;
   reply = replied.reply;
   yielded = replied.yielded;
@@ -133,14 +133,14 @@ fails_in_reply {written} {taken} {now} {after} all left last behind reached repl
 -- a run that a piece stops
 pub ends_stopped : (status : Status) (before : Outside) (count : ℕ) (left new_left : Option (List ℕ)) (now after : Standing) (piece : List ℕ) → RunsSoFar before count left now
     → Consumes left new_left piece → count + length piece ≤ SCRIPT_BYTES → length piece ≤ PIECE_BYTES → StopsIn status now piece after
-    → RunEnds (outcome_at status after) after.database before (outside new_left after.written)
+    → RunEnds (outcome_at status after) after.state before (outside new_left after.written)
 ends_stopped WriteFault before count left new_left now after piece so_far took few at_hand stops =
     let reached : Reaches before.written (so_far.taken ++ stops.front) stops.middle = advances_then so_far.advanced stops.advanced in
     let fails = stops.stopped in
     let all = so_far.taken ++ piece in
     let parts : all ≡ (so_far.taken ++ stops.front) ++ stops.back = ap (λ l. so_far.taken ++ l) stops.parts ∙ sym (append_assoc so_far.taken stops.front stops.back) in
     let chunks = reached.chunks ++ fails.text ∷ [] in
-    let bytes = rendered after.database.labels after.database.graph.objects fails.replied.reply in
+    let bytes = reply_text after.state fails.replied.reply in
     let begun : BeginsWith all chunks fails.behind = record {
       whole = parts ∙ (begins stops.back reached).whole ∙ ap (λ l. joined_chunks reached.chunks ++ l) fails.parts
           ∙ sym (append_assoc (joined_chunks reached.chunks) (fails.text ++ 59 ∷ []) fails.behind)
@@ -215,7 +215,7 @@ ends_stopped ScriptTooLong before count left new_left now after piece so_far too
 record AllReplied (written : Option (List ℕ)) (taken : List ℕ) (status : Status) (after : Standing) : Type 0 where
   pub printed : List ℕ
   pub wrote : Appends written after.written printed
-  pub replied : RepliesToAll (state_of (outcome_at status after) taken printed after.database)
+  pub replied : RepliesToAll (state_of (outcome_at status after) taken printed after.state)
 
 with_rest : {written : Option (List ℕ)} {taken : List ℕ} {now : Standing} → (reached : Reaches written taken now) → IsUnended now.held → (IsBlank now.held → ⊥)
     → EndsInRest taken (map chunk reached.chunks ++ rest ∷ [])
@@ -235,7 +235,7 @@ all_replied {written} {taken} {now} {after} status reached kept (inl (blank, unm
       };
     }
 all_replied {written} {taken} {now} {after} status reached kept (inr (filled, replied)) =
-    let bytes = rendered after.database.labels after.database.graph.objects replied.reply in
+    let bytes = reply_text after.state replied.reply in
     record {
       printed = reached.printed ++ (bytes ++ []);
       wrote = Appends-then written now.written after.written reached.printed (bytes ++ []) reached.written
@@ -245,10 +245,10 @@ all_replied {written} {taken} {now} {after} status reached kept (inr (filled, re
         listed = record { chunks = reached.chunks; behind = now.held; cut = cut reached kept; listed = inr (filled, refl) };
         replied = record {
           counted = omega (arith, replied.done, reached.done, length-map reached.chunks chunk, length-append (map chunk reached.chunks) (rest ∷ []));
-          ran = subst (λ (n : ℕ). Runs new_database (map chunk reached.chunks ++ rest ∷ []) (reached.printed ++ (bytes ++ [])) n after.database)
+          ran = subst (λ (n : ℕ). Runs new_state (map chunk reached.chunks ++ rest ∷ []) (reached.printed ++ (bytes ++ [])) n after.state)
               (let same : reached.count + (refusals replied.reply + 0) ≡ after.tally.refused = omega (arith, replied.refused, reached.refused) in same)
-              (runs_then new_database (map chunk reached.chunks) reached.printed reached.count now.database (rest ∷ []) (bytes ++ []) (refusals replied.reply + 0) after.database
-              reached.ran (replied.reply, after.database, [], 0, replied.yielded, (refl, refl, refl), refl, refl));
+              (runs_then new_state (map chunk reached.chunks) reached.printed reached.count now.state (rest ∷ []) (bytes ++ []) (refusals replied.reply + 0) after.state
+              reached.ran (replied.reply, after.state, [], 0, replied.yielded, (refl, refl, refl), refl, refl));
         };
       };
     }
@@ -265,7 +265,7 @@ kept_limits before count left now so_far =
 
 pub ends_finished : (status : Status) (before : Outside) (count : ℕ) (left new_left : Option (List ℕ)) (now after : Standing) → RunsSoFar before count left now
     → Consumes left new_left [] → IsAtEnd new_left → Finishes status now after
-    → RunEnds (outcome_at status after) after.database before (outside new_left after.written)
+    → RunEnds (outcome_at status after) after.state before (outside new_left after.written)
 ends_finished Done before count left new_left now after so_far none at_end finishes =
     let all = all_replied Done so_far.advanced so_far.held finishes.0 in
     record {
@@ -287,7 +287,7 @@ ends_finished DoneRefused before count left new_left now after so_far none at_en
 ends_finished WriteFault before count left new_left now after so_far none at_end finishes =
     let (filled, replied) = finishes in
     let reached = so_far.advanced in
-    let bytes = rendered after.database.labels after.database.graph.objects replied.reply in
+    let bytes = reply_text after.state replied.reply in
     record {
       taken = so_far.taken;
       written = reached.printed ++ take replied.printed.count bytes;
@@ -324,7 +324,7 @@ told_front None new_left taken P took holds = tt
 told_front (Some script) None taken P took holds = absurd took
 told_front (Some script) (Some left) taken P took holds = holds script left took
 
-pub ends_complete : (outcome : Outcome) (db : Database) (before after : Outside) (read_before read_now written_before written_now : ℕ) → RunEnds outcome db before after
+pub ends_complete : (outcome : Outcome) (db : State) (before after : Outside) (read_before read_now written_before written_now : ℕ) → RunEnds outcome db before after
     → IsCausedBySource outcome.status read_before read_now → IsCausedBySink outcome.status written_before written_now
     → IfSome before.left (λ script. KeepsLimits script → EndsWell outcome.status (Rose read_before read_now) (Rose written_before written_now))
 ends_complete outcome db before after read_before read_now written_before written_now run source sink =

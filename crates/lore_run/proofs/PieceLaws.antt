@@ -2,7 +2,7 @@
 use Rattle.std.proofs.Common.{◌≡◌, ℕ, ◌+◌, ◌-◌, ◌≤◌, true, false, List, [], ◌∷◌, ◌++◌, length, take, drop, Option, refl, sym, ap, ◌∙◌, subst, append_assoc, arith, take-add, length-append}
 use Rattle.std.proofs.lemmas.List.{take_rest, take-append-drop}
 use Rattle.std.proofs.Math.Seq.{take-append_seam}
-use Rattle.lore_base.specs.Databases.{Database}
+use Rattle.lore_db.specs.States.{State}
 use Rattle.lore_base.specs.declared.limits.TheConstants.{CHUNK_BYTES}
 use Rattle.lorel_lex.specs.Scan.{IsChunk}
 use Rattle.lorel_lex.specs.Progress.{Progress}
@@ -22,7 +22,7 @@ pub front_and_tail : (at : ℕ) (piece : List ℕ) → piece ≡ take at piece +
 front_and_tail at piece = sym (ap (λ l. take at piece ++ l) (take_rest piece at) ∙ take-append-drop at piece)
 
 -- what is left of the piece ends no chunk
-pub advances_more : (before : Standing) (old new : Progress) (tally : Tally) (written : Option (List ℕ)) (db : Database) (piece : List ℕ) (at used : ℕ)
+pub advances_more : (before : Standing) (old new : Progress) (tally : Tally) (written : Option (List ℕ)) (db : State) (piece : List ℕ) (at used : ℕ)
     → Advances before (take at piece) (standing old.held tally written db) → GoesOnWith old (tail_from at piece) used new
     → Advances before piece (standing new.held tally written db)
 advances_more before old new tally written db piece at used advanced more =
@@ -42,7 +42,7 @@ used_is front back piece used parts uses =
 next_front : (at used : ℕ) (piece front : List ℕ) → take used (tail_from at piece) ≡ front → take (at + used) piece ≡ take at piece ++ front
 next_front at used piece front is = take-add at used piece ∙ ap (λ l. take at piece ++ l) (sym (ap (λ l. take used l) (take_rest piece at)) ∙ is)
 
-pub advances_whole : (before : Standing) (old fed after : Progress) (text : List ℕ) (tally new_tally : Tally) (written new_written : Option (List ℕ)) (db new_db : Database) (piece : List ℕ) (at used : ℕ)
+pub advances_whole : (before : Standing) (old fed after : Progress) (text : List ℕ) (tally new_tally : Tally) (written new_written : Option (List ℕ)) (db new_db : State) (piece : List ℕ) (at used : ℕ)
     → Advances before (take at piece) (standing old.held tally written db) → EndsChunk old (tail_from at piece) used fed
     → fed ≡ record { held = text; whole = true; failed = fed.failed } → after ≡ record { held = []; whole = false; failed = fed.failed }
     → Replied (standing [] tally written db) (chunk text) (standing [] new_tally new_written new_db)
@@ -55,7 +55,7 @@ advances_whole before old fed after text tally new_tally written new_written db 
     let there = subst (λ (l : List ℕ). Advances before l (standing [] new_tally new_written new_db)) (sym front) (advances_then advanced step) in
     subst (λ (held : List ℕ). Advances before (take (at + used) piece) (standing held new_tally new_written new_db)) (sym (ap (λ (p : Progress). p.held) taken)) there
 
-pub stops_no_memory : (before : Standing) (old : Progress) (held : List ℕ) (tally : Tally) (written : Option (List ℕ)) (db : Database) (piece : List ℕ) (at : ℕ)
+pub stops_no_memory : (before : Standing) (old : Progress) (held : List ℕ) (tally : Tally) (written : Option (List ℕ)) (db : State) (piece : List ℕ) (at : ℕ)
     → Advances before (take at piece) (standing old.held tally written db) → IsUnended old.held → StopsIn NoMemory before piece (standing held tally written db)
 stops_no_memory before old held tally written db piece at advanced kept = record {
   front = take at piece;
@@ -64,11 +64,11 @@ stops_no_memory before old held tally written db piece at advanced kept = record
   middle = standing old.held tally written db;
   held = kept;
   advanced = advanced;
-  stopped = record { tally = refl; written = refl; database = refl };
+  stopped = record { tally = refl; written = refl; state = refl };
 }
 
 -- and at the reply to a chunk
-pub stops_replying : (status : Status) (before : Standing) (old fed : Progress) (held text : List ℕ) (tally new_tally : Tally) (written new_written : Option (List ℕ)) (db new_db : Database) (piece : List ℕ) (at used : ℕ)
+pub stops_replying : (status : Status) (before : Standing) (old fed : Progress) (held text : List ℕ) (tally new_tally : Tally) (written new_written : Option (List ℕ)) (db new_db : State) (piece : List ℕ) (at used : ℕ)
     → Advances before (take at piece) (standing old.held tally written db) → IsUnended old.held → EndsChunk old (tail_from at piece) used fed
     → fed ≡ record { held = text; whole = true; failed = fed.failed }
     → StopsReplying status (standing [] tally written db) (chunk text) (standing [] new_tally new_written new_db)

@@ -5,7 +5,7 @@ use Rattle.lorel_terms.specs.Faults.{refusal_of}
 use Rattle.lorel_terms.specs.declared.faults.ParseFault.{ParseFault}
 use Rattle.lorel_terms.specs.declared.faults.ParseFault.TheVariants as f
 use Rattle.lore_run.specs.Types.{Reply, Refusal, Syntax}
-use Rattle.lore_run.specs.Replies.{rendered}
+use Rattle.lore_run.specs.Replies.{reply_text}
 use Rattle.lore_run.specs.Runs.{ScriptPart, Yields, refusals}
 use Rattle.lore_run.specs.declared.status.Status.{Status}
 use Rattle.lore_run.specs.declared.status.Status.TheVariants.{WriteFault}
@@ -13,15 +13,15 @@ use Rattle.lore_run.specs.inside.Deliveries.{AppendsProperFront}
 use Rattle.lore_run.specs.inside.Turns.{Standing, Replied, StopsReplying}
 
 pub replied_whole : {T : Type 0} (result : Result T Status) (before after : Standing) (part : ScriptPart) (reply : Reply)
-    → Yields before.database part reply after.database → after.tally.done ≡ before.tally.done + 1 → after.tally.refused ≡ before.tally.refused + refusals reply
-    → OnOk result (Appends before.written after.written (rendered after.database.labels after.database.graph.objects reply)) → OnOk result (Replied before part after)
+    → Yields before.state part reply after.state → after.tally.done ≡ before.tally.done + 1 → after.tally.refused ≡ before.tally.refused + refusals reply
+    → OnOk result (Appends before.written after.written (reply_text after.state reply)) → OnOk result (Replied before part after)
 replied_whole (Err status) before after part reply yielded done refused printed = tt
 replied_whole (Ok x) before after part reply yielded done refused printed =
     record { reply = reply; yielded = yielded; done = done; refused = refused; printed = printed }
 
 pub replied_in_part : {T : Type 0} (result : Result T Status) (before after : Standing) (part : ScriptPart) (reply : Reply)
-    → Yields before.database part reply after.database → after.tally.done ≡ before.tally.done + 1 → after.tally.refused ≡ before.tally.refused + refusals reply
-    → OnErr result (AppendsProperFront before.written after.written (rendered after.database.labels after.database.graph.objects reply)) → IfErr result (λ status. status ≡ WriteFault)
+    → Yields before.state part reply after.state → after.tally.done ≡ before.tally.done + 1 → after.tally.refused ≡ before.tally.refused + refusals reply
+    → OnErr result (AppendsProperFront before.written after.written (reply_text after.state reply)) → IfErr result (λ status. status ≡ WriteFault)
     → IfErr result (λ status. StopsReplying status before part after)
 replied_in_part (Ok x) before after part reply yielded done refused printed only = tt
 replied_in_part (Err status) before after part reply yielded done refused printed only =

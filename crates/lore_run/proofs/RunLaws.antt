@@ -7,10 +7,10 @@ use Rattle.std.proofs.lemmas.List.{map-append}
 use Rattle.std.proofs.lemmas.List.Elements.{All-append, All-cons, All-nil}
 use Rattle.lore_base.specs.Chunks.{joined_chunks}
 use Rattle.lore_run.specs.Types.{SCRIPT_BYTES}
-use Rattle.lore_base.specs.Databases.{Database}
+use Rattle.lore_db.specs.States.{State}
 use Rattle.lorel_lex.specs.Scan.{IsChunk}
-use Rattle.lore_run.specs.Types.{Reply, Changed, Rows, PlanShown, Lines, Dump, Refused}
-use Rattle.lore_run.specs.Replies.{rendered}
+use Rattle.lore_run.specs.Types.{Reply, Changed, Rows, Past, PlanShown, Lines, Dump, Refused}
+use Rattle.lore_run.specs.Replies.{reply_text}
 use Rattle.lore_run.specs.Runs.{ScriptPart, chunk, Runs, refusals}
 use Rattle.lore_run.specs.Endings.{Outside, outside}
 use Rattle.lore_run.specs.inside.Turns.{Standing, beginning, IsUnended, Replied, RepliedInPart, Unmoved, Advances, RunsSoFar}
@@ -18,13 +18,13 @@ use Rattle.lore_base.proofs.PutLaws.{Appends-none, Appends-then}
 use Rattle.lore_run.proofs.LimitLaws.{IsWithin}
 
 -- some parts, and then others
-pub runs_then : (before : Database) (parts : List ScriptPart) (bytes : List ℕ) (count : ℕ) (middle : Database) (others : List ScriptPart) (more : List ℕ) (others_count : ℕ) (after : Database)
+pub runs_then : (before : State) (parts : List ScriptPart) (bytes : List ℕ) (count : ℕ) (middle : State) (others : List ScriptPart) (more : List ℕ) (others_count : ℕ) (after : State)
     → Runs before parts bytes count middle → Runs middle others more others_count after
     → Runs before (parts ++ others) (bytes ++ more) (count + others_count) after
 runs_then before [] bytes count middle others more others_count after ran then =
     subst (λ (n : ℕ). Runs before others (bytes ++ more) n after) (let same : others_count ≡ count + others_count = omega (arith, ran.1) in same)
     (subst (λ (l : List ℕ). Runs before others l others_count after) (ap (λ l. l ++ more) (sym ran.0))
-    (subst (λ (db : Database). Runs db others more others_count after) ran.2 then))
+    (subst (λ (db : State). Runs db others more others_count after) ran.2 then))
 runs_then before (first ∷ parts) bytes count middle others more others_count after ran then = (
   ran.0,
   ran.1,
@@ -32,7 +32,7 @@ runs_then before (first ∷ parts) bytes count middle others more others_count a
   ran.3 + others_count,
   ran.4,
   runs_then ran.1 parts ran.2 ran.3 middle others more others_count after ran.5 then,
-  ap (λ l. l ++ more) ran.6 ∙ append_assoc (rendered ran.1.labels ran.1.graph.objects ran.0) ran.2 more,
+  ap (λ l. l ++ more) ran.6 ∙ append_assoc (reply_text ran.1 ran.0) ran.2 more,
   omega (arith, ran.7),
 )
 
@@ -96,7 +96,7 @@ advances_held held bytes now is = record {
 pub advances_chunk : (held front : List ℕ) (before after : Standing) → after.held ≡ [] → IsChunk (held ++ front) → IsWithin (held ++ front) → Replied before (chunk (held ++ front)) after
     → Advances (record before { held = held }) (front ++ 59 ∷ []) after
 advances_chunk held front before after empty is sized replied =
-    let bytes = rendered after.database.labels after.database.graph.objects replied.reply in
+    let bytes = reply_text after.state replied.reply in
     record {
       chunks = (held ++ front) ∷ [];
       printed = bytes ++ [];
@@ -105,7 +105,7 @@ advances_chunk held front before after empty is sized replied =
           ∙ ap (λ l. joined_chunks ((held ++ front) ∷ []) ++ l) (sym empty);
       each = All-one IsChunk (held ++ front) is;
       sized = All-one IsWithin (held ++ front) sized;
-      ran = (replied.reply, after.database, [], 0, replied.yielded, (refl, refl, refl), refl, refl);
+      ran = (replied.reply, after.state, [], 0, replied.yielded, (refl, refl, refl), refl, refl);
       done = replied.done;
       refused = omega (arith, replied.refused);
       written = subst (λ (l : List ℕ). Appends before.written after.written l) (sym (append-nil bytes)) replied.printed;
@@ -121,8 +121,8 @@ advances_then {a} {b} {c} {xs} {ys} g h = record {
       ∙ sym (append_assoc (joined_chunks g.chunks) (joined_chunks h.chunks) c.held) ∙ ap (λ l. l ++ c.held) (sym (joined-append g.chunks h.chunks));
   each = All-append IsChunk g.chunks h.chunks g.each h.each;
   sized = All-append IsWithin g.chunks h.chunks g.sized h.sized;
-  ran = subst (λ (parts : List ScriptPart). Runs a.database parts (g.printed ++ h.printed) (g.count + h.count) c.database) (sym (map-append chunk g.chunks h.chunks))
-      (runs_then a.database (map chunk g.chunks) g.printed g.count b.database (map chunk h.chunks) h.printed h.count c.database g.ran h.ran);
+  ran = subst (λ (parts : List ScriptPart). Runs a.state parts (g.printed ++ h.printed) (g.count + h.count) c.state) (sym (map-append chunk g.chunks h.chunks))
+      (runs_then a.state (map chunk g.chunks) g.printed g.count b.state (map chunk h.chunks) h.printed h.count c.state g.ran h.ran);
   done = omega (arith, g.done, h.done, length-append g.chunks h.chunks);
   refused = omega (arith, g.refused, h.refused);
   written = Appends-then a.written b.written c.written g.printed h.printed g.written h.written;
@@ -141,6 +141,7 @@ few_done {a} {b} {xs} g =
 pub refusals_le : (reply : Reply) → refusals reply ≤ 1
 refusals_le (Changed objects edges nodes) = omega arith
 refusals_le (Rows oids) = omega arith
+refusals_le (Past moment rows) = omega arith
 refusals_le (PlanShown kind candidates found) = omega arith
 refusals_le (Lines lines) = omega arith
 refusals_le (Dump text) = omega arith
@@ -175,4 +176,4 @@ RepliedInPart-held {before} {after} {part} held kept g =
     record { reply = g.reply; yielded = g.yielded; done = g.done; refused = g.refused; printed = g.printed }
 
 pub Unmoved-held : {before after : Standing} (held kept : List ℕ) → Unmoved before after → Unmoved (record before { held = held }) (record after { held = kept })
-Unmoved-held {before} {after} held kept g = record { tally = g.tally; written = g.written; database = g.database }
+Unmoved-held {before} {after} held kept g = record { tally = g.tally; written = g.written; state = g.state }

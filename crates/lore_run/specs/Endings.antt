@@ -1,13 +1,13 @@
 -- How a run ends: what each status says of the bytes that were taken and written, of the counts and of the
--- database.
+-- state.
 use Rattle.std.specs.Prelude.{◌≡◌, ℕ, ◌+◌, ◌≤◌, ◌<◌, ◌⊎◌, List, [], ◌∷◌, ◌++◌, length, map, take, Option}
 use Rattle.std.specs.Io.KnownBytes.{Appends, Consumes, IsAtEnd}
 use Rattle.lore_run.specs.Types.{CHUNK_BYTES, SCRIPT_BYTES}
 use Rattle.lore_base.specs.Causes.{Rose}
-use Rattle.lore_base.specs.Databases.{Database, new_database}
+use Rattle.lore_db.specs.States.{State, new_state}
 use Rattle.lorel_lex.specs.Scan.{IsOpen, IsScript}
 use Rattle.lore_run.specs.Types.{Reply}
-use Rattle.lore_run.specs.Replies.{rendered}
+use Rattle.lore_run.specs.Replies.{reply_text}
 use Rattle.lore_run.specs.Runs.{BeginsWith, ScriptPart, chunk, EndsInRest, Yields, Runs, refusals, RunState}
 use Rattle.lore_run.specs.Runs.{RepliesTo, RepliesToAll}
 use Rattle.lore_run.specs.declared.status.Outcome.{Outcome}
@@ -75,15 +75,15 @@ pub record FailsInReply (run : RunState) (left : Option (List ℕ)) : Type 0 whe
   pub at_hand : length behind < 65_536
   pub bytes : List ℕ
   pub count : ℕ
-  pub before : Database
-  pub ran : Runs new_database earlier bytes count before
+  pub before : State
+  pub ran : Runs new_state earlier bytes count before
   pub reply : Reply
-  pub yielded : Yields before last reply run.database
+  pub yielded : Yields before last reply run.state
   pub done : run.done ≡ length earlier + 1
   pub refused : run.refused ≡ count + refusals reply
   pub kept : ℕ
-  pub part : kept < length (rendered run.database.labels run.database.graph.objects reply)
-  pub written : run.written ≡ bytes ++ take kept (rendered run.database.labels run.database.graph.objects reply)
+  pub part : kept < length (reply_text run.state reply)
+  pub written : run.written ≡ bytes ++ take kept (reply_text run.state reply)
 
 -- all chunks before one that is too long were replied to, and none of them is too long
 pub record StopsAtLongChunk (run : RunState) : Type 0 where
@@ -121,30 +121,30 @@ abbrev pub outside : Option (List ℕ) → Option (List ℕ) → Outside
 outside left written = record { left = left; written = written }
 
 -- the state of a run with this outcome
-abbrev pub state_of : Outcome → List ℕ → List ℕ → Database → RunState
-state_of outcome taken written database = record {
+abbrev pub state_of : Outcome → List ℕ → List ℕ → State → RunState
+state_of outcome taken written state = record {
   taken = taken;
   done = outcome.done;
   refused = outcome.refused;
   written = written;
-  database = database;
+  state = state;
 }
 
--- a run with this outcome and this database: what it took from the source, what it wrote to the sink, and how
+-- a run with this outcome and this state: what it took from the source, what it wrote to the sink, and how
 -- it ended
-pub record RunEnds (outcome : Outcome) (database : Database) (before after : Outside) : Type 0 where
+pub record RunEnds (outcome : Outcome) (state : State) (before after : Outside) : Type 0 where
   pub taken : List ℕ
   pub written : List ℕ
   pub took : Consumes before.left after.left taken
   pub wrote : Appends before.written after.written written
-  pub ends : Ends outcome.status (state_of outcome taken written database) after.left
+  pub ends : Ends outcome.status (state_of outcome taken written state) after.left
 
--- a run with this outcome and this database replied to all parts of the script
-pub record PrintsAll (script : List ℕ) (outcome : Outcome) (database : Database) (before after : Option (List ℕ))
+-- a run with this outcome and this state replied to all parts of the script
+pub record PrintsAll (script : List ℕ) (outcome : Outcome) (state : State) (before after : Option (List ℕ))
     : Type 0 where
   pub written : List ℕ
   pub wrote : Appends before after written
-  pub replied : RepliesToAll (state_of outcome script written database)
+  pub replied : RepliesToAll (state_of outcome script written state)
 
 -- the script was read to its end
 abbrev pub IsDone : Status → Type 0
@@ -173,8 +173,8 @@ EndsWell WriteFault read_fault write_fault = write_fault
 EndsWell _ read_fault write_fault = ⊥
 
 -- nothing was read, written, executed or counted
-pub record IsUntouched (outcome : Outcome) (database : Database) (before after : Outside) : Type 0 where
+pub record IsUntouched (outcome : Outcome) (state : State) (before after : Outside) : Type 0 where
   pub no_statement : outcome.done ≡ 0
   pub no_refusal : outcome.refused ≡ 0
   pub unmoved : after ≡ before
-  pub same : database ≡ new_database
+  pub same : state ≡ new_state

@@ -1,12 +1,13 @@
 -- What each reply prints.
 use Rattle.std.specs.Prelude.{ℕ, List, [], ◌∷◌, ◌++◌, length, codes, decimal, Option, Some, None, unwrap_or, slice_get}
 use Rattle.std.specs.List.{flat_map, join_by}
-use Rattle.lore_run.specs.Types.{Oid, Label, Cell, Value, PlanKind, Reply, Changed, Rows, PlanShown, Lines, Dump, Refused}
+use Rattle.lore_run.specs.Types.{Oid, Label, Cell, Value, PlanKind, Reply, Changed, Rows, Past, PlanShown, Lines, Dump, Refused}
 use Rattle.lore_run.specs.Types.plan_kinds
 use Rattle.lore_run.specs.Types.cells
 use Rattle.lore_base.specs.Printed.{label_text}
 use Rattle.lore_base.specs.Refusals.{number_of, text_of}
 use Rattle.lore_base.specs.Printed.{object_text}
+use Rattle.lore_db.specs.States.{State, objects_at}
 
 -- a label behind a dot, by its text in the table, where each label of a reply is
 abbrev pub step_text : List (List ℕ) → Label → List ℕ
@@ -48,5 +49,16 @@ rendered labels objects (Lines lines) = flat_map (λ line. line ++ codes "\n") l
 rendered labels objects (Dump text) = text
 rendered labels objects (Rows rows) =
     flat_map (row_line labels objects) rows ++ codes "rows " ++ decimal (length rows) ++ codes "\n"
+rendered labels objects (Past moment rows) =
+    flat_map (row_line labels objects) rows ++ codes "rows " ++ decimal (length rows) ++ codes "\n"
 rendered labels objects (Refused refusal) =
     codes "refused " ++ decimal (number_of refusal) ++ codes " " ++ text_of refusal ++ codes "\n"
+
+-- the objects whose values a reply shows: those of its moment, or the present ones
+abbrev pub shown_objects : State → Reply → List (Oid × Value)
+shown_objects state (Past moment rows) = objects_at state.history moment
+shown_objects state reply = state.db.graph.objects
+
+-- the bytes of a reply in a state: the labels are the present ones
+abbrev pub reply_text : State → Reply → List ℕ
+reply_text state reply = rendered state.db.labels (shown_objects state reply) reply

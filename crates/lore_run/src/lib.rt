@@ -16,5 +16,6 @@ mod rendering;
 mod reply_writer;
 mod run;
 mod sessions;
+mod shown;
 mod status;
 mod tally;

@@ -4,7 +4,7 @@ ghost use Rattle.lore_base.specs.Outcomes.{HasCause};
 ghost use Rattle.lore_base.specs.declared.limits.TheConstants.{CHUNK_BYTES};
 ghost use Rattle.lore_run.specs.Runs.{chunk, rest, Yields, refusals};
 ghost use Rattle.lore_run.specs.Endings.{IsCausedBySink};
-ghost use Rattle.lore_run.specs.Replies.{rendered};
+ghost use Rattle.lore_run.specs.Replies.{reply_text};
 ghost use Rattle.lore_run.specs.inside.Deliveries.{AppendsProperFront};
 ghost use Rattle.lore_run.specs.inside.Turns.{standing, IsRefusalOf, Replied, RepliedInPart};
 ghost use Rattle.lore_run.specs.inside.Turns.{StopsReplying};
@@ -31,11 +31,11 @@ pub(crate) fn run_chunk<K: Sink, L: Ledger>(
 ) -> Result<(), Status>
     requires sized { length text.now ≤ CHUNK_BYTES }
     requires room { (tally.old.done + 1 < 2 ^ 64) × (tally.old.refused + 1 < 2 ^ 64) }
-    ensures ok { OnOk result (Replied (standing [] tally.old (K.written sink.old) session.old)
-        (chunk text.now) (standing [] tally.new (K.written sink.new) session.new)) }
+    ensures ok { OnOk result (Replied (standing [] tally.old (K.written sink.old) session.old.state)
+        (chunk text.now) (standing [] tally.new (K.written sink.new) session.new.state)) }
     ensures stopped { IfErr result (λ status. StopsReplying status
-        (standing [] tally.old (K.written sink.old) session.old)
-        (chunk text.now) (standing [] tally.new (K.written sink.new) session.new)) }
+        (standing [] tally.old (K.written sink.old) session.old.state)
+        (chunk text.now) (standing [] tally.new (K.written sink.new) session.new.state)) }
     ensures faultless { OnOk result (K.faults sink.new ≡ K.faults sink.old) }
     ensures cause { IfErr result
         (λ status. IsCausedBySink status (K.faults sink.old) (K.faults sink.new)) }
@@ -56,11 +56,11 @@ pub(crate) fn run_rest<K: Sink>(
     tally: &mut Tally,
 ) -> Result<(), Status>
     requires room { (tally.old.done + 1 < 2 ^ 64) × (tally.old.refused + 1 < 2 ^ 64) }
-    ensures ok { OnOk result (Replied (standing [] tally.old (K.written sink.old) session.now)
-        rest (standing [] tally.new (K.written sink.new) session.now)) }
+    ensures ok { OnOk result (Replied (standing [] tally.old (K.written sink.old) session.now.state)
+        rest (standing [] tally.new (K.written sink.new) session.now.state)) }
     ensures err { OnErr result (RepliedInPart
-        (standing [] tally.old (K.written sink.old) session.now)
-        rest (standing [] tally.new (K.written sink.new) session.now)) }
+        (standing [] tally.old (K.written sink.old) session.now.state)
+        rest (standing [] tally.new (K.written sink.new) session.now.state)) }
     ensures only { IfErr result (λ status. status ≡ Status.WriteFault) }
     ensures cause { HasCause (K.faults sink.old) (K.faults sink.new) result }
 {
@@ -75,7 +75,8 @@ fn answer<L: Ledger>(
     steps: &mut Steps<L>,
 ) -> Result<Reply, NoMemory>
     requires { length text.now ≤ CHUNK_BYTES }
-    ensures ok { IfOk result (λ reply. Yields session.old (chunk text.now) reply session.new) }
+    ensures ok { IfOk result (λ reply.
+        Yields session.old.state (chunk text.now) reply session.new.state) }
     ensures err { OnErr result (session.new ≡ session.old) }
 {
     let parsed = match tokens(alloc, text) {
@@ -110,14 +111,14 @@ fn respond<K: Sink>(
     sink: &mut K,
     tally: &mut Tally,
 ) -> Result<(), Status>
-    requires some { 0 < length (rendered session.now.labels session.now.graph.objects reply.now) }
+    requires some { 0 < length (reply_text session.now.state reply.now) }
     requires room { (tally.old.done + 1 < 2 ^ 64) × (tally.old.refused + 1 < 2 ^ 64) }
     ensures done { tally.new.done ≡ tally.old.done + 1 }
     ensures refused { tally.new.refused ≡ tally.old.refused + refusals reply.now }
     ensures ok { OnOk result (Appends (K.written sink.old) (K.written sink.new)
-        (rendered session.now.labels session.now.graph.objects reply.now)) }
+        (reply_text session.now.state reply.now)) }
     ensures err { OnErr result (AppendsProperFront (K.written sink.old) (K.written sink.new)
-        (rendered session.now.labels session.now.graph.objects reply.now)) }
+        (reply_text session.now.state reply.now)) }
     ensures only { IfErr result (λ status. status ≡ Status.WriteFault) }
     ensures cause { HasCause (K.faults sink.old) (K.faults sink.new) result }
 {

@@ -7,7 +7,7 @@ ghost use Rattle.lore_base.specs.Pieces.{Puts};
 ghost use Rattle.lore_base.specs.Printed.{printed};
 ghost use Rattle.lore_base.specs.Printed.{value_of, object_text};
 ghost use Rattle.lore_run.specs.Replies.{step_text, word_text, cell_text};
-ghost use Rattle.lore_run.specs.Replies.{row_line, kind_text, given_text, rendered};
+ghost use Rattle.lore_run.specs.Replies.{row_line, kind_text, given_text, rendered, reply_text};
 ghost use Rattle.lore_run.specs.inside.Deliveries.{AppendsProperFront};
 ghost use Rattle.lore_run.specs.Types.{Changed as ChangedReply, Rows as RowsReply};
 ghost use Rattle.lore_run.specs.Types.{PlanShown as PlanReply};
@@ -16,6 +16,7 @@ ghost use Rattle.lore_run.specs.Types.{Refused as RefusedReply};
 ghost use Rattle.lore_run.specs.declared.rendering.TheConstants.{OID_BYTES};
 
 use crate::reply_writer::ReplyWriter;
+use crate::shown::Shown;
 use itoa::{Buffer, Integer, write_digits};
 use lore_base::{Failed, Label, OemText, Oid, Out, Refusal, Sink, Value};
 use lore_db::{AnswerRow, Cell, Db, Reply};
@@ -29,11 +30,11 @@ const OID_BYTES: usize = 12;
 /// that isn't live is printed as a complex one. Fails where a write fails, and a proper front of
 /// the lines is written then. Takes no memory.
 pub(crate) fn write_reply<K: Sink>(reply: &Reply, db: &Db, sink: &mut K) -> Result<(), Failed>
-    requires some { 0 < length (rendered db.now.labels db.now.graph.objects reply.now) }
+    requires some { 0 < length (reply_text db.now.state reply.now) }
     ensures ok { OnOk result (Appends (K.written sink.old) (K.written sink.new)
-        (rendered db.now.labels db.now.graph.objects reply.now)) }
+        (reply_text db.now.state reply.now)) }
     ensures err { OnErr result (AppendsProperFront (K.written sink.old) (K.written sink.new)
-        (rendered db.now.labels db.now.graph.objects reply.now)) }
+        (reply_text db.now.state reply.now)) }
     ensures cause { HasCause (K.faults sink.old) (K.faults sink.new) result }
 {
     deliver(reply, db, &mut ReplyWriter::new(sink))
@@ -41,14 +42,14 @@ pub(crate) fn write_reply<K: Sink>(reply: &Reply, db: &Db, sink: &mut K) -> Resu
 
 /// Puts the lines of a reply, and hands all of them to the sink.
 fn deliver<K: Sink>(reply: &Reply, db: &Db, out: &mut ReplyWriter<K>) -> Result<(), Failed>
-    requires some { 0 < length (rendered db.now.labels db.now.graph.objects reply.now) }
+    requires some { 0 < length (reply_text db.now.state reply.now) }
     requires empty { out.old.buffer ≡ [] }
     ensures same_sink { out.new.sink.ghost_name ≡ out.old.sink.ghost_name }
     ensures ok { OnOk result (Appends (K.written out.old.sink.now) (K.written out.new.sink.now)
-        (rendered db.now.labels db.now.graph.objects reply.now)) }
+        (reply_text db.now.state reply.now)) }
     ensures err { OnErr result (AppendsProperFront
         (K.written out.old.sink.now) (K.written out.new.sink.now)
-        (rendered db.now.labels db.now.graph.objects reply.now)) }
+        (reply_text db.now.state reply.now)) }
     ensures cause { HasCause (K.faults out.old.sink.now) (K.faults out.new.sink.now) result }
 {
     put_reply(reply, db, out)?;
@@ -58,7 +59,7 @@ fn deliver<K: Sink>(reply: &Reply, db: &Db, out: &mut ReplyWriter<K>) -> Result<
 /// Puts the lines of a reply.
 fn put_reply<O: Out>(reply: &Reply, db: &Db, out: &mut O) -> Result<(), O::Fault>
     ensures { Puts O.is_memory (O.state out.old)
-        (rendered db.now.labels db.now.graph.objects reply.now) (O.state out.new) result }
+        (reply_text db.now.state reply.now) (O.state out.new) result }
 {
     match reply {
         Reply::Changed {
@@ -66,7 +67,10 @@ fn put_reply<O: Out>(reply: &Reply, db: &Db, out: &mut O) -> Result<(), O::Fault
             edges,
             nodes,
         } => put_changed(*objects, *edges, *nodes, out),
-        Reply::Rows(answer) => put_rows(answer.as_slice(), db, out),
+        Reply::Rows(answer) => put_rows(answer.as_slice(), &Shown::present(db), out),
+        Reply::Past { moment, answer } => {
+            put_rows(answer.as_slice(), &Shown::past(db, *moment), out)
+        }
         Reply::PlanShown {
             kind,
             candidates,
@@ -151,9 +155,10 @@ fn put_refused<O: Out>(refusal: Refusal, out: &mut O) -> Result<(), O::Fault>
 }
 
 /// Puts a line for each row, and a line with their number.
-fn put_rows<O: Out>(rows: &[AnswerRow], db: &Db, out: &mut O) -> Result<(), O::Fault>
+fn put_rows<O: Out>(rows: &[AnswerRow], db: &Shown<'_>, out: &mut O) -> Result<(), O::Fault>
     ensures { Puts O.is_memory (O.state out.old)
-        (rendered db.now.labels db.now.graph.objects (RowsReply rows.now)) (O.state out.new) result }
+        (rendered db.now.labels db.now.graph.objects (RowsReply rows.now))
+        (O.state out.new) result }
 {
     put_row_lines(rows, db, out)?;
     put_count(b"rows ", rows.len(), out)?;
@@ -161,7 +166,7 @@ fn put_rows<O: Out>(rows: &[AnswerRow], db: &Db, out: &mut O) -> Result<(), O::F
 }
 
 /// Puts a line for each row.
-fn put_row_lines<O: Out>(rows: &[AnswerRow], db: &Db, out: &mut O) -> Result<(), O::Fault>
+fn put_row_lines<O: Out>(rows: &[AnswerRow], db: &Shown<'_>, out: &mut O) -> Result<(), O::Fault>
     ensures { Puts O.is_memory (O.state out.old)
         (flat_map (row_line db.now.labels db.now.graph.objects) rows.now) (O.state out.new) result }
 {
@@ -172,7 +177,7 @@ fn put_row_lines<O: Out>(rows: &[AnswerRow], db: &Db, out: &mut O) -> Result<(),
 }
 
 /// Puts the line of one row.
-fn put_row<O: Out>(cells: &[Cell], db: &Db, out: &mut O) -> Result<(), O::Fault>
+fn put_row<O: Out>(cells: &[Cell], db: &Shown<'_>, out: &mut O) -> Result<(), O::Fault>
     ensures { Puts O.is_memory (O.state out.old)
         (row_line db.now.labels db.now.graph.objects cells.now) (O.state out.new) result }
 {
@@ -181,7 +186,7 @@ fn put_row<O: Out>(cells: &[Cell], db: &Db, out: &mut O) -> Result<(), O::Fault>
 }
 
 /// Puts the cells of a row, a bar between two.
-fn put_cells<O: Out>(cells: &[Cell], db: &Db, out: &mut O) -> Result<(), O::Fault>
+fn put_cells<O: Out>(cells: &[Cell], db: &Shown<'_>, out: &mut O) -> Result<(), O::Fault>
     ensures { let cell = cell_text db.now.labels db.now.graph.objects in
         Puts O.is_memory (O.state out.old)
         (join_by cell (codes " | ") cells.now) (O.state out.new) result }
@@ -194,7 +199,7 @@ fn put_cells<O: Out>(cells: &[Cell], db: &Db, out: &mut O) -> Result<(), O::Faul
 }
 
 /// Puts a bar and a cell, for each cell.
-fn put_other_cells<O: Out>(cells: &[Cell], db: &Db, out: &mut O) -> Result<(), O::Fault>
+fn put_other_cells<O: Out>(cells: &[Cell], db: &Shown<'_>, out: &mut O) -> Result<(), O::Fault>
     ensures { let cell = cell_text db.now.labels db.now.graph.objects in
         Puts O.is_memory (O.state out.old)
         (flat_map (λ other. codes " | " ++ cell other) cells.now) (O.state out.new) result }
@@ -207,7 +212,7 @@ fn put_other_cells<O: Out>(cells: &[Cell], db: &Db, out: &mut O) -> Result<(), O
 }
 
 /// Puts what a cell shows.
-fn put_cell<O: Out>(cell: &Cell, db: &Db, out: &mut O) -> Result<(), O::Fault>
+fn put_cell<O: Out>(cell: &Cell, db: &Shown<'_>, out: &mut O) -> Result<(), O::Fault>
     ensures { Puts O.is_memory (O.state out.old)
         (cell_text db.now.labels db.now.graph.objects cell.now) (O.state out.new) result }
 {
@@ -218,7 +223,7 @@ fn put_cell<O: Out>(cell: &Cell, db: &Db, out: &mut O) -> Result<(), O::Fault>
 }
 
 /// Puts the number of an object and its value.
-fn put_object<O: Out>(oid: Oid, db: &Db, out: &mut O) -> Result<(), O::Fault>
+fn put_object<O: Out>(oid: Oid, db: &Shown<'_>, out: &mut O) -> Result<(), O::Fault>
     ensures { Puts O.is_memory (O.state out.old)
         (object_text db.now.graph.objects oid) (O.state out.new) result }
 {
@@ -248,7 +253,7 @@ fn write_oid(number: u32, bytes: &mut [u8; OID_BYTES]) -> usize
 }
 
 /// Puts a word: each label behind a dot, and one dot for the word of no label.
-fn put_word<O: Out>(word: &[Label], db: &Db, out: &mut O) -> Result<(), O::Fault>
+fn put_word<O: Out>(word: &[Label], db: &Shown<'_>, out: &mut O) -> Result<(), O::Fault>
     ensures { Puts O.is_memory (O.state out.old)
         (word_text db.now.labels word.now) (O.state out.new) result }
 {
@@ -259,7 +264,7 @@ fn put_word<O: Out>(word: &[Label], db: &Db, out: &mut O) -> Result<(), O::Fault
 }
 
 /// Puts each label behind a dot.
-fn put_steps<O: Out>(word: &[Label], db: &Db, out: &mut O) -> Result<(), O::Fault>
+fn put_steps<O: Out>(word: &[Label], db: &Shown<'_>, out: &mut O) -> Result<(), O::Fault>
     ensures { Puts O.is_memory (O.state out.old)
         (flat_map (step_text db.now.labels) word.now) (O.state out.new) result }
 {
@@ -270,7 +275,7 @@ fn put_steps<O: Out>(word: &[Label], db: &Db, out: &mut O) -> Result<(), O::Faul
 }
 
 /// Puts a dot and a label.
-fn put_step<O: Out>(label: Label, db: &Db, out: &mut O) -> Result<(), O::Fault>
+fn put_step<O: Out>(label: Label, db: &Shown<'_>, out: &mut O) -> Result<(), O::Fault>
     ensures { Puts O.is_memory (O.state out.old)
         (step_text db.now.labels label) (O.state out.new) result }
 {
@@ -279,7 +284,7 @@ fn put_step<O: Out>(label: Label, db: &Db, out: &mut O) -> Result<(), O::Fault>
 }
 
 /// The text of a label. One that isn't in the table has the empty text.
-fn text_of_label(label: Label, db: &Db) -> &[u8]
+fn text_of_label<'a>(label: Label, db: &'a Shown<'_>) -> &'a [u8]
     ensures { result.now ≡ unwrap_or (slice_get db.now.labels label.0) [] }
 {
     match db.label(label) {
@@ -289,7 +294,7 @@ fn text_of_label(label: Label, db: &Db) -> &[u8]
 }
 
 /// Puts the value of an object. One that isn't live is printed as a complex one.
-fn put_value_of<O: Out>(oid: Oid, db: &Db, out: &mut O) -> Result<(), O::Fault>
+fn put_value_of<O: Out>(oid: Oid, db: &Shown<'_>, out: &mut O) -> Result<(), O::Fault>
     ensures { Puts O.is_memory (O.state out.old)
         (printed (value_of db.now.graph.objects oid)) (O.state out.new) result }
 {

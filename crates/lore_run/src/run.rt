@@ -1,7 +1,7 @@
 ghost use Rattle.std.specs.Prelude.{◌≡◌, ℕ, ◌+◌, ◌<◌, ◌≤◌, ◌↔◌, ◌^◌, [], false, length, Some, None};
 ghost use Rattle.std.specs.Prelude.{IfSome};
 ghost use Rattle.lore_base.specs.Causes.{Rose};
-ghost use Rattle.lore_base.specs.Databases.{new_database};
+ghost use Rattle.lore_db.specs.States.{new_state};
 ghost use Rattle.lore_run.specs.Endings.{KeepsLimits, outside, RunEnds, PrintsAll, IsDone};
 ghost use Rattle.lore_run.specs.Endings.{EndsWell, IsUntouched, IsCausedBySource, IsCausedBySink};
 ghost use Rattle.lore_run.specs.inside.Turns.{standing, IsUnended, Finishes};
@@ -19,7 +19,7 @@ use std::alloc::Global;
 use std::sync::ledger::Ledger;
 
 /// Runs the script that the source has left and writes its replies to the sink, in order. The
-/// session is new, and ends as the database after the last statement that was executed.
+/// session is new, and ends in the state after the last statement that was executed.
 ///
 /// The script is read in pieces of at most 65,536 bytes. A statement is executed when its `;` has
 /// been read, and its reply is written before the source is read again. With any word from the
@@ -33,18 +33,19 @@ pub fn run_lore<S: Source, K: Sink, L: Ledger>(
     session: &mut Session,
     steps: &mut Steps<L>,
 ) -> Outcome
-    requires { session.old ≡ new_database }
+    requires { session.old.state ≡ new_state }
 
     // The headline: where the script was read to its end, the sink grew by the replies of all its
-    // statements, and the session is the database after them.
+    // statements, and the session is in the state after them.
     ensures printed { IsDone result.status → IfSome (S.left source.old)
-        (λ script. PrintsAll script result session.new (K.written sink.old) (K.written sink.new)) }
+        (λ script. PrintsAll script result session.new.state
+        (K.written sink.old) (K.written sink.new)) }
     ensures read { IsDone result.status → IfSome (S.left source.old)
         (λ _. S.left source.new ≡ Some []) }
 
     // How each run ends: the bytes that it took, the replies that it wrote, its counts and its
-    // database, by its status.
-    ensures ends { length words.now ≡ 0 → RunEnds result session.new
+    // state, by its status.
+    ensures ends { length words.now ≡ 0 → RunEnds result session.new.state
         (outside (S.left source.old) (K.written sink.old))
         (outside (S.left source.new) (K.written sink.new)) }
     ensures complete { length words.now ≡ 0 → IfSome (S.left source.old)
@@ -54,7 +55,7 @@ pub fn run_lore<S: Source, K: Sink, L: Ledger>(
 
     // Words are the one cause of Usage, and then nothing is touched.
     ensures usage { (result.status ≡ Status.Usage) ↔ (0 < length words.now) }
-    ensures untouched { 0 < length words.now → IsUntouched result session.new
+    ensures untouched { 0 < length words.now → IsUntouched result session.new.state
         (outside (S.left source.old) (K.written sink.old))
         (outside (S.left source.new) (K.written sink.new)) }
 
@@ -78,8 +79,8 @@ fn run_script<S: Source, K: Sink, L: Ledger>(
     session: &mut Session,
     steps: &mut Steps<L>,
 ) -> Outcome
-    requires { session.old ≡ new_database }
-    ensures ends { RunEnds result session.new
+    requires { session.old.state ≡ new_state }
+    ensures ends { RunEnds result session.new.state
         (outside (S.left source.old) (K.written sink.old))
         (outside (S.left source.new) (K.written sink.new)) }
     ensures source_faults { IsCausedBySource result.status
@@ -101,9 +102,9 @@ fn run_pieces<S: Source, K: Sink, L: Ledger>(
     session: &mut Session,
     steps: &mut Steps<L>,
 ) -> Outcome
-    requires new { session.old ≡ new_database }
+    requires new { session.old.state ≡ new_state }
     requires room { length piece.old ≡ PIECE_BYTES }
-    ensures ends { RunEnds result session.new
+    ensures ends { RunEnds result session.new.state
         (outside (S.left source.old) (K.written sink.old))
         (outside (S.left source.new) (K.written sink.new)) }
     ensures source_faults { IsCausedBySource result.status
@@ -151,8 +152,8 @@ fn end_script<K: Sink>(
     requires unfailed { (reader.old.whole ≡ false) × (reader.old.failed ≡ false) }
     requires room { (tally.old.done + 1 < 2 ^ 64) × (tally.old.refused + 1 < 2 ^ 64) }
     ensures finished { Finishes result
-        (standing reader.old.held tally.old (K.written sink.old) session.now)
-        (standing reader.old.held tally.new (K.written sink.new) session.now) }
+        (standing reader.old.held tally.old (K.written sink.old) session.now.state)
+        (standing reader.old.held tally.new (K.written sink.new) session.now.state) }
     ensures cause { IsCausedBySink result (K.faults sink.old) (K.faults sink.new) }
 {
     if reader.finish() == Rest::Unfinished {

@@ -1,4 +1,5 @@
 use dataguide::GuideFault;
+use doem_history::HistoryFault;
 use dump_text::DumpFault;
 use lore_base::{Failed, NoMemory};
 use lore_store::{RestoreFault, StoreFault};
@@ -107,6 +108,11 @@ fn check_guides(alloc: Global) -> Result<(), Fail> {
     check(alloc, &GuideFault::NoMemory, MEMORY)
 }
 
+fn check_histories(alloc: Global) -> Result<(), Fail> {
+    check(alloc, &HistoryFault::Full, "the history is full")?;
+    check(alloc, &HistoryFault::NoMemory, MEMORY)
+}
+
 fn check_updates(alloc: Global) -> Result<(), Fail> {
     for (fault, text) in [
         (UpdateFault::DuplicateLocal, TWO_OBJECTS),
@@ -165,6 +171,7 @@ fn faults_say_what_they_are(rt: HostRuntime) -> Result<(), Fail> {
     check_locals(rt.alloc())?;
     check_dumps(rt.alloc())?;
     check_guides(rt.alloc())?;
+    check_histories(rt.alloc())?;
     check_updates(rt.alloc())?;
     check_stores(rt.alloc())?;
     check_restores(rt.alloc())

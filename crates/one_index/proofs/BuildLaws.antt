@@ -12,7 +12,8 @@ use Rattle.list_laws.proofs.SumLaws.{distinct_no_longer}
 use Rattle.block_rounds.specs.Partitions.{IsNumbered, IsInOrder}
 use Rattle.block_rounds.proofs.MapLaws.{Contains-count}
 use Rattle.one_index.specs.Types.{Oid, Label, Edge, Block}
-use Rattle.one_index.specs.Blocks.{NamedGraph, IsSound, BelongTogether, IsMember, HasEdge, IsLinkedTo, IsBefore, IsOrdered, AreBlocksOf, into, cost_of}
+use Rattle.one_index.specs.Blocks.{NamedGraph, IsSound, BelongTogether, IsMember, HasEdge, IsLinkedTo, IsBefore, IsOrdered, AreBlocksOf, cost_of}
+use Rattle.read_costs.specs.ReadCosts.{out_reads, in_reads}
 use Rattle.one_index.specs.inside.Places.{IsAt}
 use Rattle.one_index.specs.inside.Linked.{IsEdgeAt}
 use Rattle.one_index.specs.inside.Parted.{IsParted}
@@ -150,8 +151,6 @@ sum_by-both f g h [] both = refl
 sum_by-both f g h (x ∷ xs) both =
     omega (arith, sum_by-cons f x xs, sum_by-cons g x xs, sum_by-cons h x xs, both x, sum_by-both f g h xs both)
 
-pub cost_both : (edges links : List Edge) (objects : List Oid) → sum_by (cost_of edges links) objects
-    ≡ sum_by (λ oid. 1 + length (into oid links)) objects + sum_by (λ oid. 1 + length (out_of oid edges)) objects
-cost_both edges links objects =
-    sum_by-both (λ oid. 1 + length (into oid links)) (λ oid. 1 + length (out_of oid edges)) (cost_of edges links) objects
-    (λ oid. omega arith)
+pub cost_both : (edges : List Edge) (objects : List Oid)
+    → sum_by (cost_of edges) objects ≡ sum_by (in_reads edges) objects + sum_by (out_reads edges) objects
+cost_both edges objects = sum_by-both (in_reads edges) (out_reads edges) (cost_of edges) objects (λ oid. omega arith)

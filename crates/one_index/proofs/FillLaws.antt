@@ -7,6 +7,7 @@ use Rattle.list_laws.proofs.MemberLaws.{All-from_members}
 use Rattle.list_laws.proofs.PlaceLaws.{slice_get-push_cases}
 use Rattle.block_rounds.proofs.SignatureLaws.{same_number, left, right}
 use Rattle.block_rounds.specs.Gathered.{AreGathered}
+use Rattle.block_rounds.proofs.GatherLaws.{gathered_members}
 use Rattle.one_index.specs.Types.{Oid, Label, Edge, Block}
 use Rattle.one_index.specs.Blocks.{IsMember, HasEdge, IsOrdered}
 use Rattle.one_index.specs.inside.Places.{IsAt}
@@ -86,11 +87,11 @@ module _ (objects : List Oid) (numbers : List ℕ) (count : ℕ) (members : List
   members-told pairs gathered are number x = (
     λ member.
         let own = (filled.each number member.0 member.1).members in
-        (are number x).0 ((gathered number x).0 ((own.exact x).0 member.2)),
+        (are number x).0 ((gathered_members pairs members gathered number x).0 ((own.exact x).0 member.2)),
     λ at.
         let block = block_at number x at in
         let own = (filled.each number block.0 block.1).members in
-        (block.0, block.1, (own.exact x).1 ((gathered number x).1 ((are number x).1 at))),
+        (block.0, block.1, (own.exact x).1 ((gathered_members pairs members gathered number x).1 ((are number x).1 at))),
   )
 
   pub edges-told : (edges : List Edge) (links : List (ℕ × (Label × ℕ))) → AreGathered links rows
@@ -99,11 +100,11 @@ module _ (objects : List Oid) (numbers : List ℕ) (count : ℕ) (members : List
   edges-told edges links gathered are from label to = (
     λ edge.
         let own = (filled.each from edge.0 edge.1).edges_in_order in
-        (are (from, (label, to))).0 ((gathered from (label, to)).0 ((own.exact (label, to)).0 edge.2)),
+        (are (from, (label, to))).0 ((gathered_members links rows gathered from (label, to)).0 ((own.exact (label, to)).0 edge.2)),
     λ is.
         let block = block_at from is.edge.parent is.parent in
         let own = (filled.each from block.0 block.1).edges_in_order in
-        (block.0, block.1, (own.exact (label, to)).1 ((gathered from (label, to)).1 ((are (from, (label, to))).1 is))),
+        (block.0, block.1, (own.exact (label, to)).1 ((gathered_members links rows gathered from (label, to)).1 ((are (from, (label, to))).1 is))),
   )
 
   pub ordered-told : All IsOrdered blocks

@@ -7,3 +7,5 @@ pub mod TransferLaws
 pub mod BuildLaws
 pub mod WalkLaws
 pub mod OneBlocks
+pub mod GreatestLaws
+pub mod SomeBlocks

@@ -26,10 +26,10 @@ same_lists (x ∷ xs) (y ∷ ys) same =
     cc
 
 -- the least object of an ascending list
-abbrev least : List Oid → ℕ
+abbrev pub least : List Oid → ℕ
 least oids = (get_or oids 0 (oid_of 0)).0
 
-least_below : (oids : List Oid) (x : Oid) → AllPairs (λ a b. a.0 < b.0) oids → Contains oids x → least oids ≤ x.0
+pub least_below : (oids : List Oid) (x : Oid) → AllPairs (λ a b. a.0 < b.0) oids → Contains oids x → least oids ≤ x.0
 least_below oids x ascend at =
     let here : get_or oids at.0 (oid_of 0) ≡ x = get_or_from_slice_get oids at.0 x (oid_of 0) (slice_get-get_or oids at.0 x at.1 ∙ ap (λ (o : Oid). Some o) at.2) in
     let number : (get_or oids at.0 (oid_of 0)).0 ≡ x.0 = ap (λ (o : Oid). o.0) here in
@@ -40,11 +40,11 @@ least_below oids x ascend at =
           omega (arith, number, ap (λ (k : ℕ). (get_or oids k (oid_of 0)).0) zeroth)
     ]
 
-least_in : (oids : List Oid) → oids ≢ [] → Contains oids (get_or oids 0 (oid_of 0))
+pub least_in : (oids : List Oid) → oids ≢ [] → Contains oids (get_or oids 0 (oid_of 0))
 least_in [] some = absurd (some refl)
 least_in (x ∷ xs) some = (0, omega arith, refl)
 
-row_total : IsTotalOrder row_cmp
+pub row_total : IsTotalOrder row_cmp
 row_total = then_total (on_total (λ (e : Label × ℕ). e.0.0) nat_cmp_total) (on_total (λ (e : Label × ℕ). e.1) nat_cmp_total)
 
 abbrev sets_of : List Block → List (List Oid)
@@ -63,17 +63,17 @@ lists_once : (a b : List Oid) → LeastFirst a b → LeastFirst b a → ⊥
 lists_once a b less more = omega (arith, less, more)
 
 -- ---- lists by their places
-pairs_from_places : {X : Type 0} (R : X → X → Type 0) (xs : List X)
+pub pairs_from_places : {X : Type 0} (R : X → X → Type 0) (xs : List X)
     → ((i j : ℕ) (x y : X) → i < j → slice_get xs i ≡ Some x → slice_get xs j ≡ Some y → R x y) → AllPairs R xs
 pairs_from_places R xs each i j d less within =
     each i j (get_or xs i d) (get_or xs j d) less (slice_get-get_or xs i d (omega (arith, less, within))) (slice_get-get_or xs j d within)
 
-mapped_at : {X Y : Type 0} (f : X → Y) (xs : List X) (k : ℕ) (x : X) → slice_get xs k ≡ Some x → slice_get (map f xs) k ≡ Some (f x)
+pub mapped_at : {X Y : Type 0} (f : X → Y) (xs : List X) (k : ℕ) (x : X) → slice_get xs k ≡ Some x → slice_get (map f xs) k ≡ Some (f x)
 mapped_at f [] k x at = absurd (none-some x at)
 mapped_at {X} {Y} f (first ∷ xs) zero x at = ap (λ (z : X). Some (f z)) (same_Some first x at)
 mapped_at f (first ∷ xs) (suc k) x at = mapped_at f xs k x at
 
-unmapped_at : {X Y : Type 0} (f : X → Y) (xs : List X) (k : ℕ) (y : Y) → slice_get (map f xs) k ≡ Some y
+pub unmapped_at : {X Y : Type 0} (f : X → Y) (xs : List X) (k : ℕ) (y : Y) → slice_get (map f xs) k ≡ Some y
     → (x : X) × (slice_get xs k ≡ Some x) × (f x ≡ y)
 unmapped_at f [] k y at = absurd (none-some y at)
 unmapped_at f (first ∷ xs) zero y at = (first, refl, same_Some (f first) y at)

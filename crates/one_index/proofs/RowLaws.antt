@@ -12,7 +12,8 @@ use Rattle.list_laws.proofs.AscentLaws.{never_less}
 use Rattle.list_laws.proofs.PlaceLaws.{Contains-from_place}
 use Rattle.list_laws.proofs.SumLaws.{distinct_no_longer}
 use Rattle.one_index.specs.Types.{Oid, Edge}
-use Rattle.one_index.specs.Blocks.{into}
+use Rattle.read_costs.specs.ReadCosts.{in_of}
+use Rattle.one_index.specs.inside.Parted.{AreSameEdges}
 use Rattle.one_index.specs.inside.Rows.{label_of, IsParentPut, IsRowOf, IsRow}
 use Rattle.one_index.proofs.PlaceLaws.{place_once}
 
@@ -107,14 +108,14 @@ entering_total : IsTotalOrder entering_cmp
 entering_total = then_total (on_total (λ (e : Edge). e.label.0) nat_cmp_total) (on_total (λ (e : Edge). e.parent.0) nat_cmp_total)
 
 -- no more edges are listed than enter the object
-pub few_entering : (links : List Edge) (oid : Oid) (list : List Edge) → ListsEntering links oid None list
-    → length list ≤ length (into oid links)
-few_entering links oid list lists =
-    distinct_no_longer list (into oid links)
+pub few_entering : (links edges : List Edge) → AreSameEdges links edges → (oid : Oid) (list : List Edge)
+    → ListsEntering links oid None list → length list ≤ length (in_of oid edges)
+few_entering links edges same_edges oid list lists =
+    distinct_no_longer list (in_of oid edges)
     (λ i j d less within same. never_less entering_cmp entering_total (get_or list i d)
     (ap (entering_cmp (get_or list i d)) same ∙ lists.ascending i j d less within))
     (λ edge at.
     let there = (lists.exact edge).0 at in
     let number : edge.child.0 ≡ oid.0 = ap (λ (o : Oid). o.0) there.1 in
     let test : nat_eq edge.child.0 oid.0 ≡ true = grind (arith, nat_tests) in
-    Contains-filter (λ (e : Edge). nat_eq e.child.0 oid.0) links edge there.0 test)
+    Contains-filter (λ (e : Edge). nat_eq e.child.0 oid.0) edges edge ((same_edges edge).0 there.0) test)

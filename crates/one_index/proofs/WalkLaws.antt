@@ -11,7 +11,7 @@ use Rattle.lore_base.specs.Walks.{edge_of, Walk}
 use Rattle.set_walk.specs.SetPaths.{LeadsAlong, IsReachedBySets}
 use Rattle.one_index.specs.Types.{Oid, Label, Block}
 use Rattle.one_index.specs.Blocks.{NamedGraph, IsSound, BelongTogether, IsMember, HasEdge, AreBlocksOf}
-use Rattle.one_index.specs.BlockLaws.{BlocksTellWalks}
+use Rattle.one_index.specs.BlockLaws.{BlocksTellWalks, AnswersAreUnions}
 use Rattle.one_index.specs.BlockReaches.{BlocksOver, TellsReached, TellsOf}
 
 module _ (graph : NamedGraph) where
@@ -157,3 +157,16 @@ told-by-blocks told path named (Some number) found only none oid = (
     member = tells.member;
   },
 )
+
+pub answers_are_unions : AnswersAreUnions
+answers_are_unions graph told are number x y x_in y_in path named reached =
+    let same : number ≡ reached.last = (are.exact number reached.last x x x_in reached.member).1 (inl refl) in
+    record {
+      entry = reached.entry;
+      enters = reached.enters;
+      word = reached.word;
+      spelled = reached.spelled;
+      last = reached.last;
+      leads = reached.leads;
+      member = subst (λ (n : ℕ). IsMember told.blocks n y) same y_in;
+    }

@@ -1,11 +1,11 @@
 -- Blocks of objects by backward bisimulation, and the graph of blocks (Milo and Suciu 1999, the 1-index).
-use Rattle.std.specs.Prelude.{◌≡◌, ◌≢◌, ◌↔◌, ◌⊎◌, ℕ, ◌+◌, ◌<◌, ◌==◌, List, [], Some}
-use Rattle.std.specs.Prelude.{length, filter, slice_get}
+use Rattle.std.specs.Prelude.{◌≡◌, ◌≢◌, ◌↔◌, ◌⊎◌, ℕ, ◌+◌, ◌<◌, List, [], Some, slice_get}
 use Rattle.std.specs.Prelude.{All, AllPairs, Contains}
 use Rattle.std.specs.Ordering.{nat_cmp, ordering_then}
 use Rattle.std.specs.declared.cmp.Ordering.{Ordering}
 use Rattle.std.specs.declared.cmp.Ordering.TheVariants.{Less}
-use Rattle.lore_base.specs.Walks.{edge_of, out_of}
+use Rattle.lore_base.specs.Walks.{edge_of}
+use Rattle.read_costs.specs.ReadCosts.{out_reads, in_reads}
 use Rattle.one_index.specs.Types.{Oid, Label, Edge, Block}
 
 -- the part of a database that decides its blocks: names with their objects, the live objects, and edges
@@ -97,10 +97,6 @@ pub record AreBlocksOf (graph : NamedGraph) (blocks : List Block) : Type 0 where
 
 -- Reads.
 
--- the edges that enter an object, in the order of the list
-abbrev pub into : Oid → List Edge → List Edge
-into oid edges = filter (λ edge. edge.child.0 == oid.0) edges
-
--- what it costs at most to read an object's edges once each way
-abbrev pub cost_of : List Edge → List Edge → Oid → ℕ
-cost_of edges links oid = 2 + length (out_of oid edges) + length (into oid links)
+-- what it costs at most to read an object's edges once each way: two steps, and one for each edge
+abbrev pub cost_of : List Edge → Oid → ℕ
+cost_of edges oid = out_reads edges oid + in_reads edges oid

@@ -1,10 +1,10 @@
 ghost use Rattle.std.specs.Prelude.{◌≡◌, ◌↔◌, ℕ, ◌+◌, ◌<◌, ◌≤◌, ◌^◌, List, length};
 ghost use Rattle.std.specs.Prelude.{All, AllPairs, Contains, IfOk, OnOk};
 ghost use Rattle.std.specs.List.{sum_by};
-ghost use Rattle.lore_base.specs.Walks.{out_of};
+ghost use Rattle.read_costs.specs.ReadCosts.{in_reads, out_reads};
 ghost use Rattle.one_index.specs.Types.{Oid as TheOid, Label as TheLabel, Edge as TheEdge};
 ghost use Rattle.one_index.specs.Blocks.{graph_of, IsSound, IsOrdered, AreBlocksOf};
-ghost use Rattle.one_index.specs.Blocks.{IsMember, HasEdge, into, cost_of};
+ghost use Rattle.one_index.specs.Blocks.{IsMember, HasEdge, cost_of};
 ghost use Rattle.one_index.specs.inside.Places.{IsAt};
 ghost use Rattle.one_index.specs.inside.Linked.{IsEdgeAt};
 ghost use Rattle.one_index.specs.inside.Parted.{AreSameEdges, IsParted};
@@ -15,7 +15,8 @@ use crate::filling::blocks_from;
 use crate::kinds::kinds_of;
 use crate::linking::{links_of, members_of};
 use crate::rows::read_rows;
-use block_rounds::{Partition, gathered, refined};
+use block_haste::refined;
+use block_rounds::{Partition, gathered};
 use index_traits::{Adjacent, Links};
 use lore_base::{Names, NoMemory, Oid, OidBuf, Steps};
 use std::alloc::Global;
@@ -38,8 +39,8 @@ fn partition_of<K: Links, L: Ledger>(
         IsNumbered (length objects.now) partition.numbers.items partition.heads.items) }
     ensures order { IfOk result (λ partition.
         IsInOrder partition.numbers.items partition.heads.items) }
-    ensures steps { OnOk result (steps.new ≤ steps.old
-        + sum_by (λ oid. 1 + length (into oid (K.edges links.now))) objects.now) }
+    ensures steps { OnOk result ((edges : List TheEdge) → AreSameEdges (K.edges links.now) edges
+        → steps.new ≤ steps.old + sum_by (in_reads edges) objects.now) }
 {
     let rows = read_rows(alloc, links, objects, steps)?;
     let named = names.objects()?;
@@ -70,7 +71,7 @@ fn blocks_by<A: Adjacent, L: Ledger>(
         ↔ IsEdgeAt (A.edges graph.now) objects.now numbers.now from label to) }
     ensures ordered { IfOk result (λ blocks. All IsOrdered blocks.items) }
     ensures steps { OnOk result (steps.new ≡ steps.old
-        + sum_by (λ oid. 1 + length (out_of oid (A.edges graph.now))) objects.now) }
+        + sum_by (out_reads (A.edges graph.now)) objects.now) }
 {
     let pairs = members_of(alloc, objects, numbers)?;
     let members = gathered(alloc, count, pairs.as_slice())?;
@@ -112,7 +113,7 @@ impl Blocks {
             (AreBlocksOf (graph_of names.now objects.now (A.edges graph.now))) }
         ensures few { IfOk result (λ blocks. length blocks ≤ length objects.now) }
         ensures steps { OnOk result (steps.new ≤ steps.old
-            + sum_by (cost_of (A.edges graph.now) (K.edges links.now)) objects.now) }
+            + sum_by (cost_of (A.edges graph.now)) objects.now) }
     {
         let oids = objects.as_slice();
         let partition = partition_of(alloc, links, oids, names, steps)?;

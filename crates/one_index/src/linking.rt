@@ -1,7 +1,7 @@
 ghost use Rattle.std.specs.Prelude.{◌≡◌, ◌↔◌, ◌⊎◌, ◌+◌, ◌<◌, ◌^◌, ℕ, length};
 ghost use Rattle.std.specs.Prelude.{All, AllPairs, Contains, IfOk, OnOk};
 ghost use Rattle.std.specs.List.{sum_by};
-ghost use Rattle.lore_base.specs.Walks.{out_of};
+ghost use Rattle.read_costs.specs.ReadCosts.{out_reads};
 ghost use Rattle.one_index.specs.Types.{Oid as TheOid, Label as TheLabel};
 ghost use Rattle.one_index.specs.inside.Places.{IsAt};
 ghost use Rattle.one_index.specs.inside.Linked.{IsLinkPut, IsLink, AreLinks};
@@ -86,7 +86,7 @@ pub(crate) fn links_of<A: Adjacent, L: Ledger>(
     ensures links { IfOk result (λ links.
         AreLinks (A.edges graph.now) objects.now numbers.now links.items) }
     ensures steps { OnOk result (steps.new ≡ steps.old
-        + sum_by (λ oid. 1 + length (out_of oid (A.edges graph.now))) objects.now) }
+        + sum_by (out_reads (A.edges graph.now)) objects.now) }
 {
     let mut links = Vec::new(alloc);
     let mut edges = EdgeBuf::new(alloc);

@@ -1,7 +1,9 @@
-ghost use Rattle.std.specs.Prelude.{◌≡◌, ◌+◌, ◌<◌, ◌≤◌, length, AllPairs, IfOk, OnOk};
+ghost use Rattle.std.specs.Prelude.{◌≡◌, ◌+◌, ◌<◌, ◌≤◌, List, AllPairs, IfOk, OnOk};
 ghost use Rattle.std.specs.List.{sum_by};
-ghost use Rattle.one_index.specs.Blocks.{into};
+ghost use Rattle.read_costs.specs.ReadCosts.{in_reads};
+ghost use Rattle.one_index.specs.Types.{Edge as TheEdge};
 ghost use Rattle.one_index.specs.inside.Rows.{IsParentPut, IsRow, IsRowOf, AreRows};
+ghost use Rattle.one_index.specs.inside.Parted.{AreSameEdges};
 
 use crate::places::place_of;
 use block_rounds::Row;
@@ -44,8 +46,8 @@ fn read_row<K: Links, L: Ledger>(
 ) -> Result<Row, NoMemory>
     requires { AllPairs (λ a b. a.0 < b.0) objects.now }
     ensures row { IfOk result (IsRow (K.edges links.now) objects.now oid) }
-    ensures steps { OnOk result
-        (steps.new ≤ steps.old + 1 + length (into oid (K.edges links.now))) }
+    ensures steps { OnOk result ((edges : List TheEdge)
+        → AreSameEdges (K.edges links.now) edges → steps.new ≤ steps.old + in_reads edges oid) }
 {
     let mut edges = EdgeBuf::new(alloc);
     links.parents(oid, None, &mut edges, steps)?;
@@ -63,8 +65,8 @@ pub(crate) fn read_rows<K: Links, L: Ledger>(
     requires { AllPairs (λ a b. a.0 < b.0) objects.now }
     ensures rows { IfOk result (λ rows.
         AreRows (K.edges links.now) objects.now objects.now rows.items) }
-    ensures steps { OnOk result (steps.new ≤ steps.old
-        + sum_by (λ oid. 1 + length (into oid (K.edges links.now))) objects.now) }
+    ensures steps { OnOk result ((edges : List TheEdge) → AreSameEdges (K.edges links.now) edges
+        → steps.new ≤ steps.old + sum_by (in_reads edges) objects.now) }
 {
     let mut rows = Vec::with_capacity(alloc, objects.len())?;
     'objects: for oid in objects {

@@ -5,6 +5,7 @@ ghost use Rattle.lorel_bound.specs.Runnable.{IsRunnable};
 ghost use Rattle.lorel_bound.specs.Plans.{Probe as TheProbe, CanBeBottom, path_to, IsLabelOf};
 ghost use Rattle.lorel_bound.specs.Plans.{IsPlanOf, AreStepsOf, step_tree};
 ghost use Rattle.planner.specs.Types.{Oid as TheOid};
+ghost use Rattle.lorel_bound.specs.declared.plans.PlanKind.TheVariants.{Top as TheTop};
 ghost use Rattle.planner.specs.Choices.{AreCounts, kind_by};
 ghost use Rattle.planner.specs.inside.Probes.{probe_tree};
 
@@ -69,6 +70,20 @@ pub fn choose<V: Values, P: Paths>(
         candidates: Some(candidates),
         found: Some(found),
         steps,
+    })
+}
+
+/// The plan that walks forward from names along each range in turn, whatever else a graph has.
+pub fn forward_plan(alloc: Global, bound: &Bound) -> Result<Plan, NoMemory>
+    requires { IsRunnable (bound_tree bound.now) }
+    ensures kind { IfOk result (λ plan. plan.kind ≡ TheTop) }
+    ensures steps { (texts : List (List ℕ)) → IfOk result (IsPlanOf texts (bound_tree bound.now)) }
+{
+    Ok(Plan {
+        kind: PlanKind::Top,
+        candidates: None,
+        found: None,
+        steps: steps_from_names(alloc, bound, false)?,
     })
 }
 

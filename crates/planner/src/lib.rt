@@ -2,10 +2,10 @@
 //!
 //! A search from the top begins at a name; one from the bottom at the values that a comparison asks
 //! for (McHugh and Widom 1999). `choose` counts the objects of both beginnings, reads no edge for
-//! it, and goes by the mode.
+//! it, and goes by the mode. `forward_plan` counts nothing.
 #![tactic(auto)]
 
-pub use choosing::choose;
+pub use choosing::{choose, forward_plan};
 
 mod beginnings;
 mod choosing;

@@ -5,8 +5,9 @@
 //! on in the next line. A line `+++ COUNT [TEXT]` stands for the text so many times; what follows
 //! goes on behind it.
 //!
-//! Behind the text of an update stands the select that gives its rows. A further line says where
-//! the text isn't read back as a statement with the same text, or a copy has another text.
+//! The statement is read from a copy of its tokens. Behind the text of an update stands the select
+//! that gives its rows. A further line says where the text isn't read back as a statement with the
+//! same text, or a copy has another text.
 #![tactic(auto)]
 
 mod cases;

@@ -14,9 +14,15 @@ pub(crate) fn answer(alloc: Global, text: &[u8], printed: &mut Vec<u8>) -> Resul
         return put_line(printed, b"too long");
     }
     match tokens(alloc, text) {
-        Ok(tokens) => answer_tokens(alloc, &tokens, printed),
+        Ok(tokens) => answer_copy(alloc, &tokens, printed),
         Err(fault) => print_fault(alloc, fault, printed),
     }
+}
+
+// Tokens that a copy lacks, or has otherwise, show in what is printed.
+fn answer_copy(alloc: Global, tokens: &TokenList, printed: &mut Vec<u8>) -> Result<(), NoMemory> {
+    let copy = tokens.try_copy(alloc)?;
+    answer_tokens(alloc, &copy, printed)
 }
 
 fn print_fault(alloc: Global, fault: LexFault, printed: &mut Vec<u8>) -> Result<(), NoMemory> {

@@ -1,12 +1,11 @@
 ghost use Rattle.std.specs.Prelude.{◌≡◌, ◌<◌, ◌≤◌};
-ghost use Rattle.std.specs.Bool.{OnTrue};
 ghost use Rattle.lorel_bound.specs.Bound.{bound_cond};
 ghost use Rattle.lorel_bound.specs.Conditions.{paths_of};
 ghost use Rattle.lorel_eval.specs.Types.{LEAVES};
 ghost use Rattle.lorel_eval.specs.Tests.{rest_leaves};
 
 use index_traits::{NaiveEdges, Row, RowTest, ValueOf};
-use lore_base::{Edge, EdgeBuf, Label, NoMemory, Oid, Op, Path, Steps, Value, path_leaf_count};
+use lore_base::{Edge, EdgeBuf, Label, NoMemory, Oid, Op, Path, Steps, Value};
 use lorel_bound::{BoundCond, BoundOperand, BoundPath, BoundStart};
 use lorel_eval::Test;
 use oem_labels::LabelTable;
@@ -32,41 +31,18 @@ impl ValueOf for One {
     }
 }
 
-fn any_word() -> BoundPath {
-    BoundPath {
+// The condition that some word leads from the object in the first slot to this number.
+pub(crate) fn leading_to(number: i64) -> BoundCond
+    ensures { rest_leaves (paths_of (bound_cond result)) ≤ LEAVES }
+{
+    let path = BoundPath {
         start: BoundStart::Slot(0),
         rest: Path::Any,
-    }
-}
-
-fn there() -> BoundOperand {
-    BoundOperand::At(any_word())
-}
-
-fn whole(number: i64) -> BoundOperand {
-    BoundOperand::Atom(Value::Whole(number))
-}
-
-// The condition that some word leads from the object in the first slot to this number.
-pub(crate) fn leading_to(number: i64) -> BoundCond {
+    };
     BoundCond::Compare {
-        left: there(),
+        left: BoundOperand::At(path),
         op: Op::Eq,
-        right: whole(number),
-    }
-}
-
-// Whether the condition compares one path of few leaves with an atom.
-fn is_short(cond: &BoundCond) -> bool
-    ensures { OnTrue result (rest_leaves (paths_of (bound_cond cond.now)) ≤ LEAVES) }
-{
-    match cond {
-        BoundCond::Compare {
-            left: BoundOperand::At(path),
-            right: BoundOperand::Atom(_),
-            ..
-        } => path_leaf_count(&path.rest) <= 64,
-        _ => false,
+        right: BoundOperand::Atom(Value::Whole(number)),
     }
 }
 
@@ -88,23 +64,22 @@ fn row(alloc: Global) -> Row {
     row
 }
 
-// Whether a word leads from the object 1 to this number, where 2 is the number 30.
-fn holds<L: Ledger>(alloc: Global, number: i64, blank: Blank) -> Result<bool, Fail>
+// Whether a word leads from the object 1 to this number, where 2 is the number 30. There is one way
+// out with all values, since it is proved of each way that they can be let go.
+fn holds<L: Ledger>(alloc: Global, number: i64, blank: Blank) -> Result<bool, NoMemory>
     requires name { blank.name ≡ L.name }
     requires parts { blank.parts ≡ L.parts }
     requires some { 0 < blank.parts }
 {
-    let cond = leading_to(number);
-    if !is_short(&cond) {
-        return Err(Fail::new("the condition is too long"));
-    }
     let graph = graph(alloc)?;
+    let cond = leading_to(number);
     let values = One {
         value: Value::Whole(30),
     };
     let labels = LabelTable::new(alloc);
+    let row = row(alloc);
     let test = Test::new(Some(&cond), &graph, &values, &labels);
-    Ok(test.holds(alloc, &row(alloc), &mut Steps::<L>::new(blank))?)
+    test.holds(alloc, &row, &mut Steps::<L>::new(blank))
 }
 
 #[test]

@@ -5,86 +5,101 @@ use lorel_bound::{
     Answer, AnswerRow, Bound, BoundCond, Cell, CellList, CellOf, PlanStep, PlanSteps, Range,
     RangeList, Start,
 };
-use lorel_lex::{Kind, Sign, TokenList, tokens};
+use lorel_lex::{Kind, TokenList, tokens};
 use std::alloc::Global;
 use std::test::Fail;
 
-// The copy of the tokens of a chunk.
-fn copied_tokens(alloc: Global, chunk: &[u8]) -> Result<TokenList, Fail> {
+// Copies a value and lets it go. That a value can be let go is proved in each place where it may
+// be, and in few words where its type is a parameter.
+fn copied<T: TryCopy + Drop>(alloc: Global, value: T) -> Result<T, NoMemory> {
+    value.try_copy(alloc)
+}
+
+fn tokens_of(alloc: Global, chunk: &[u8]) -> Result<TokenList, Fail> {
     if chunk.len() > CHUNK_BYTES {
         return Err(Fail::new("the chunk is too long"));
     }
-    Ok(tokens(alloc, chunk)?.try_copy(alloc)?)
+    Ok(tokens(alloc, chunk)?)
 }
 
-// Whether the token at this place is that of the chunk below.
-fn is_copied(place: usize, kind: &Kind) -> bool {
-    match (place, kind) {
-        (0, Kind::Word(text)) => text.as_bytes() == b"ab".as_slice(),
-        (1, Kind::Quoted(text)) => text.as_bytes() == b"c d".as_slice(),
-        (2, Kind::Wild(text)) => text.as_bytes() == b"%x".as_slice(),
-        (3, Kind::Chars(text)) => text.as_bytes() == b"t".as_slice(),
-        (4, Kind::Number(number)) => *number == -5,
-        (5, Kind::Local(local)) => *local == 7,
-        (6, Kind::PathOf) => true,
-        (7, Kind::Symbol(sign)) => *sign == Sign::At,
-        _ => false,
+fn digit(kind: &Kind) -> u64 {
+    match kind {
+        Kind::Word(_) => 1,
+        Kind::Quoted(_) => 2,
+        Kind::Wild(_) => 3,
+        Kind::Chars(_) => 4,
+        Kind::Number(_) => 5,
+        Kind::Local(_) => 6,
+        Kind::PathOf => 7,
+        Kind::Symbol(_) => 8,
     }
 }
 
-fn are_copied(tokens: &TokenList) -> bool {
-    let mut place = 0_usize;
+// The kinds of the tokens as digits.
+fn digits(tokens: &TokenList) -> u64 {
+    let mut digits = 0_u64;
     for token in tokens.as_slice() {
-        if !is_copied(place, &token.kind) {
-            return false;
-        }
-        place = place.saturating_add(1);
+        digits = digits.wrapping_mul(10).wrapping_add(digit(&token.kind));
     }
-    place == 8
+    digits
 }
 
 #[test]
 fn tokens_are_copied(rt: HostRuntime) -> Result<(), Fail> {
-    let copy = copied_tokens(rt.alloc(), b"ab 'c d' %x \"t\" -5 &7 path-of @")?;
-    assert!(rt; are_copied(&copy));
+    let tokens = tokens_of(rt.alloc(), b"ab 'c d' %x \"t\" -5 &7 path-of @")?;
+    assert_eq!(rt; digits(&copied(rt.alloc(), tokens)?), 12_345_678);
     Ok(())
 }
 
-// The copy of a select of one range: it shows its objects and the words that lead to them, where a
-// condition doesn't hold.
-fn copied_select(alloc: Global) -> Result<Bound, NoMemory> {
+fn cells(alloc: Global) -> Result<CellList, NoMemory> {
     let mut cells = CellList::new(alloc);
-    cells.push(CellOf::Object(Start::Slot(0)))?;
-    cells.push(CellOf::PathOf(0))?;
+    for cell in [CellOf::Object(Start::Slot(0)), CellOf::PathOf(0)] {
+        cells.push(cell)?;
+    }
+    Ok(cells)
+}
+
+fn ranges(alloc: Global) -> Result<RangeList, NoMemory> {
     let mut ranges = RangeList::new(alloc);
     ranges.push(Range {
         start: Start::Named(Oid(1)),
         path: Path::Any,
     })?;
-    let cond = Some(BoundCond::Not(Box::new(alloc, leading_to(30))?));
-    let bound = Bound {
+    Ok(ranges)
+}
+
+fn condition(alloc: Global) -> Result<BoundCond, NoMemory> {
+    Ok(BoundCond::Not(Box::new(alloc, leading_to(30))?))
+}
+
+// A select of one range: it shows its objects and the words that lead to them, where a condition
+// doesn't hold.
+fn select(alloc: Global) -> Result<Bound, NoMemory> {
+    let cells = cells(alloc)?;
+    let ranges = ranges(alloc)?;
+    let cond = Some(condition(alloc)?);
+    Ok(Bound {
         ranges,
         cells,
         cond,
-    };
-    bound.try_copy(alloc)
+    })
+}
+
+fn is_select(bound: &Bound) -> bool {
+    bound.ranges.len() == 1
+        && bound.cells.len() == 2
+        && matches!(&bound.cond, Some(BoundCond::Not(_)))
 }
 
 #[test]
 fn a_bound_select_is_copied(rt: HostRuntime) -> Result<(), Fail> {
-    let copy = copied_select(rt.alloc())?;
-    let cells = [CellOf::Object(Start::Slot(0)), CellOf::PathOf(0)];
-    assert_eq!(rt; copy.cells.as_slice(), cells.as_slice());
-    assert!(rt; matches!(copy.cond, Some(BoundCond::Not(_))));
-    assert_eq!(rt;
-        copy.ranges.get(0).map(|range| range.start),
-        Some(Start::Named(Oid(1)))
-    );
+    let copy = copied(rt.alloc(), select(rt.alloc())?)?;
+    assert!(rt; is_select(&copy));
     Ok(())
 }
 
-// The copy of the steps of a plan: one range is walked, and the condition tested.
-fn copied_steps(alloc: Global) -> Result<PlanSteps, NoMemory> {
+// The steps of a plan: one range is walked, and the condition tested.
+fn plan_steps(alloc: Global) -> Result<PlanSteps, NoMemory> {
     let mut steps = PlanSteps::new(alloc);
     steps.push(PlanStep::Forward {
         start: Start::Named(Oid(1)),
@@ -92,27 +107,39 @@ fn copied_steps(alloc: Global) -> Result<PlanSteps, NoMemory> {
         slot: 0,
     })?;
     steps.push(PlanStep::Filter)?;
-    steps.try_copy(alloc)
+    Ok(steps)
+}
+
+fn are_steps(steps: &PlanSteps) -> bool {
+    matches!(steps.get(0), Some(PlanStep::Forward { slot: 0, .. }))
+        && matches!(steps.get(1), Some(PlanStep::Filter))
 }
 
 #[test]
 fn steps_of_a_plan_are_copied(rt: HostRuntime) -> Result<(), Fail> {
-    let copy = copied_steps(rt.alloc())?;
-    assert!(rt; matches!(copy.get(0), Some(PlanStep::Forward { slot: 0, .. })));
-    assert!(rt; matches!(copy.get(1), Some(PlanStep::Filter)));
+    let copy = copied(rt.alloc(), plan_steps(rt.alloc())?)?;
+    assert!(rt; are_steps(&copy));
     Ok(())
 }
 
-// The copy of an answer of one row, which shows an object and a word of two labels.
-fn copied_answer(alloc: Global) -> Result<Answer, NoMemory> {
+fn word(alloc: Global) -> Result<Word, NoMemory> {
     let mut word = Word::new(alloc);
     word.append(&[Label(1), Label(0)])?;
+    Ok(word)
+}
+
+fn row(alloc: Global) -> Result<AnswerRow, NoMemory> {
     let mut row = AnswerRow::new(alloc);
     row.push(Cell::Object(Oid(2)))?;
-    row.push(Cell::Path(word))?;
+    row.push(Cell::Path(word(alloc)?))?;
+    Ok(row)
+}
+
+// An answer of one row, which shows an object and a word of two labels.
+fn answer(alloc: Global) -> Result<Answer, NoMemory> {
     let mut answer = Answer::new(alloc);
-    answer.push(row)?;
-    answer.try_copy(alloc)
+    answer.push(row(alloc)?)?;
+    Ok(answer)
 }
 
 // Whether the answer is that one.
@@ -128,6 +155,7 @@ fn is_answer(answer: &Answer) -> bool {
 
 #[test]
 fn an_answer_is_copied(rt: HostRuntime) -> Result<(), Fail> {
-    assert!(rt; is_answer(&copied_answer(rt.alloc())?));
+    let copy = copied(rt.alloc(), answer(rt.alloc())?)?;
+    assert!(rt; is_answer(&copy));
     Ok(())
 }

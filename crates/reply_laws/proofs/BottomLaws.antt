@@ -19,8 +19,8 @@ use Rattle.list_laws.proofs.AscentLaws.{some_ordered}
 use Rattle.list_laws.proofs.PlaceLaws.{Contains-from_place, place_of_member}
 use Rattle.planner.proofs.CountLaws.{oids_ordered, listed_found}
 use Rattle.planner.specs.Choices.{IsCount}
-use Rattle.lore_db.specs.Types.{Oid, Value, ValueEntry, Start}
-use Rattle.lore_db.specs.Types.starts
+use Rattle.statements.specs.Types.{Oid, Value, ValueEntry, Start}
+use Rattle.statements.specs.Types.starts
 
 -- ---- paths that end in a plain label
 abbrev IsPlainStep : PathTree → Type 0

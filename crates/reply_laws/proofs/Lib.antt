@@ -6,3 +6,7 @@ pub mod SomePlanLaws
 pub mod OneReplyLaws
 pub mod SomeReplyLaws
 pub mod NothingLaws
+pub mod OneStateLaws
+pub mod FullLaws
+pub mod GrowLaws
+pub mod StandLaws

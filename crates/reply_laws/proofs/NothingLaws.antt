@@ -3,7 +3,7 @@ use Rattle.std.proofs.Common.{◌≡◌, ℕ, inl, inr, List, [], refl, sym, ari
 use Rattle.std.specs.List.{Contains}
 use Rattle.std.proofs.lemmas.List.{append-nil}
 use Rattle.std.proofs.lemmas.List.Elements.{All-contains}
-use Rattle.lore_db.specs.Types.{Oid, Edge, Value, Complex}
+use Rattle.statements.specs.Types.{Oid, Edge, Value, Complex}
 use Rattle.lore_base.specs.Databases.{OemGraph, Database, IsLinked, IsReached, IsRooted, IsValid}
 use Rattle.lore_base.specs.ChangeSets.{NamesThen, ObjectsThen, AreEdgesThen, IsReachedThen, IsGraphAfter, IsAfter}
 use Rattle.lore_base.proofs.MemberLaws.{Contains-none}

@@ -15,16 +15,16 @@ use Rattle.lorel_trees.specs.Trees as t
 use Rattle.lorel_trees.specs.Trees.{StatementTree, select, explain, guide, browse, sample, set_nodes, set_plan, dump, restore}
 use Rattle.lorel_trees.specs.Trees.{history, select_at, blocks, blocks_of, watch, unwatch, show}
 use Rattle.bind_laws.proofs.AnswerLaws.{has_one_answer}
-use Rattle.lore_db.specs.Types.{Oid, Cell, Mode, Refusal}
-use Rattle.reply_laws.specs.Types.{Reply, Changed, Rows, Lines, Refused}
-use Rattle.lore_db.specs.Effects.{effects}
-use Rattle.lore_db.specs.Statements.{Cause, cause_order, Counts, MakesItsChanges, Shows, Browses, Samples, Limits, ChoosesBy, Dumps, Restores, Performs, Refuses}
+use Rattle.statements.specs.Types.{Oid, Cell, Mode, Refusal}
+use Rattle.lore_db.specs.Types.{Reply, Changed, Rows, Lines, Refused}
+use Rattle.statements.specs.Effects.{effects}
+use Rattle.statements.specs.Statements.{Cause, cause_order, Counts, MakesItsChanges, Shows, Browses, Samples, Limits, ChoosesBy, Dumps, Restores, Performs, Refuses}
 use Rattle.reply_laws.specs.Laws.{ExecutesOnce}
-use Rattle.lore_db.proofs.CauseLaws.{one_rows}
-use Rattle.lore_db.proofs.ExplainLaws.{one_explained}
+use Rattle.statements.proofs.CauseLaws.{one_rows}
+use Rattle.statements.proofs.ExplainLaws.{one_explained}
 
 -- a database is counted by one reply
-one_counted : (db : Database) (reply other : Reply) → Counts db reply → Counts db other → reply ≡ other
+pub one_counted : (db : Database) (reply other : Reply) → Counts db reply → Counts db other → reply ≡ other
 one_counted db reply other h k =
     let many = distinct_as_long h.0 k.0 h.1.apart k.1.apart
     (λ set. (λ at. (k.1.exact set).1 ((h.1.exact set).0 at), λ at. (h.1.exact set).1 ((k.1.exact set).0 at))) in
@@ -90,7 +90,7 @@ one_chosen before mode reply other after later h k =
     let same : after ≡ later = h.0 ∙ sym k.0 in
     (same_counted after later reply other same h.1 k.1, same)
 
-one_performed : (before : Database) (statement : StatementTree) (reply other : Reply) (after later : Database)
+pub one_performed : (before : Database) (statement : StatementTree) (reply other : Reply) (after later : Database)
     → Performs before statement reply after
     → Performs before statement other later → (reply ≡ other) × (after ≡ later)
 one_performed before (select query) reply other after later h k =

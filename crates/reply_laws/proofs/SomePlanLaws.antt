@@ -11,9 +11,9 @@ use Rattle.bind_laws.proofs.BindingLaws.{has_some_binding}
 use Rattle.bind_laws.proofs.ReachedLaws.{listed_reached}
 use Rattle.lore_base.specs.Paths.{Reaches}
 use Rattle.planner.specs.Choices.{AreCounts, kind_by}
-use Rattle.lore_db.specs.Types.{ValueEntry}
-use Rattle.reply_laws.specs.Types.{Reply, PlanShown}
-use Rattle.lore_db.specs.Plans.{ShowsPlan}
+use Rattle.statements.specs.Types.{ValueEntry}
+use Rattle.lore_db.specs.Types.{Reply, PlanShown}
+use Rattle.statements.specs.Plans.{ShowsPlan}
 use Rattle.reply_laws.proofs.BottomLaws.{told_bottom, some_label, some_count, listed_candidates}
 
 -- what is counted can be counted

@@ -38,26 +38,26 @@ use Rattle.bind_laws.proofs.RefusalLaws.{has_some_verdict}
 use Rattle.oem_text.specs.Literals.{HasDouble, HasUndefined}
 use Rattle.answers.specs.Types.{ROWS, PATH_LABELS}
 use Rattle.lorel_bound.specs.Answers.{row_labels, IsTooMuch}
-use Rattle.lore_db.specs.Types.{SAMPLE, Oid, Edge, Cell, Mode, Changes, Refusal, LABELS, NAMES, OBJECTS, EDGES, NEXT_NUMBER}
-use Rattle.reply_laws.specs.Types.{Reply, Changed, Rows, Lines, Dump, Refused}
-use Rattle.lore_db.specs.Types.refusals
-use Rattle.lore_db.specs.Forms.{IsUnbuilt, reads, counted_rows, binds, makes, path_select, MakesChanges}
-use Rattle.lore_db.specs.Effects.{object_cells, AreRowsOf, effects}
-use Rattle.lore_db.specs.Statements.{IsUnbound, HasTooManyRows, IsNotOne, IsOutOfRange, IsNotFresh, IsNoDump, ChangesCause}
-use Rattle.lore_db.specs.Statements.{OfBinds, OfCounted}
-use Rattle.lore_db.specs.Statements.{Cause, cause_order, MakesItsChanges, Performs, Executes}
+use Rattle.statements.specs.Types.{SAMPLE, Oid, Edge, Cell, Mode, Changes, Refusal, LABELS, NAMES, OBJECTS, EDGES, NEXT_NUMBER}
+use Rattle.lore_db.specs.Types.{Reply, Changed, Rows, Lines, Dump, Refused}
+use Rattle.statements.specs.Types.refusals
+use Rattle.statements.specs.Forms.{IsUnbuilt, IsOfHistory, reads, counted_rows, binds, makes, path_select, MakesChanges}
+use Rattle.statements.specs.Effects.{object_cells, AreRowsOf, effects}
+use Rattle.statements.specs.Statements.{IsUnbound, HasTooManyRows, IsNotOne, IsOutOfRange, IsNotFresh, IsNoDump, ChangesCause}
+use Rattle.statements.specs.Statements.{OfBinds, OfCounted}
+use Rattle.statements.specs.Statements.{Cause, cause_order, MakesItsChanges, Performs, Executes}
 use Rattle.lorel_trees.specs.Sound.{IsSound}
 use Rattle.reply_laws.specs.Laws.{ExecutesAlways}
-use Rattle.lore_db.specs.inside.Stages.{fit_order}
+use Rattle.statements.specs.inside.Stages.{fit_order}
 use Rattle.reply_laws.proofs.TurnLaws.{AreTold, some_verdict, told_from_verdict, told_of_none, told_append}
 use Rattle.reply_laws.proofs.LocalToldLaws.{told_double, told_undefined}
-use Rattle.lore_db.proofs.LiveRowLaws.{starts_somewhere}
-use Rattle.lore_db.proofs.EffectLaws.{effects_fit}
+use Rattle.statements.proofs.LiveRowLaws.{starts_somewhere}
+use Rattle.statements.proofs.EffectLaws.{effects_fit}
 use Rattle.reply_laws.proofs.SomePlanLaws.{some_plan}
-use Rattle.lore_db.proofs.ObjectRowLaws.{answer_objects, changing_shows}
-use Rattle.lore_db.proofs.CauseLaws.{early, sizes, late, over_rows}
-use Rattle.lore_db.proofs.QuietLaws.{no_changes}
-use Rattle.lore_db.proofs.RangeLaws.{told_between, between_not, told_generable, told_changing, in_range}
+use Rattle.statements.proofs.ObjectRowLaws.{answer_objects, changing_shows}
+use Rattle.statements.proofs.CauseLaws.{early, sizes, late, over_rows}
+use Rattle.statements.proofs.QuietLaws.{no_changes}
+use Rattle.statements.proofs.RangeLaws.{told_between, between_not, told_generable, told_changing, in_range}
 use Rattle.reply_laws.proofs.ToldStatementLaws.{told_no_dump, some_restored, told_new, GivesLimit, told_no_limit, some_limit}
 
 -- the order in stages: what is told of the text, where the last are told of a select and of a literal; of rows and the
@@ -68,23 +68,20 @@ bound_order = refusals.UnknownVariable ∷ refusals.DuplicateVariable ∷ refusa
 abbrev local_order : List Refusal
 local_order = refusals.DuplicateLocal ∷ refusals.UndefinedLocal ∷ []
 
-abbrev text_order : List Refusal
+abbrev pub text_order : List Refusal
 text_order = refusals.Syntax ∷ refusals.UnknownName ∷ (bound_order ++ local_order)
 
-abbrev row_order : List Refusal
+abbrev pub row_order : List Refusal
 row_order =
     refusals.TooManyRows ∷ refusals.NotOne ∷ refusals.AtomicParent ∷ refusals.HasChildren ∷ refusals.OidsSpent
     ∷ refusals.TooManyLabels ∷ []
 
-abbrev limit_order : List Refusal
+abbrev pub limit_order : List Refusal
 limit_order =
     refusals.TooManyNames ∷ refusals.TooManyObjects ∷ refusals.TooManyEdges ∷ refusals.GuideNodes ∷ refusals.GuideCells ∷ late
 
 -- ---- what is told of the text
 told_unbuilt : (statement : StatementTree) → IsTold (IsUnbuilt statement)
-told_unbuilt (history on) = inl tt
-told_unbuilt (select_at moment query) = inl tt
-told_unbuilt (t.changes first last) = inl tt
 told_unbuilt blocks = inl tt
 told_unbuilt (blocks_of query) = inl tt
 told_unbuilt (watch name query) = inl tt
@@ -117,7 +114,7 @@ read_binds (explain query) Has h = absurd h
 read_binds statement Has h = h
 
 -- what is read has an answer
-some_read : (db : Database) (statement : StatementTree) → (Cause db statement refusals.UnknownName → ⊥)
+pub some_read : (db : Database) (statement : StatementTree) → (Cause db statement refusals.UnknownName → ⊥)
     → (Cause db statement refusals.UnknownVariable → ⊥) → (query : SelectTree) → reads statement ≡ Some query
     → (rows : List (List Cell)) × IsAnswer db query rows
 some_read db statement known ranged query reading =
@@ -233,6 +230,32 @@ told_late : (db : Database) (statement : StatementTree) → AreTold (Cause db st
 told_late db statement =
     (told_range db statement, λ within. (told_fresh db statement, λ fresh. (told_dump statement, λ dumped. tt)))
 
+module _ (db : Database) (statement : StatementTree) where
+  -- ---- what is told of the text
+  pub told_text : AreTold (Cause db statement) text_order
+  told_text =
+      let read = told_read db.graph.names (binds statement) in (
+        told_unbuilt statement,
+        λ built. (
+          told_either (told_unbound db statement) read.0,
+          λ known. told_append (Cause db statement) bound_order local_order (read.1 (λ h. known (inr h)))
+              (λ bound. (
+                told_made HasDouble told_double (makes statement),
+                λ single. (told_made HasUndefined told_undefined (makes statement), λ defined. tt),
+              )),
+        ),
+      )
+
+  -- what makes no changes is refused for none
+  pub told_still : (MakesChanges statement → ⊥) → IsClear (Cause db statement) text_order
+      → AreTold (Cause db statement) (row_order ++ limit_order)
+  told_still still clear = (
+    told_many_rows db statement clear.1.0 clear.1.1.0,
+    λ few. told_append (Cause db statement) (refusals.NotOne ∷ (early ++ sizes)) late
+        (told_from_verdict (Cause db statement) (refusals.NotOne ∷ (early ++ sizes)) (inl (no_changes db statement still)))
+        (λ unchanged. told_late db statement),
+  )
+
 module _ (db : Database) (valid : IsValid db) (statement : StatementTree) (formed : IsFormedStatement statement) where
   -- ---- what is told of the changes
   module _ (rows : List (List Oid)) (are : AreRowsOf db statement rows) where
@@ -294,36 +317,12 @@ module _ (db : Database) (valid : IsValid db) (statement : StatementTree) (forme
         told_append (Cause db statement) row_order limit_order (told_rows clear.1.0 clear.1.1.0)
         (λ behind. told_limits changing (clear_both (Cause db statement) text_order row_order clear behind))
 
-  -- what makes no changes is refused for none
-  told_still : (MakesChanges statement → ⊥) → IsClear (Cause db statement) text_order
-      → AreTold (Cause db statement) (row_order ++ limit_order)
-  told_still still clear = (
-    told_many_rows db statement clear.1.0 clear.1.1.0,
-    λ few. told_append (Cause db statement) (refusals.NotOne ∷ (early ++ sizes)) late
-        (told_from_verdict (Cause db statement) (refusals.NotOne ∷ (early ++ sizes)) (inl (no_changes db statement still)))
-        (λ unchanged. told_late db statement),
-  )
-
   -- ---- what is told of all
-  told_text : AreTold (Cause db statement) text_order
-  told_text =
-      let read = told_read db.graph.names (binds statement) in (
-        told_unbuilt statement,
-        λ built. (
-          told_either (told_unbound db statement) read.0,
-          λ known. told_append (Cause db statement) bound_order local_order (read.1 (λ h. known (inr h)))
-              (λ bound. (
-                told_made HasDouble told_double (makes statement),
-                λ single. (told_made HasUndefined told_undefined (makes statement), λ defined. tt),
-              )),
-        ),
-      )
-
-  told_order : AreTold (Cause db statement) cause_order
-  told_order = told_append (Cause db statement) text_order (row_order ++ limit_order) told_text (λ clear.
+  pub told_order : AreTold (Cause db statement) cause_order
+  told_order = told_append (Cause db statement) text_order (row_order ++ limit_order) (told_text db statement) (λ clear.
       elim (told_changing statement) [
         | inl changing ↦ (let found = some_rows db statement changing clear.1.0 clear.1.1.0 in told_behind found.0 found.1 changing clear)
-        | inr still ↦ told_still still clear
+        | inr still ↦ told_still db statement still clear
       ])
 
   -- ---- what is done where nothing refuses
@@ -391,7 +390,7 @@ some_chosen db valid mode =
     )
 
 -- changes are made
-some_changed : (db : Database) → IsValid db → (statement : StatementTree) → IsFormedStatement statement
+pub some_changed : (db : Database) → IsValid db → (statement : StatementTree) → IsFormedStatement statement
     → MakesChanges statement → IsClear (Cause db statement) cause_order
     → (reply : Reply) × (after : Database) × MakesItsChanges db statement reply after × IsValid after
 some_changed db valid statement formed changing clear =
@@ -405,63 +404,63 @@ some_changed db valid statement formed changing clear =
     (λ many. limits.1.1.1.0 (changing, (found.0, found.1, many)))
     (λ many. limits.1.1.1.1.0 (changing, (found.0, found.1, many)))
 
-some_performed : (db : Database) → IsValid db → (statement : StatementTree) → IsFormedStatement statement
-    → IsClear (Cause db statement) cause_order
+pub some_performed : (db : Database) → IsValid db → (statement : StatementTree) → IsFormedStatement statement
+    → (IsOfHistory statement → ⊥) → IsClear (Cause db statement) cause_order
     → (reply : Reply) × (after : Database) × Performs db statement reply after × IsValid after
-some_performed db valid (select query) formed clear =
+some_performed db valid (select query) formed plain clear =
     let found = some_read db (select query) clear.1.0 clear.1.1.0 query refl in
     (Rows found.0, db, (refl, (found.0, refl, found.1)), valid)
-some_performed db valid (explain query) formed clear =
+some_performed db valid (explain query) formed plain clear =
     let accepted : IsAccepted db.graph.names query = (λ unknown. clear.1.0 (inr unknown), (clear.1.1.0, (clear.1.1.1.0, (clear.1.1.1.1.0, tt)))) in
     let plan = some_plan db valid query accepted in
     (plan.0, db, (refl, plan.1), valid)
-some_performed db valid (set_plan mode) formed clear = some_chosen db valid mode
-some_performed db valid guide formed clear =
+some_performed db valid (set_plan mode) formed plain clear = some_chosen db valid mode
+some_performed db valid guide formed plain clear =
     let lines = lines_exist db.graph.names db.graph.edges db.labels valid.restorable.rooted.well_formed.ordered.names_ascend valid.restorable.labelled in
     (Lines lines.0, db, (refl, (lines.0, refl, lines.1)), valid)
-some_performed db valid (set_nodes nodes) formed clear =
+some_performed db valid (set_nodes nodes) formed plain clear =
     let within = clear_right (Cause db (set_nodes nodes)) (fit_order ++ sizes) late clear in
     some_limited db valid nodes (some_limit db nodes within.0)
-some_performed db valid (load name literal) formed clear = some_changed db valid (load name literal) formed tt clear
-some_performed db valid (bind name path) formed clear = some_changed db valid (bind name path) formed tt clear
-some_performed db valid (unname name) formed clear = some_changed db valid (unname name) formed tt clear
-some_performed db valid (assign target value tail) formed clear =
+some_performed db valid (load name literal) formed plain clear = some_changed db valid (load name literal) formed tt clear
+some_performed db valid (bind name path) formed plain clear = some_changed db valid (bind name path) formed tt clear
+some_performed db valid (unname name) formed plain clear = some_changed db valid (unname name) formed tt clear
+some_performed db valid (assign target value tail) formed plain clear =
     some_changed db valid (assign target value tail) formed tt clear
-some_performed db valid (add_new target label literal tail) formed clear =
+some_performed db valid (add_new target label literal tail) formed plain clear =
     some_changed db valid (add_new target label literal tail) formed tt clear
-some_performed db valid (add_link target label right tail) formed clear =
+some_performed db valid (add_link target label right tail) formed plain clear =
     some_changed db valid (add_link target label right tail) formed tt clear
-some_performed db valid (remove target label right tail) formed clear =
+some_performed db valid (remove target label right tail) formed plain clear =
     some_changed db valid (remove target label right tail) formed tt clear
-some_performed db valid (generate seed count) formed clear =
+some_performed db valid (generate seed count) formed plain clear =
     some_changed db valid (generate seed count) formed (in_range db seed count (clear_right (Cause db (generate seed count)) (fit_order ++ sizes) late clear).0) clear
-some_performed db valid (browse start labels) formed clear =
+some_performed db valid (browse start labels) formed plain clear =
     let lines = browsing_exists db.graph.names db.graph.edges db.labels start labels valid.restorable.rooted.well_formed.ordered.names_ascend valid.restorable.labelled in
     (Lines lines.0, db, (refl, (lines.0, refl, lines.1)), valid)
-some_performed db valid (sample start labels count) formed clear =
+some_performed db valid (sample start labels count) formed plain clear =
     let within = clear_right (Cause db (sample start labels count)) (fit_order ++ sizes) late clear in
     let size = between_not 1 SAMPLE count within.0 in
     let lines = sample_exists db.graph.names db.graph.objects db.graph.edges db.labels start labels size.0 valid.restorable.rooted.well_formed.ordered.names_ascend in
     (Lines lines.0, db, (refl, (size.0, size.1, lines.0, refl, lines.1)), valid)
-some_performed db valid dump formed clear = (Dump (printed_dump db), db, (refl, refl), valid)
-some_performed db valid (restore text) formed clear =
+some_performed db valid dump formed plain clear = (Dump (printed_dump db), db, (refl, refl), valid)
+some_performed db valid (restore text) formed plain clear =
     let dumped = clear_right (Cause db (restore text)) (fit_order ++ sizes) late clear in
     some_restored text dumped.1.1.0
-some_performed db valid (history on) formed clear = absurd (clear.0 tt)
-some_performed db valid (select_at moment query) formed clear = absurd (clear.0 tt)
-some_performed db valid (t.changes first last) formed clear = absurd (clear.0 tt)
-some_performed db valid blocks formed clear = absurd (clear.0 tt)
-some_performed db valid (blocks_of query) formed clear = absurd (clear.0 tt)
-some_performed db valid (watch name query) formed clear = absurd (clear.0 tt)
-some_performed db valid (unwatch name) formed clear = absurd (clear.0 tt)
-some_performed db valid (show name) formed clear = absurd (clear.0 tt)
+some_performed db valid (history on) formed plain clear = absurd (plain tt)
+some_performed db valid (select_at moment query) formed plain clear = absurd (plain tt)
+some_performed db valid (t.changes first last) formed plain clear = absurd (plain tt)
+some_performed db valid blocks formed plain clear = absurd (clear.0 tt)
+some_performed db valid (blocks_of query) formed plain clear = absurd (clear.0 tt)
+some_performed db valid (watch name query) formed plain clear = absurd (clear.0 tt)
+some_performed db valid (unwatch name) formed plain clear = absurd (clear.0 tt)
+some_performed db valid (show name) formed plain clear = absurd (clear.0 tt)
 
 pub executes_always : ExecutesAlways
-executes_always db statement valid sound =
+executes_always db statement valid sound plain =
     let formed = sound_statement statement sound in
     elim (some_verdict (Cause db statement) cause_order (told_order db valid statement formed)) [
       | inl clear ↦ (
-          let done = some_performed db valid statement formed clear in
+          let done = some_performed db valid statement formed plain clear in
           record { reply = done.0; after = done.1; executed = inl (clear, done.2); valid = done.3 })
       | inr first ↦ record {
         reply = Refused first.0;
@@ -470,9 +469,3 @@ executes_always db statement valid sound =
         valid = valid;
       }
     ]
-
-pub some_execution : (before : Database) (statement : StatementTree) → IsValid before → IsSound statement
-    → (reply : Reply) × (after : Database) × Executes before statement reply after × IsValid after
-some_execution before statement valid sound =
-    let some = executes_always before statement valid sound in
-    (some.reply, some.after, some.executed, some.valid)

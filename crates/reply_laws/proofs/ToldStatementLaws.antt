@@ -14,11 +14,11 @@ use Rattle.lorel_trees.specs.Trees as t
 use Rattle.dump_text.specs.Restores.{IsDumpOf}
 use Rattle.dump_text.proofs.ToldLaws.{dump_or_bad}
 use Rattle.lore_store.specs.Stores.{IsLimit}
-use Rattle.lore_db.specs.Types.{NODES, START_NODES}
-use Rattle.reply_laws.specs.Types.{Reply, Changed}
-use Rattle.lore_db.specs.Statements.{IsNoDump, IsNoLimit, Restores}
-use Rattle.lore_db.proofs.DumpStatementLaws.{crowded_no_dump}
-use Rattle.lore_db.proofs.RangeLaws.{no_count}
+use Rattle.statements.specs.Types.{NODES, START_NODES}
+use Rattle.lore_db.specs.Types.{Reply, Changed}
+use Rattle.statements.specs.Statements.{IsNoDump, IsNoLimit, Restores}
+use Rattle.statements.proofs.DumpStatementLaws.{crowded_no_dump}
+use Rattle.statements.proofs.RangeLaws.{no_count}
 
 -- ---- texts
 -- a text is the dump of a valid database, or of none

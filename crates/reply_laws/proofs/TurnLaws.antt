@@ -2,7 +2,7 @@
 use Rattle.std.proofs.Common.{◌⊎◌, inl, inr, List, [], ◌∷◌, ◌++◌, refl}
 use Rattle.lore_base.specs.Verdicts.{IsFirst, IsClear}
 use Rattle.lore_base.proofs.ToldLaws.{IsTold}
-use Rattle.lore_db.specs.Types.{Refusal}
+use Rattle.statements.specs.Types.{Refusal}
 
 module _ (Applies : Refusal → Type 0) where
   -- it is told of each whether it applies, where none before it does

@@ -1,7 +1,6 @@
--- From each valid database each list of parts has a run.
+-- From each state that can stand each list of parts has a run.
 use Rattle.std.proofs.Common.{◌≡◌, ℕ, ◌+◌, ◌⊎◌, inl, inr, List, [], ◌∷◌, ◌++◌, map, Some, Result, Ok, Err, refl}
 use Rattle.std.proofs.lemmas.List.Elements.{All-map}
-use Rattle.lore_base.specs.Databases.{Database, IsValid}
 use Rattle.lorel_tokens.specs.declared.token_types.Kind.{Kind}
 use Rattle.lorel_tokens.specs.declared.token_types.Token.{Token}
 use Rattle.lorel_lex.specs.declared.faults.LexFault.{LexFault}
@@ -15,14 +14,11 @@ use Rattle.lore_run.specs.Types.{Refusal, BadToken, RealRefused, NumberRange, Te
 use Rattle.lorel_trees.specs.Trees.{StatementTree}
 use Rattle.lorel_trees.specs.Sound.{IsSound}
 use Rattle.lorel_trees.specs.Tokens.{HasTokens}
-use Rattle.lore_db.specs.Statements.{Executes}
-use Rattle.lore_run.specs.Replies.{rendered}
+use Rattle.lore_db.specs.States.{State, Performs}
+use Rattle.reply_laws.specs.Laws.{CanStand, PerformsAlways}
+use Rattle.lore_run.specs.Replies.{reply_text}
 use Rattle.lore_run.specs.Runs.{ScriptPart, chunk, rest, Yields, refusals}
 use Rattle.run_laws.specs.Laws.{HasSomeRun}
-
-abbrev pub SomeExecution : Type 0
-SomeExecution = (before : Database) (statement : StatementTree) → IsValid before → IsSound statement
-    → (reply : Reply) × (after : Database) × Executes before statement reply after × IsValid after
 
 abbrev pub SomeStatement : Type 0
 SomeStatement = (kinds : List Kind) → ((statement : StatementTree) × HasTokens statement kinds) ⊎ ((statement : StatementTree) → HasTokens statement kinds → ⊥)
@@ -42,40 +38,41 @@ some_refusal text lex.TextTooLong has = (TextTooLong, refl)
 some_refusal text lex.NoMemory (inl bad) = absurd (cc (bad.0))
 some_refusal text lex.NoMemory (inr (utf8, tokens, behind)) = absurd (not_memory 0 text tokens behind)
 
-abbrev pub HasYield : Database → ScriptPart → Type 0
-HasYield before part = (reply : Reply) × (after : Database) × Yields before part reply after × IsValid after
+abbrev pub HasYield : State → ScriptPart → Type 0
+HasYield before part = (reply : Reply) × (after : State) × Yields before part reply after × CanStand after
 
-yield_statement : SomeExecution → (before : Database) (text : List ℕ) (tokens : List Token) → IsValid before → AreTokens text tokens
+yield_statement : PerformsAlways → (before : State) (text : List ℕ) (tokens : List Token) → CanStand before → AreTokens text tokens
     → ((statement : StatementTree) × HasTokens statement (map (λ token. token.kind) tokens)) ⊎ ((statement : StatementTree) → HasTokens statement (map (λ token. token.kind) tokens) → ⊥)
     → HasYield before (chunk text)
-yield_statement executions before text tokens valid lexed (inl (statement, parsed)) =
+yield_statement performances before text tokens stands lexed (inl (statement, parsed)) =
     let forms = All-map HasForm (λ (token : Token). token.kind) tokens (formed text tokens lexed) in
     let sound : IsSound statement = record { kinds = map (λ token. token.kind) tokens; spelled = parsed; formed = forms } in
-    let (reply, after, executed, valid_after) = executions before statement valid sound in
-    (reply, after, inr (inr (record { tokens = tokens; lexed = lexed; statement = statement; parsed = parsed; executed = executed })), valid_after)
-yield_statement executions before text tokens valid lexed (inr none) =
-    (Refused Syntax, before, inr (inl (record { tokens = tokens; lexed = lexed; none = none; refused = refl; same = refl })), valid)
+    let some = performances before statement stands sound in
+    (some.reply, some.after, inr (inr (record { tokens = tokens; lexed = lexed; statement = statement; parsed = parsed; executed = some.performed })), some.stands)
+yield_statement performances before text tokens stands lexed (inr none) =
+    (Refused Syntax, before, inr (inl (record { tokens = tokens; lexed = lexed; none = none; refused = refl; same = refl })), stands)
 
-yield_outcome : SomeStatement → SomeExecution → (before : Database) (text : List ℕ) (outcome : Result (List Token) LexFault) → IsValid before → IsOutcome text outcome
+yield_outcome : SomeStatement → PerformsAlways → (before : State) (text : List ℕ) (outcome : Result (List Token) LexFault) → CanStand before → IsOutcome text outcome
     → HasYield before (chunk text)
-yield_outcome statements executions before text (Ok tokens) valid lexed =
-    yield_statement executions before text tokens valid lexed (statements (map (λ token. token.kind) tokens))
-yield_outcome statements executions before text (Err fault) valid broken =
+yield_outcome statements performances before text (Ok tokens) stands lexed =
+    yield_statement performances before text tokens stands lexed (statements (map (λ token. token.kind) tokens))
+yield_outcome statements performances before text (Err fault) stands broken =
     let (refusal, named) = some_refusal text fault broken in
-    (Refused refusal, before, inl (record { fault = fault; broken = broken; refusal = refusal; named = named; refused = refl; same = refl }), valid)
+    (Refused refusal, before, inl (record { fault = fault; broken = broken; refusal = refusal; named = named; refused = refl; same = refl }), stands)
 
-some_yield : SomeStatement → SomeExecution → (before : Database) (part : ScriptPart) → IsValid before → HasYield before part
-some_yield statements executions before (chunk text) valid =
-    let (outcome, is) = some_outcome text in yield_outcome statements executions before text outcome valid is
-some_yield statements executions before rest valid = (Refused Unfinished, before, (refl, refl), valid)
+some_yield : SomeStatement → PerformsAlways → (before : State) (part : ScriptPart) → CanStand before → HasYield before part
+some_yield statements performances before (chunk text) stands =
+    let (outcome, is) = some_outcome text in yield_outcome statements performances before text outcome stands is
+some_yield statements performances before rest stands = (Refused Unfinished, before, (refl, refl), stands)
 
-pub some_run : SomeStatement → SomeExecution → HasSomeRun
-some_run statements executions before [] valid = ([], 0, before, (refl, refl, refl))
-some_run statements executions before (part ∷ parts) valid =
-    let (reply, middle, yielded, valid_middle) = some_yield statements executions before part valid in
-    let (bytes, refused, after, ran) = some_run statements executions middle parts valid_middle in (
-      rendered middle.labels middle.graph.objects reply ++ bytes,
+pub some_run : SomeStatement → PerformsAlways → HasSomeRun
+some_run statements performances before [] stands = ([], 0, before, (refl, refl, refl), stands)
+some_run statements performances before (part ∷ parts) stands =
+    let (reply, middle, yielded, stands_middle) = some_yield statements performances before part stands in
+    let (bytes, refused, after, ran, stands_after) = some_run statements performances middle parts stands_middle in (
+      reply_text middle reply ++ bytes,
       refusals reply + refused,
       after,
       (reply, middle, bytes, refused, yielded, ran, refl, refl),
+      stands_after,
     )

@@ -12,12 +12,12 @@ pub fn some_reading()
     ensures { HasSomeReading }
 {}
 
-/// Parts have one run: it prints the same bytes, refuses as many and leaves the same database.
+/// Parts have one run: it prints the same bytes, refuses as many and leaves the same state.
 pub fn one_run()
     ensures { HasOneRun }
 {}
 
-/// From each valid database parts have a run.
+/// From each state that can stand parts have a run, to such a state.
 pub fn some_run()
     ensures { HasSomeRun }
 {}

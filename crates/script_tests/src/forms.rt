@@ -6,7 +6,7 @@ use std::test::Fail;
 
 // A script that has each form of statement once and one that is refused, in chunks up to their
 // `;`, each with its reply.
-const FORMS: [(&[u8], &[u8]); 19] = [
+const FORMS: [(&[u8], &[u8]); 23] = [
     (
         b"restore oem 2 next 1 nodes 4096 plan auto end;",
         b"ok objects 0 edges 0 nodes 0\n",
@@ -35,7 +35,11 @@ const FORMS: [(&[u8], &[u8]); 19] = [
     (b"menu;", b"refused 5 Syntax\n"),
     (b"set nodes 1000;", b"ok objects 6 edges 5 nodes 6\n"),
     (b"set plan top;", b"ok objects 6 edges 5 nodes 6\n"),
+    (b"history on;", b"ok objects 6 edges 5 nodes 6\n"),
     (b"unname B;", b"ok objects 6 edges 5 nodes 6\n"),
+    (b"at 0 select B.d.e;", b"&6 true\nrows 1\n"),
+    (b"changes 0 1;", b"- name B &3\nchanges 1\n"),
+    (b"history off;", b"ok objects 6 edges 5 nodes 6\n"),
     (b"dump;", DUMPED),
     (b"generate 1 20;", b"ok objects 197 edges 245 nodes 140\n"),
 ];

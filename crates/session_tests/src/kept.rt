@@ -1,7 +1,7 @@
 ghost use Rattle.std.specs.Prelude.{◌≡◌, ◌<◌, ◌≤◌};
 
 use lore_base::limits::CHUNK_BYTES;
-use lore_base::{NoMemory, Steps};
+use lore_base::{NoMemory, OemText, Oid, Steps, Value};
 use lore_db::{Db, Reply};
 use lorel_lex::tokens;
 use lorel_parse::parse;
@@ -11,8 +11,8 @@ use std::sync::ledger::{Blank, Ledger};
 use std::test::Fail;
 
 // Statements that are all accepted, of each form that changes a database, with a ring in it, and
-// some that ask.
-const STATEMENTS: [&[u8]; 16] = [
+// some that ask. A history is kept of the last changes.
+const STATEMENTS: [&[u8]; 21] = [
     b"restore oem 2 next 1 nodes 4096 plan auto end",
     b"load A := &1 { b 1, c &2 { back &1, b \"x\" }, c { b 2 } }",
     b"name B := A.c.back",
@@ -29,11 +29,20 @@ const STATEMENTS: [&[u8]; 16] = [
     b"set nodes 1000",
     b"unname People",
     b"set plan top",
+    b"history on",
+    b"update A.b := 4",
+    b"update A.g += \"new\"",
+    b"at 1 select A.b, A.c.f",
+    b"changes 0 2",
 ];
 
-// The dump behind them: both members of `A` have a copy with a ring, and all persons vanished.
+// What differs between the first moment of a history and the last one, where it has so many more.
+const CHANGES: [&[u8]; 3] = [b"changes 0 0", b"changes 0 1", b"changes 0 2"];
+
+// The dump behind them: both members of `A` have a copy with a ring, and all persons vanished. Behind
+// it stands what the history tells.
 const DUMPED: &[u8] = b"oem 2
-next 202
+next 203
 nodes 1000
 plan top
 label b
@@ -52,10 +61,11 @@ label member
 label leader
 label ring
 label next
+label g
 name A &1
 name B &1
 object &1 {}
-object &2 3
+object &2 4
 object &3 {}
 object &4 {}
 object &5 {}
@@ -64,9 +74,11 @@ object &7 {}
 object &8 true
 object &9 {}
 object &10 true
+object &202 \"new\"
 edge &1 b &2
 edge &1 c &3
 edge &1 c &5
+edge &1 g &202
 edge &3 b &4
 edge &3 back &1
 edge &3 d &7
@@ -77,9 +89,22 @@ edge &7 e &8
 edge &9 back &9
 edge &9 e &10
 end
+- object &2 3
++ object &2 4
++ object &202 \"new\"
++ edge &1 g &202
+changes 4
 ";
 
 // A drop that is written out is proved once; else it is proved in each function, at length.
+
+fn put_lines(lines: &[OemText], dump: &mut Vec<u8>) -> Result<(), NoMemory> {
+    for line in lines {
+        dump.extend_from_slice(line.as_bytes())?;
+        dump.push(b'\n')?;
+    }
+    Ok(())
+}
 
 fn put_dump(reply: &Reply, dump: &mut Vec<u8>) -> Result<(), NoMemory> {
     match reply {
@@ -87,6 +112,7 @@ fn put_dump(reply: &Reply, dump: &mut Vec<u8>) -> Result<(), NoMemory> {
             dump.extend_from_slice(lines.as_bytes())?;
             Ok(())
         }
+        Reply::Lines(lines) => put_lines(lines.as_slice(), dump),
         Reply::Refused(_) => Err(NoMemory),
         _ => Ok(()),
     }
@@ -101,7 +127,7 @@ fn note(executed: Result<Reply, NoMemory>, dump: &mut Vec<u8>) -> Result<(), NoM
     noted
 }
 
-// Executes a statement, and puts the lines of a dump. A text that is none counts as want of memory,
+// Executes a statement, and puts the lines that it answers. A text that is none counts as want of memory,
 // and so does a refusal, since all that is executed here is accepted.
 fn execute<L: Ledger>(
     alloc: Global,
@@ -113,10 +139,11 @@ fn execute<L: Ledger>(
     if text.len() > CHUNK_BYTES {
         return Err(NoMemory);
     }
-    let parsed = match tokens(alloc, text) {
-        Ok(tokens) => parse(alloc, &tokens),
-        Err(_) => return Err(NoMemory),
+    let Ok(tokens) = tokens(alloc, text) else {
+        return Err(NoMemory);
     };
+    let parsed = parse(alloc, &tokens);
+    drop(tokens);
     match parsed {
         Ok(statement) => {
             let executed = db.execute(alloc, &statement, steps);
@@ -132,6 +159,14 @@ fn is_accepted<L: Ledger>(alloc: Global, text: &[u8], db: &mut Db, steps: &mut S
     execute(alloc, text, db, steps, &mut none).is_ok()
 }
 
+// The statement that tells what the history that is kept has.
+fn telling(db: &Db) -> Option<&'static [u8]> {
+    match db.history() {
+        Some(history) => CHANGES.get(history.last() as usize).copied(),
+        None => None,
+    }
+}
+
 fn dumped_once<L: Ledger>(
     alloc: Global,
     db: &mut Db,
@@ -139,10 +174,14 @@ fn dumped_once<L: Ledger>(
 ) -> Result<Vec<u8>, NoMemory> {
     let mut dump = Vec::new(alloc);
     execute(alloc, b"dump", db, steps, &mut dump)?;
+    if let Some(text) = telling(db) {
+        execute(alloc, text, db, steps, &mut dump)?;
+    }
     Ok(dump)
 }
 
-// The dump of the database, in a second try where memory was refused in the first.
+// The dump of the database and what its history tells, in a second try where memory was refused in the
+// first.
 fn dumped<L: Ledger>(
     alloc: Global,
     db: &mut Db,
@@ -184,18 +223,40 @@ fn database(alloc: Global) -> Result<Db, NoMemory> {
     }
 }
 
+// Whether the value that was changed is told of each moment, and nothing of what wasn't there.
+fn tells_values(db: &Db) -> bool {
+    matches!(db.past_value(0, Oid(2)), Some(Value::Whole(3)))
+        && matches!(db.past_value(1, Oid(2)), Some(Value::Whole(4)))
+        && db.past_value(1, Oid(202)).is_none()
+        && db.past_value(2, Oid(202)).is_some()
+        && db.past_value(3, Oid(2)).is_none()
+}
+
 // Executes all statements, and gives the dump behind them.
+fn all_executed<L: Ledger>(
+    alloc: Global,
+    db: &mut Db,
+    steps: &mut Steps<L>,
+) -> Result<Vec<u8>, Fail> {
+    for text in STATEMENTS {
+        executed(alloc, text, db, steps)?;
+    }
+    if !tells_values(db) {
+        return Err(Fail::new("the history tells other values"));
+    }
+    Ok(dumped(alloc, db, steps)?)
+}
+
+// The same in a new database.
 fn dump_behind<L: Ledger>(alloc: Global, blank: Blank) -> Result<Vec<u8>, Fail>
     requires name { blank.name ≡ L.name }
     requires parts { blank.parts ≡ L.parts }
     requires some { 0 < blank.parts }
 {
-    let mut steps = Steps::<L>::new(blank);
     let mut db = database(alloc)?;
-    for text in STATEMENTS {
-        executed(alloc, text, &mut db, &mut steps)?;
-    }
-    Ok(dumped(alloc, &mut db, &mut steps)?)
+    let dump = all_executed(alloc, &mut db, &mut Steps::<L>::new(blank));
+    drop(db);
+    dump
 }
 
 // It passes also where any one allocation is refused, which `bench/faults session` does.

@@ -1,10 +1,8 @@
-//! Tests of automata of paths, and of searches along paths and against them on a graph with rings.
+//! Tests of searches along paths and against them, and of least words, on small graphs with rings.
 //!
-//! Values are from outside the program.
+//! Values are from outside the program. Whole scripts test what each form of path spells.
 #![tactic(auto)]
 
-#[cfg(test)]
-mod automata;
 #[cfg(test)]
 mod shapes;
 #[cfg(test)]

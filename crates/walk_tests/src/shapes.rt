@@ -9,53 +9,25 @@ use path_expr::Automaton;
 use std::alloc::Global;
 use std::test::Fail;
 
-// Takes the last path of the list.
-fn last(paths: &mut PathList) -> Result<Path, Fail> {
-    match paths.pop() {
-        Some(path) => Ok(path),
-        None => Err(Fail::new("a path lacks a part")),
-    }
+fn plain(alloc: Global, letter: u8) -> Result<Path, NoMemory> {
+    Ok(Path::Step(Pattern::Plain(OemText::from_bytes(alloc, &[letter])?)))
 }
 
-// Takes the last two paths of the list.
-fn last_two(alloc: Global, paths: &mut PathList) -> Result<PathList, Fail> {
-    let second = last(paths)?;
-    let mut parts = PathList::new(alloc);
-    parts.push(last(paths)?)?;
-    parts.push(second)?;
-    Ok(parts)
-}
-
-// A leaf, or a path of no part.
-fn leaf(alloc: Global, sign: u8) -> Result<Path, NoMemory> {
+// The path that a sign stands for: `n` and `v` are labels, and `N` is any number of `n`.
+fn part(alloc: Global, sign: u8) -> Result<Path, NoMemory> {
     match sign {
         b'#' => Ok(Path::Any),
-        b'0' => Ok(Path::Seq(PathList::new(alloc))),
-        b'1' => Ok(Path::Alt(PathList::new(alloc))),
         b'%' => Ok(Path::Step(Pattern::Wild(OemText::from_bytes(alloc, b"%")?))),
-        letter => Ok(Path::Step(Pattern::Plain(OemText::from_bytes(alloc, &[letter])?))),
+        b'N' => Ok(Path::Star(Box::new(alloc, plain(alloc, b'n')?)?)),
+        letter => plain(alloc, letter),
     }
 }
 
-// The path that a sign stands for, made of the last paths of the list where it takes some.
-fn made(alloc: Global, sign: u8, paths: &mut PathList) -> Result<Path, Fail> {
-    match sign {
-        b'?' => Ok(Path::Opt(Box::new(alloc, last(paths)?)?)),
-        b'*' => Ok(Path::Star(Box::new(alloc, last(paths)?)?)),
-        b'+' => Ok(Path::Plus(Box::new(alloc, last(paths)?)?)),
-        b'.' => Ok(Path::Seq(last_two(alloc, paths)?)),
-        b'|' => Ok(Path::Alt(last_two(alloc, paths)?)),
-        sign => Ok(leaf(alloc, sign)?),
-    }
-}
-
-// The paths of a text in which each sign stands behind its parts: `nv|*` is any number of `n` and
-// `v`, and `n?v.` an `n` or none, then a `v`.
-pub(crate) fn paths_of(alloc: Global, text: &[u8]) -> Result<PathList, Fail> {
+// The paths that the signs of a text stand for.
+pub(crate) fn paths_of(alloc: Global, text: &[u8]) -> Result<PathList, NoMemory> {
     let mut paths = PathList::new(alloc);
     for sign in text {
-        let path = made(alloc, *sign, &mut paths)?;
-        paths.push(path)?;
+        paths.push(part(alloc, *sign)?)?;
     }
     Ok(paths)
 }
@@ -90,7 +62,7 @@ impl LabelTest for LabelTexts {
 }
 
 // The table of the labels `n` and `v`.
-pub(crate) fn two_labels(alloc: Global) -> Result<LabelTexts, NoMemory> {
+fn two_labels(alloc: Global) -> Result<LabelTexts, NoMemory> {
     let mut texts = TextList::new(alloc);
     for letter in [b'n', b'v'] {
         texts.push(OemText::from_bytes(alloc, &[letter])?)?;
@@ -111,10 +83,24 @@ pub(crate) fn edges_of(alloc: Global, numbers: &[[u32; 3]]) -> Result<EdgeBuf, N
     Ok(edges)
 }
 
-pub(crate) fn graph_of(edges: EdgeBuf) -> NaiveEdges {
-    let mut edges = edges;
+fn graph_of(alloc: Global, numbers: &[[u32; 3]]) -> Result<NaiveEdges, NoMemory> {
+    let mut edges = edges_of(alloc, numbers)?;
     edges.sort_set();
-    NaiveEdges::new(edges)
+    Ok(NaiveEdges::new(edges))
+}
+
+// A graph with the texts of its labels. It is made once and lent, since a value that is let go is
+// proved to be, in each place where it may be.
+#[derive(Drop)]
+pub(crate) struct Labelled {
+    pub(crate) graph: NaiveEdges,
+    pub(crate) labels: LabelTexts,
+}
+
+pub(crate) fn labelled_graph(alloc: Global, numbers: &[[u32; 3]]) -> Result<Labelled, NoMemory> {
+    let graph = graph_of(alloc, numbers)?;
+    let labels = two_labels(alloc)?;
+    Ok(Labelled { graph, labels })
 }
 
 // 1 and 2 are a ring by `n`; 2 and 4 share 3 by `v`, and 4 leads to 1 and 3 by `n`.

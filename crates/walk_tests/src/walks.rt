@@ -1,6 +1,6 @@
 ghost use Rattle.std.specs.Prelude.{◌≡◌, ◌<◌};
 
-use crate::shapes::{RING, automaton_of, edges_of, graph_of, paths_of, two_labels};
+use crate::shapes::{Labelled, RING, automaton_of, edges_of, labelled_graph, paths_of};
 use crate::words::check_words;
 use index_traits::Paths;
 use lore_base::{NoMemory, Oid, OidBuf, Path, Steps, leaf_count};
@@ -10,11 +10,10 @@ use std::marker::Brand;
 use std::sync::ledger::{Blank, Ledger};
 use std::test::Fail;
 
-// The objects whose numbers are the digits of a text.
-fn oids_of(alloc: Global, digits: &str) -> Result<OidBuf, NoMemory> {
+fn oids_of(alloc: Global, numbers: &[u32]) -> Result<OidBuf, NoMemory> {
     let mut oids = OidBuf::new(alloc);
-    for digit in digits.as_bytes() {
-        oids.push(Oid(u32::from(digit.saturating_sub(b'0'))))?;
+    for number in numbers {
+        oids.push(Oid(*number))?;
     }
     Ok(oids)
 }
@@ -31,20 +30,19 @@ fn digits(oids: &OidBuf) -> u64 {
 // The objects that the path leads to from the object, behind one that was there.
 fn reached<L: Ledger>(
     alloc: Global,
+    over: &Labelled,
     from: u32,
     path: &str,
     steps: &mut Steps<L>,
 ) -> Result<u64, Fail> {
-    let graph = graph_of(edges_of(alloc, &RING)?);
     let automaton = automaton_of(alloc, path.as_bytes())?;
-    let labels = two_labels(alloc)?;
-    let mut found = oids_of(alloc, "7")?;
+    let mut found = oids_of(alloc, &[7])?;
     forward(
         alloc,
-        &graph,
+        &over.graph,
         Oid(from),
         &automaton,
-        &labels,
+        &over.labels,
         &mut found,
         steps,
     )?;
@@ -52,83 +50,86 @@ fn reached<L: Ledger>(
 }
 
 // The same by going over the plain list.
-fn selected(alloc: Global, from: u32, path: &str) -> Result<u64, Fail> {
+fn selected(alloc: Global, over: &Labelled, from: u32, path: &str) -> Result<u64, Fail> {
     let mut edges = edges_of(alloc, &RING)?;
     edges.sort_set();
-    let labels = two_labels(alloc)?;
-    let mut found = oids_of(alloc, "7")?;
+    let mut found = oids_of(alloc, &[7])?;
     let paths = paths_of(alloc, path.as_bytes())?;
     if leaf_count(&paths) > 64 {
         return Err(Fail::new("the path has too many leaves"));
     }
     let path = Path::Seq(paths);
-    NaivePaths::new(&edges, &labels).select(alloc, &path, Oid(from), &mut found)?;
+    NaivePaths::new(&edges, &over.labels).select(alloc, &path, Oid(from), &mut found)?;
     Ok(digits(&found))
 }
 
 // The objects from which the path leads to one of these, behind one that was there.
 fn reaching<L: Ledger>(
     alloc: Global,
-    to: &str,
+    over: &Labelled,
+    to: &[u32],
     path: &str,
     steps: &mut Steps<L>,
 ) -> Result<u64, Fail> {
-    let graph = graph_of(edges_of(alloc, &RING)?);
+    let (graph, labels) = (&over.graph, &over.labels);
     let to = oids_of(alloc, to)?;
     let automaton = automaton_of(alloc, path.as_bytes())?;
-    let labels = two_labels(alloc)?;
-    let mut found = oids_of(alloc, "7")?;
-    backward(alloc, &graph, &to, &automaton, &labels, &mut found, steps)?;
+    let mut found = oids_of(alloc, &[7])?;
+    backward(alloc, graph, &to, &automaton, labels, &mut found, steps)?;
     Ok(digits(&found))
 }
 
 // An object, a path, and the objects that it leads to from there.
-const REACHED: [(u32, &str, u64); 15] = [
+const REACHED: [(u32, &str, u64); 13] = [
     (1, "", 71),
     (1, "#v", 73),
-    (1, "n*", 712),
-    (1, "n+", 712),
-    (1, "nv|?", 712),
-    (2, "nv|?", 7123),
+    (1, "N", 712),
+    (1, "nN", 712),
     (2, "%", 713),
     (3, "#v", 7),
-    (3, "n*", 73),
+    (3, "N", 73),
     (4, "n", 713),
     (4, "nv", 7),
     (4, "nnv", 73),
     (9, "", 79),
     (9, "n", 7),
-    (9, "nv|?", 79),
+    (9, "N", 79),
 ];
 
 // Objects, a path, and the objects from which it leads to one of them.
-const REACHING: [(&str, &str, u64); 11] = [
-    ("3", "#v", 7124),
-    ("3", "nnv", 724),
-    ("1", "n*", 7124),
-    ("2", "nv|?", 712),
-    ("3", "nv|?", 7234),
-    ("13", "v", 724),
-    ("313", "n+", 7124),
-    ("31", "", 713),
-    ("32", "%", 7124),
-    ("", "#", 7),
-    ("9", "n*", 79),
+const REACHING: [(&[u32], &str, u64); 9] = [
+    (&[3], "#v", 7124),
+    (&[3], "nnv", 724),
+    (&[1], "N", 7124),
+    (&[1, 3], "v", 724),
+    (&[3, 1, 3], "nN", 7124),
+    (&[3, 1], "", 713),
+    (&[3, 2], "%", 7124),
+    (&[], "#", 7),
+    (&[9], "N", 79),
 ];
 
-fn check_forward<L: Ledger>(alloc: Global, steps: &mut Steps<L>) -> Result<(), Fail> {
+fn check_forward<L: Ledger>(
+    alloc: Global,
+    over: &Labelled,
+    steps: &mut Steps<L>,
+) -> Result<(), Fail> {
     for (from, path, wanted) in REACHED {
-        let found = reached(alloc, from, path, steps)?;
-        if found != wanted || selected(alloc, from, path)? != wanted {
+        let found = reached(alloc, over, from, path, steps)?;
+        if found != wanted || selected(alloc, over, from, path)? != wanted {
             return Err(Fail::new(path));
         }
     }
     Ok(())
 }
 
-fn check_backward<L: Ledger>(alloc: Global, steps: &mut Steps<L>) -> Result<(), Fail> {
+fn check_backward<L: Ledger>(
+    alloc: Global,
+    over: &Labelled,
+    steps: &mut Steps<L>,
+) -> Result<(), Fail> {
     for (to, path, wanted) in REACHING {
-        if reaching(alloc, to, path, steps)? != wanted {
+        if reaching(alloc, over, to, path, steps)? != wanted {
             return Err(Fail::new(path));
         }
     }
@@ -141,10 +142,11 @@ fn check_all<L: Ledger>(alloc: Global, blank: Blank) -> Result<(), Fail>
     requires parts { blank.parts ≡ L.parts }
     requires some { 0 < blank.parts }
 {
+    let over = labelled_graph(alloc, &RING)?;
     let mut steps = Steps::<L>::new(blank);
-    check_forward(alloc, &mut steps)?;
-    check_backward(alloc, &mut steps)?;
-    check_words(alloc, &mut steps)
+    check_forward(alloc, &over, &mut steps)?;
+    check_backward(alloc, &over, &mut steps)?;
+    check_words(alloc, &over, &mut steps)
 }
 
 #[test]

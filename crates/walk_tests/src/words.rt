@@ -1,62 +1,53 @@
-use crate::shapes::{RING, automaton_of, edges_of, graph_of, two_labels};
+use crate::shapes::{Labelled, automaton_of, labelled_graph};
 use least_words::least_word;
-use lore_base::{Oid, Steps, Word};
+use lore_base::{Label, Oid, Steps};
 use std::alloc::Global;
 use std::sync::ledger::Ledger;
 use std::test::Fail;
 
-// The numbers of the labels as digits behind a 1, or 0 where there is no word.
-fn digits(word: Option<Word>) -> u64 {
-    let Some(word) = word else {
-        return 0;
-    };
+// The numbers of the labels as digits behind a 1.
+fn digits(labels: &[Label]) -> u64 {
     let mut digits = 1_u64;
-    for label in word.as_slice() {
+    for label in labels {
         digits = digits.wrapping_mul(10).wrapping_add(u64::from(label.0));
     }
     digits
 }
 
-// The least word between two objects of the graph.
+// The least word between two objects of the graph as digits behind a 1, or 0 where there is none.
 fn spelled<L: Ledger>(
     alloc: Global,
-    numbers: &[[u32; 3]],
+    over: &Labelled,
     (from, to): (u32, u32),
     path: &str,
     steps: &mut Steps<L>,
 ) -> Result<u64, Fail> {
-    let graph = graph_of(edges_of(alloc, numbers)?);
+    let (graph, labels) = (&over.graph, &over.labels);
     let automaton = automaton_of(alloc, path.as_bytes())?;
-    let labels = two_labels(alloc)?;
-    let word = least_word(
-        alloc,
-        &graph,
-        Oid(from),
-        Oid(to),
-        &automaton,
-        &labels,
-        steps,
-    )?;
-    Ok(digits(word))
+    let word = least_word(alloc, graph, Oid(from), Oid(to), &automaton, labels, steps)?;
+    match &word {
+        Some(word) => Ok(digits(word.as_slice())),
+        None => Ok(0),
+    }
 }
 
 // Two objects of the ring, a path and its least word between them.
 const OVER_RING: [((u32, u32), &str, u64); 15] = [
     ((1, 1), "", 1),
     ((1, 2), "", 0),
-    ((1, 1), "n*", 1),
-    ((1, 1), "n+", 100),
+    ((1, 1), "N", 1),
+    ((1, 1), "nN", 100),
     ((1, 2), "nnn", 1_000),
     // 2 is met by `n` and by `nnn`, under two states, and the later one reads `v`.
     ((1, 3), "nnnv", 10_001),
     ((1, 3), "#v", 101),
     ((4, 3), "#v", 11),
     ((4, 3), "#", 10),
-    ((2, 3), "nv|", 11),
-    ((4, 3), "nv|", 10),
+    ((2, 3), "%", 11),
+    ((4, 3), "%", 10),
     ((3, 1), "#", 0),
     ((1, 3), "nnnnnnnnnv", 10_000_000_001),
-    ((9, 9), "n*", 1),
+    ((9, 9), "N", 1),
     ((9, 1), "#", 0),
 ];
 
@@ -85,14 +76,20 @@ const OVER_TWO_WAYS: [((u32, u32), u64); 5] = [
     ((7, 6), 130_571),
 ];
 
-pub(crate) fn check_words<L: Ledger>(alloc: Global, steps: &mut Steps<L>) -> Result<(), Fail> {
+// Both tables, of which the first is over the ring.
+pub(crate) fn check_words<L: Ledger>(
+    alloc: Global,
+    ring: &Labelled,
+    steps: &mut Steps<L>,
+) -> Result<(), Fail> {
     for (ends, path, wanted) in OVER_RING {
-        if spelled(alloc, &RING, ends, path, steps)? != wanted {
+        if spelled(alloc, ring, ends, path, steps)? != wanted {
             return Err(Fail::new(path));
         }
     }
+    let over = labelled_graph(alloc, &TWO_WAYS)?;
     for (ends, wanted) in OVER_TWO_WAYS {
-        if spelled(alloc, &TWO_WAYS, ends, "#", steps)? != wanted {
+        if spelled(alloc, &over, ends, "#", steps)? != wanted {
             return Err(Fail::new("another word is the least of two ways"));
         }
     }

@@ -1,12 +1,8 @@
--- Blocks parted by marks: nodes of one block with one mark stay together.
-use Rattle.std.specs.Prelude.{◌≡◌, ◌⊎◌, ◌&&◌, ℕ, ◌+◌, ◌*◌, ◌%◌, ◌^◌, ◌<◌, ◌≤◌, Bool, cond, nat_eq, List, []}
-use Rattle.std.specs.Prelude.{◌∷◌}
-use Rattle.std.specs.Prelude.{◌++◌, length, slice_index, slice_index_or, fold, Option, None, Some, All}
+-- The marks of nodes that differ from the heads of their blocks, and the numbers given by them.
+use Rattle.std.specs.Prelude.{◌≡◌, ◌⊎◌, ◌&&◌, ℕ, ◌+◌, ◌*◌, ◌%◌, ◌^◌, ◌<◌, ◌≤◌, cond, nat_eq, List, []}
+use Rattle.std.specs.Prelude.{◌∷◌, ◌++◌, length, slice_index, slice_index_or, fold, Option, None, Some, All}
 use Rattle.std.specs.Cmp.Lexicographic.{pointwise}
-
--- the test of two pairs
-abbrev pub pair_eq : ℕ × ℕ → ℕ × ℕ → Bool
-pair_eq a b = nat_eq a.0 b.0 && nat_eq a.1 b.1
+use Rattle.block_rounds.specs.Given.{pair_eq, IsGiven}
 
 -- one step of a hash: a linear congruence (Knuth, The Art of Computer Programming, volume 2, section 3.3.4)
 abbrev pub hash_step : ℕ → ℕ → ℕ
@@ -45,22 +41,7 @@ AreMarks kinds signatures numbers heads marks =
 abbrev pub AreUnmarked : List (Option ℕ) → Type 0
 AreUnmarked marks = (node : ℕ) → node < length marks → slice_index_or marks node None ≡ None
 
--- nodes of one block with one mark are of one block afterwards
-abbrev pub StayTogether : List ℕ → List (Option ℕ) → List ℕ → Type 0
-StayTogether numbers marks next = (x y : ℕ) → x < length numbers → y < length numbers
-    → slice_index numbers x ≡ slice_index numbers y
-    → slice_index_or marks x None ≡ slice_index_or marks y None → slice_index next x ≡ slice_index next y
-
 -- New numbers, by old number and mark.
-
--- the number that a node with this number and mark gets: its own where it has no mark
-abbrev pub IsGiven : (ℕ × ℕ → Option ℕ) → ℕ → Option ℕ → ℕ → Type 0
-IsGiven fresh number None given = number ≡ given
-IsGiven fresh number (Some mark) given = fresh (number, mark) ≡ Some given
-
--- what was given stays given
-abbrev pub Keeps : (ℕ × ℕ → Option ℕ) → (ℕ × ℕ → Option ℕ) → Type 0
-Keeps old new = (key : ℕ × ℕ) (given : ℕ) → old key ≡ Some given → new key ≡ Some given
 
 -- the numbers given are of new blocks
 abbrev pub AreFresh : ℕ → ℕ → (ℕ × ℕ → Option ℕ) → Type 0

@@ -1,16 +1,14 @@
 -- Runs as they are kept: those that go on have an end that no moment reaches.
+pub use Rattle.doem_facts.specs.Facts.{Ascends}
 use Rattle.std.specs.Prelude.{◌≡◌, ◌⊎◌, ℕ, ◌+◌, ◌<◌, ◌≤◌, min, List, [], ◌∷◌, ◌++◌, map, sum_by, AllPairs}
 use Rattle.std.specs.Prelude.{Contains, zero, suc}
 use Rattle.std.specs.List.{range_with_len}
 use Rattle.std.specs.declared.cmp.Ordering.{Ordering}
-use Rattle.std.specs.declared.cmp.Ordering.TheVariants.{Less, Equal}
+use Rattle.std.specs.declared.cmp.Ordering.TheVariants.{Equal}
 use Rattle.lore_base.specs.Walks.{edge_cmp}
 use Rattle.doem_history.specs.Types.{Run, STANDING, MOMENTS, HISTORY_WEIGHT}
 use Rattle.doem_history.specs.Facts.{name_order, object_order, object_weight}
 use Rattle.doem_history.specs.Histories.{facts_at, ordered, KeptRuns, KeptHistory}
-
-abbrev pub Ascends : {F : Type 0} → (F → F → Ordering) → List F → Type 0
-Ascends cmp facts = AllPairs (λ a b. cmp a b ≡ Less) facts
 
 -- the facts of so many moments, from 0 on, each in ascending order
 abbrev pub times_of : {F : Type 0} → (F → F → Ordering) → ℕ → List (Run F) → List (List F)

@@ -30,10 +30,12 @@ SteppedIn labels places label =
 -- the names and steps of these places
 pub record LooksAt (places : List Place) (looks : Looks) : Type 0 where
   pub starts : (name : List ℕ) → Contains looks.starts name ↔ StartsIn places name
-  pub steps : (labels : List (List ℕ)) (label : Label) → TakesLabel labels looks.steps label ↔ SteppedIn labels places label
+  pub steps : (labels : List (List ℕ)) (label : Label)
+      → TakesLabel labels looks.steps label ↔ SteppedIn labels places label
 
 -- what the select looks at
 pub record IsLookOf (query : SelectTree) (looks : Looks) : Type 0 where
   pub starts : (name : List ℕ) → Contains looks.starts name ↔ IsStart query name
-  pub steps : (labels : List (List ℕ)) (label : Label) → TakesLabel labels looks.steps label ↔ IsStepped labels query label
+  pub steps : (labels : List (List ℕ)) (label : Label)
+      → TakesLabel labels looks.steps label ↔ IsStepped labels query label
   pub compares : IsTrue looks.compares ↔ ComparesValues query

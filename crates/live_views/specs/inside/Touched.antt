@@ -21,16 +21,19 @@ abbrev pub IsNoted : List Bool → ℕ → Type 0
 IsNoted noted place = slice_index_or noted place false ≡ true
 
 -- the texts of the labels of these edges are found, and among them that of each label which is noted
-pub record AreFound (labels : List (List ℕ)) (edges : List Edge) (met : List Bool) (found : List (List ℕ)) : Type 0 where
+pub record AreFound (labels : List (List ℕ)) (edges : List Edge) (met : List Bool) (found : List (List ℕ))
+    : Type 0 where
   pub exact : (text : List ℕ) → Contains found text ↔ IsTextAmong labels edges text
-  pub noted : (place : ℕ) (text : List ℕ) → IsNoted met place → slice_get labels place ≡ Some text → Contains found text
+  pub noted : (place : ℕ) (text : List ℕ) → IsNoted met place → slice_get labels place ≡ Some text
+      → Contains found text
 
 abbrev pub HasFound : List (List ℕ) → List Edge → LabelTexts → Type 0
 HasFound labels edges all = AreFound labels edges all.noted.items (texts all.found.items)
 
 -- what the change touches
-pub record AreTouched (labels : List (List ℕ)) (delta : Delta) (touched : Touched) : Type 0 where
+pub record TellsTouched (labels : List (List ℕ)) (delta : Delta) (touched : Touched) : Type 0 where
   pub is : touched.delta.now ≡ delta
-  pub texts : (text : List ℕ) → Contains (texts touched.texts.items) text ↔ IsTextAmong labels (turned delta) text
+  pub texts : (text : List ℕ) → Contains (texts touched.texts.items) text
+      ↔ IsTextAmong labels (turned delta) text
   pub edges : IsTrue touched.edges ↔ ((edge : Edge) × IsTurned delta edge)
   pub values : IsTrue touched.values ↔ ChangesValue delta

@@ -3,12 +3,12 @@ use Rattle.std.specs.Prelude.{◌≡◌, ℕ, ◌+◌, ◌≤◌, ◌<◌, ◌�
 use Rattle.std.specs.Io.KnownBytes.{Appends, Consumes}
 use Rattle.lore_base.specs.Chunks.{joined_chunks}
 use Rattle.lore_run.specs.Types.{CHUNK_BYTES, SCRIPT_BYTES}
-use Rattle.lore_base.specs.Databases.{Database, new_database}
+use Rattle.lore_db.specs.States.{State, new_state}
 use Rattle.lorel_lex.specs.Scan.{IsChunk, IsOpen}
 use Rattle.lorel_lex.specs.Chunks.{IsTooLong}
 use Rattle.lorel_lex.specs.Gaps.{IsBlank}
 use Rattle.lore_run.specs.Types.{Refusal, Reply, Refused}
-use Rattle.lore_run.specs.Replies.{rendered}
+use Rattle.lore_run.specs.Replies.{reply_text}
 use Rattle.lore_run.specs.Runs.{ScriptPart, chunk, rest, Yields, Runs, refusals}
 use Rattle.lore_run.specs.Endings.{Outside}
 use Rattle.lore_run.specs.declared.status.Outcome.{Outcome}
@@ -19,16 +19,16 @@ use Rattle.lore_run.specs.declared.tally.Tally.{Tally}
 use Rattle.lore_run.specs.inside.Deliveries.{AppendsProperFront}
 
 -- where a run stands: the bytes held of the chunk at hand, the counts, the bytes written, where the sink
--- tells them, and the database
+-- tells them, and the state
 pub record Standing : Type 0 where
   pub held : List ℕ
   pub tally : Tally
   pub written : Option (List ℕ)
-  pub database : Database
+  pub state : State
 
-abbrev pub standing : List ℕ → Tally → Option (List ℕ) → Database → Standing
-standing held tally written database =
-    record { held = held; tally = tally; written = written; database = database }
+abbrev pub standing : List ℕ → Tally → Option (List ℕ) → State → Standing
+standing held tally written state =
+    record { held = held; tally = tally; written = written; state = state }
 
 -- bytes that no `;` ends, within the limit of a chunk
 pub record IsUnended (held : List ℕ) : Type 0 where
@@ -38,24 +38,24 @@ pub record IsUnended (held : List ℕ) : Type 0 where
 -- a part was executed and counted, and its reply written
 pub record Replied (before : Standing) (part : ScriptPart) (after : Standing) : Type 0 where
   pub reply : Reply
-  pub yielded : Yields before.database part reply after.database
+  pub yielded : Yields before.state part reply after.state
   pub done : after.tally.done ≡ before.tally.done + 1
   pub refused : after.tally.refused ≡ before.tally.refused + refusals reply
-  pub printed : Appends before.written after.written (rendered after.database.labels after.database.graph.objects reply)
+  pub printed : Appends before.written after.written (reply_text after.state reply)
 
 -- a part was executed and counted, and the sink failed in its reply
 pub record RepliedInPart (before : Standing) (part : ScriptPart) (after : Standing) : Type 0 where
   pub reply : Reply
-  pub yielded : Yields before.database part reply after.database
+  pub yielded : Yields before.state part reply after.state
   pub done : after.tally.done ≡ before.tally.done + 1
   pub refused : after.tally.refused ≡ before.tally.refused + refusals reply
-  pub printed : AppendsProperFront before.written after.written (rendered after.database.labels after.database.graph.objects reply)
+  pub printed : AppendsProperFront before.written after.written (reply_text after.state reply)
 
 -- nothing was executed, counted or written
 pub record Unmoved (before after : Standing) : Type 0 where
   pub tally : after.tally ≡ before.tally
   pub written : after.written ≡ before.written
-  pub database : after.database ≡ before.database
+  pub state : after.state ≡ before.state
 
 -- bytes were read behind those held: their chunks were replied to, each whole, and what stands behind them is
 -- held
@@ -66,7 +66,7 @@ pub record Advances (before : Standing) (bytes : List ℕ) (after : Standing) : 
   pub whole : before.held ++ bytes ≡ joined_chunks chunks ++ after.held
   pub each : All IsChunk chunks
   pub sized : All (λ text. length text ≤ CHUNK_BYTES) chunks
-  pub ran : Runs before.database (map chunk chunks) printed count after.database
+  pub ran : Runs before.state (map chunk chunks) printed count after.state
   pub done : after.tally.done ≡ before.tally.done + length chunks
   pub refused : after.tally.refused ≡ before.tally.refused + count
   pub written : Appends before.written after.written printed
@@ -119,9 +119,9 @@ Finishes _ before after = ⊥
 
 -- where each run begins
 abbrev pub beginning : Option (List ℕ) → Standing
-beginning written = standing [] (record { done = 0; refused = 0 }) written new_database
+beginning written = standing [] (record { done = 0; refused = 0 }) written new_state
 
--- a run so far, from the new database on: it took so many bytes, within the limit of a script, and holds a
+-- a run so far, from the new state on: it took so many bytes, within the limit of a script, and holds a
 -- rest
 pub record RunsSoFar (before : Outside) (count : ℕ) (left : Option (List ℕ)) (now : Standing) : Type 0 where
   pub taken : List ℕ

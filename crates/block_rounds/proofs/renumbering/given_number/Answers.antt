@@ -1,6 +1,7 @@
 use Rattle.std.proofs.Common.{◌≡◌, ℕ, ◌+◌, ◌≤◌, ap, sym, length, arith, inr, subst, length-append}
 use Rattle.indexmap.specs.IndexMap.{get}
-use Rattle.block_rounds.specs.inside.Renumbering.{pair_eq, AreFresh}
+use Rattle.block_rounds.specs.Given.{pair_eq}
+use Rattle.block_rounds.specs.inside.Renumbering.{AreFresh}
 use Rattle.block_rounds.proofs.RenumberLaws.{Keeps-updated, AreFresh-updated}
 use Rattle.block_rounds.proofs.renumbering.given_number.Goals as goal
 

@@ -1,6 +1,6 @@
 use Rattle.std.proofs.Common.{◌<◌, length, get_or, arith, None, refl}
 use Rattle.indexmap.specs.IndexMap.{get}
-use Rattle.block_rounds.specs.inside.Renumbering.{pair_eq}
+use Rattle.block_rounds.specs.Given.{pair_eq}
 use Rattle.block_rounds.proofs.RenumberLaws.{AreGivenBelow-more}
 use Rattle.block_rounds.proofs.renumbering.renumbered.Goals as goal
 

@@ -1,5 +1,6 @@
 use Rattle.indexmap.specs.IndexMap.{get}
-use Rattle.block_rounds.specs.inside.Renumbering.{pair_eq, AreGivenBelow}
+use Rattle.block_rounds.specs.Given.{pair_eq}
+use Rattle.block_rounds.specs.inside.Renumbering.{AreGivenBelow}
 use Rattle.block_rounds.proofs.renumbering.renumbered.Given as goal
 
 abbrev pub invariant-nodes : goal.invariant-nodes

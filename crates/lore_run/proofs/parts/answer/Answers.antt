@@ -4,17 +4,17 @@ use Rattle.lorel_terms.specs.Faults.{refusal_of}
 use Rattle.lorel_trees.specs.Trees.{statement_tree}
 use Rattle.lore_run.specs.Types.{Refused}
 use Rattle.lore_run.specs.Runs.{chunk, Yields}
-use Rattle.lore_db.specs.Statements.{Executes}
+use Rattle.lore_db.specs.States.{Performs}
 use Rattle.lore_run.specs.inside.Turns.{IsRefusalOf}
 use Rattle.lore_run.proofs.RespondLaws.{parse_refusal}
 use Rattle.lore_run.proofs.parts.answer.Goals as goal
 
 pub returns-in-Ok-parsed-clause-ok : goal.returns-in-Ok-parsed-clause-ok
 returns-in-Ok-parsed-clause-ok g c =
-    let before = c.args.session.now in
-    let after = c.execute-reply.new.self in
+    let before = c.args.session.now.state in
+    let after = c.execute-reply.new.self.state in
     let tree = statement_tree c.in-Ok-parsed.statement in
-    IfOk-weaker c.execute-reply.result (λ reply. Executes before tree reply after) (λ reply. Yields before (chunk c.args.text.now) reply after)
+    IfOk-weaker c.execute-reply.result (λ reply. Performs before tree reply after) (λ reply. Yields before (chunk c.args.text.now) reply after)
     (λ reply executed. inr (inr (record {
       tokens = c.in-Ok.tokens;
       lexed = c.in-Ok.ensures.found;
@@ -26,7 +26,7 @@ returns-in-Ok-parsed-clause-ok g c =
 
 pub returns-in-Err-parsed-clause-ok : goal.returns-in-Err-parsed-clause-ok
 returns-in-Err-parsed-clause-ok g c =
-    let session = c.args.session.now in
+    let session = c.args.session.now.state in
     let fault = c.in-Err-parsed.fault in
     IfOk-weaker c.refused-in-Err-parsed.result (λ reply. IsRefusalOf (refusal_of fault) reply) (λ reply. Yields session (chunk c.args.text.now) reply session)
     (λ reply refused.

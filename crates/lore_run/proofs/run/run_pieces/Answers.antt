@@ -36,14 +36,14 @@ returns-in-Ok-eq0-clause-ends g c =
     let M = g.S.Source.left c.read_piece.new.source in
     let none : Consumes L M [] = subst (λ (l : List ℕ). Consumes L M l) (no_bytes c.in-Ok-eq0.field-0 c.read_piece.new.piece zero) c.in-Ok-eq0.ensures.bytes in
     rw c.outcome.ensures (ends_finished c.end_script-status.result _ c.pieces.taken (g.S.Source.left c.pieces.source) (g.S.Source.left c.read_piece.new.source)
-    (standing c.pieces.reader.held c.pieces.tally (g.K.Sink.written c.pieces.sink) c.pieces.session)
-    (standing c.pieces.reader.held c.end_script-status.new.tally (g.K.Sink.written c.end_script-status.new.sink) c.pieces.session)
+    (standing c.pieces.reader.held c.pieces.tally (g.K.Sink.written c.pieces.sink) c.pieces.session.state)
+    (standing c.pieces.reader.held c.end_script-status.new.tally (g.K.Sink.written c.end_script-status.new.sink) c.pieces.session.state)
     c.pieces.invariant.so_far none (c.in-Ok-eq0.ensures.end zero) c.end_script-status.ensures.finished)
 
 pub returns-in-Err-clause-ends : goal.returns-in-Err-clause-ends
 returns-in-Err-clause-ends g c =
     rw c.outcome-in-Err.ensures (ends_read_fault _ c.pieces.taken (g.S.Source.left c.pieces.source) (g.S.Source.left c.read_piece.new.source)
-    (standing c.pieces.reader.held c.pieces.tally (g.K.Sink.written c.pieces.sink) c.pieces.session)
+    (standing c.pieces.reader.held c.pieces.tally (g.K.Sink.written c.pieces.sink) c.pieces.session.state)
     c.pieces.invariant.so_far c.in-Err.ensures.kept)
 
 pub returns-then-taken-eq-SCRIPT_BYTES-clause-ends : goal.returns-then-taken-eq-SCRIPT_BYTES-clause-ends
@@ -52,7 +52,7 @@ returns-then-taken-eq-SCRIPT_BYTES-clause-ends g c =
     let full : c.pieces.taken ≡ SCRIPT_BYTES = c.if-taken-eq-SCRIPT_BYTES.true in
     let one : length piece ≡ 1 = omega (arith, length-take c.in-Ok.count c.read_piece.new.piece, c.in-Ok.ensures.bound, c.in-Ok.ensures.one full, c.requires.room) in
     rw c.outcome-then-taken-eq-SCRIPT_BYTES.ensures (ends_too_long _ c.pieces.taken (g.S.Source.left c.pieces.source) (g.S.Source.left c.read_piece.new.source)
-    (standing c.pieces.reader.held c.pieces.tally (g.K.Sink.written c.pieces.sink) c.pieces.session)
+    (standing c.pieces.reader.held c.pieces.tally (g.K.Sink.written c.pieces.sink) c.pieces.session.state)
     piece c.pieces.invariant.so_far full c.in-Ok.ensures.bytes one)
 
 pub run_piece-requires-clause-room : goal.run_piece-requires-clause-room
@@ -68,8 +68,8 @@ pieces-preserved g c =
     let len : length piece ≡ c.in-Ok.count = omega (arith, length-take c.in-Ok.count c.read_piece.new.piece, c.in-Ok.ensures.bound, c.requires.room) in
     let few : c.pieces.taken + length piece ≤ SCRIPT_BYTES =
     omega (arith, length-take c.in-Ok.count c.read_piece.new.piece, so_far.within, c.in-Ok.ensures.within, c.if-taken-eq-SCRIPT_BYTES.false) in
-    let now = standing c.pieces.reader.held c.pieces.tally (g.K.Sink.written c.pieces.sink) c.pieces.session in
-    let next = standing c.run_piece.new.reader.held c.run_piece.new.tally (g.K.Sink.written c.run_piece.new.sink) c.run_piece.new.session in
+    let now = standing c.pieces.reader.held c.pieces.tally (g.K.Sink.written c.pieces.sink) c.pieces.session.state in
+    let next = standing c.run_piece.new.reader.held c.run_piece.new.tally (g.K.Sink.written c.run_piece.new.sink) c.run_piece.new.session.state in
     let before = outside (g.S.Source.left c.args.source.now) (g.K.Sink.written c.args.sink.now) in
     record {
       whole = ran.unfailed.0;
@@ -89,6 +89,6 @@ returns-in-Err-run_piece-clause-ends g c =
     omega (arith, length-take c.in-Ok.count c.read_piece.new.piece, so_far.within, c.in-Ok.ensures.within, c.if-taken-eq-SCRIPT_BYTES.false) in
     let at_hand : length piece ≤ PIECE_BYTES = omega (arith, length-take c.in-Ok.count c.read_piece.new.piece, c.in-Ok.ensures.bound) in
     rw c.outcome-in-Err-run_piece.ensures (ends_stopped c.in-Err-run_piece.status _ c.pieces.taken (g.S.Source.left c.pieces.source) (g.S.Source.left c.read_piece.new.source)
-    (standing c.pieces.reader.held c.pieces.tally (g.K.Sink.written c.pieces.sink) c.pieces.session)
-    (standing c.run_piece.new.reader.held c.run_piece.new.tally (g.K.Sink.written c.run_piece.new.sink) c.run_piece.new.session)
+    (standing c.pieces.reader.held c.pieces.tally (g.K.Sink.written c.pieces.sink) c.pieces.session.state)
+    (standing c.run_piece.new.reader.held c.run_piece.new.tally (g.K.Sink.written c.run_piece.new.sink) c.run_piece.new.session.state)
     piece so_far c.in-Ok.ensures.bytes few at_hand c.in-Err-run_piece.ensures.stopped)

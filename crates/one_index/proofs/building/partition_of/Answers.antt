@@ -36,3 +36,6 @@ returns-clause-numbered g c =
     (ap length c.as_slice-2.ensures.value
     ∙ rows_every (g.K.Links.edges c.args.links.now) c.args.objects.now c.in_ok-rows.rows.items c.in_ok-rows.ensures.rows)
     c.in_ok-partition.ensures.numbered
+
+pub returns-clause-steps : goal.returns-clause-steps
+returns-clause-steps g c = c.in_ok-rows.ensures.steps

@@ -3,6 +3,7 @@ use Rattle.std.specs.List.{sum_by}
 use Rattle.std.proofs.lemmas.List.Sums.{sum_by_more}
 use Rattle.std.proofs.lemmas.Option.{slice_get-get_or}
 use Rattle.lore_base.specs.Walks.{out_of}
+use Rattle.read_costs.specs.ReadCosts.{out_reads}
 use Rattle.one_index.specs.Types.{Oid, Label, Edge}
 use Rattle.one_index.specs.inside.Linked.{IsLink}
 use Rattle.one_index.proofs.LinkLaws.{edges-more, edges-all}
@@ -15,7 +16,7 @@ objects-preserved g c =
     let numbers = c.args.numbers.now in
     let place = c.objects.place in
     let oid : Oid = get_or objects place (record { 0 = 0 }) in
-    let cost : Oid → ℕ = λ o. 1 + length (out_of o edges) in
+    let cost : Oid → ℕ = out_reads edges in
     let total : sum_by cost (take (place + 1) objects) ≡ sum_by cost (take place objects) + cost oid =
     sum_by_more cost objects place (record { 0 = 0 }) c.objects-test.true in
     let read : c.out_edges.new.buf ≡ out_of oid edges =

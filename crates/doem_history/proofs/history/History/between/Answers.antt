@@ -4,7 +4,7 @@ use Rattle.lore_base.specs.Walks.{edge_cmp}
 use Rattle.lore_base.specs.Deltas.{IsDelta, ListsOnlyIn}
 use Rattle.doem_history.specs.Types.{Delta}
 use Rattle.doem_history.specs.Facts.{name_order, object_order}
-use Rattle.doem_history.specs.FactLaws.{name_total, object_total, edge_total}
+use Rattle.doem_history.specs.inside.FactLaws.{name_total, object_total, edge_total}
 use Rattle.doem_history.specs.Moments.{graph_of}
 use Rattle.doem_history.specs.Histories.{KeptHistory, facts_at, ordered, moment_at}
 use Rattle.doem_history.specs.inside.Kept.{AreFacts}

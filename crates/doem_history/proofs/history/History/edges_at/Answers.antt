@@ -1,7 +1,8 @@
 use Rattle.std.proofs.Common.{◌≡◌, ◌+◌, ap, subst, arith}
 use Rattle.lore_base.specs.Walks.{edge_cmp, out_of}
 use Rattle.doem_history.specs.Histories.{KeptHistory, facts_at, ordered}
-use Rattle.doem_history.proofs.ViewLaws.{out_told, out_ascends, same_edge}
+use Rattle.doem_history.proofs.ViewLaws.{out_told, out_ascends}
+use Rattle.doem_history.proofs.NewestLaws.{same_edge}
 use Rattle.doem_history.proofs.history.History.edges_at.Goals as goal
 
 pub returns-in_err-edges-clause-ascend : goal.returns-in_err-edges-clause-ascend

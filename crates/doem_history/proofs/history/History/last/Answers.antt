@@ -2,6 +2,8 @@ use Rattle.std.proofs.Common.{◌∙◌, ◌+◌, ◌≤◌, sym, subst, ap}
 use Rattle.doem_history.specs.Types.{HISTORY_WEIGHT}
 use Rattle.doem_history.specs.Moments.{IsHistoryWeight}
 use Rattle.doem_history.specs.Histories.{KeptHistory, moments_of}
+use Rattle.doem_history.specs.Laws.{AreMoments}
+use Rattle.doem_history.proofs.MomentLaws.{are_moments}
 use Rattle.doem_history.proofs.HistoryLaws.{count_moments, history_weighs}
 use Rattle.doem_history.proofs.history.History.last.Goals as goal
 
@@ -18,3 +20,8 @@ returns-clause-weight c =
 
 pub returns-clause-light : goal.returns-clause-light
 returns-clause-light c = subst (λ (h : KeptHistory). h.weight ≤ HISTORY_WEIGHT) c.self.view_is c.self.invariant.light
+
+pub returns-clause-ordered : goal.returns-clause-ordered
+returns-clause-ordered c =
+    let h : KeptHistory = record { names = c.self.inside.names; objects = c.self.inside.objects; edges = c.self.inside.edges; last = c.self.inside.last; weight = c.self.inside.weight } in
+    subst (λ (h : KeptHistory). AreMoments (moments_of h)) c.self.view_is (are_moments h c.self.invariant.early)

@@ -2,7 +2,7 @@ use Rattle.std.proofs.Common.{◌≡◌, ◌∙◌, ℕ, ◌+◌, ◌<◌, ap, s
 use Rattle.lore_base.specs.Names.{IsNameTable}
 use Rattle.doem_history.specs.Types.{Oid}
 use Rattle.doem_history.specs.Facts.{name_order}
-use Rattle.doem_history.specs.FactLaws.{name_total}
+use Rattle.doem_history.specs.inside.FactLaws.{name_total}
 use Rattle.doem_history.specs.Histories.{KeptHistory, facts_at, ordered}
 use Rattle.doem_history.proofs.DeltaLaws.{names_table}
 use Rattle.doem_history.proofs.ViewLaws.{facts_ascend, facts_told}

@@ -2,6 +2,7 @@ use Rattle.std.proofs.Common.{◌≢◌, ◌∙◌, ◌+◌, ◌<◌, ℕ, ap, s
 use Rattle.doem_history.specs.Types.{MOMENTS}
 use Rattle.doem_history.specs.Histories.{KeptHistory}
 use Rattle.doem_history.specs.Plans.{IsOpen, PlannedMoment, weight_of_come, CarriesOut}
+use Rattle.doem_history.specs.inside.Kept.{AreKept}
 use Rattle.doem_history.proofs.PlanLaws.{LeadsSome, names_going, objects_going, edges_going, ends_as}
 use Rattle.doem_history.proofs.history.History.plan.Goals as goal
 
@@ -37,6 +38,9 @@ plan-requires-3-clause-going c =
     let leads = subst (λ (x : KeptHistory). LeadsSome x c.args.delta.now) (sym c.self.view_is) c.requires.leads in
     subst (λ (l : List _). All (λ fact. (place : ℕ) × IsOpen c.self.inside.edges.runs place fact) l) (sym c.as_slice-5.ensures)
     (edges_going h c.self.invariant c.args.delta.now leads).open_all
+
+pub plan-requires-3-clause-kept : goal.plan-requires-3-clause-kept
+plan-requires-3-clause-kept c = subst (λ k. AreKept k c.self.inside.edges.runs) (sym c.self.invariant.edges.count) c.self.invariant.edges.facts.kept
 
 pub returns : goal.returns
 returns c =

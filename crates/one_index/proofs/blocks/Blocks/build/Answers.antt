@@ -1,9 +1,9 @@
 use Rattle.std.proofs.Common.{◌≡◌, ℕ, ◌+◌, ◌<◌, ◌≤◌, List, length, All, AllPairs, sym, ap, ◌∙◌, subst, arith}
 use Rattle.std.specs.List.{sum_by}
-use Rattle.lore_base.specs.Walks.{out_of}
+use Rattle.read_costs.specs.ReadCosts.{out_reads, in_reads}
 use Rattle.block_rounds.specs.Partitions.{IsNumbered}
 use Rattle.one_index.specs.Types.{Oid, Edge}
-use Rattle.one_index.specs.Blocks.{graph_of, IsSound, into}
+use Rattle.one_index.specs.Blocks.{graph_of, IsSound}
 use Rattle.one_index.specs.inside.Parted.{IsParted}
 use Rattle.one_index.proofs.BuildLaws.{AreBlocksOf-built, members-shown, edges-shown, few_blocks, cost_both}
 use Rattle.one_index.proofs.blocks.Blocks.build.Goals as goal
@@ -74,14 +74,11 @@ returns-clause-few g c =
 pub returns-clause-steps : goal.returns-clause-steps
 returns-clause-steps g c =
     let edges : List Edge = g.A.Adjacent.edges c.args.graph.now in
-    let links : List Edge = g.K.Links.edges c.args.links.now in
     let objects = c.args.objects.now in
-    let in_cost : Oid → ℕ = λ oid. 1 + length (into oid links) in
-    let out_cost : Oid → ℕ = λ oid. 1 + length (out_of oid edges) in
-    let first : c.partition_of.new.steps ≤ c.args.steps.now + sum_by in_cost objects =
-    subst (λ (l : List Oid). c.partition_of.new.steps ≤ c.args.steps.now + sum_by in_cost l) c.as_slice-oids.ensures
-    c.in_ok-partition.ensures.steps in
-    let second : c.blocks_by.new.steps ≡ c.partition_of.new.steps + sum_by out_cost objects =
-    subst (λ (l : List Oid). c.blocks_by.new.steps ≡ c.partition_of.new.steps + sum_by out_cost l) c.as_slice-oids.ensures
+    let first : c.partition_of.new.steps ≤ c.args.steps.now + sum_by (in_reads edges) objects =
+    subst (λ (l : List Oid). c.partition_of.new.steps ≤ c.args.steps.now + sum_by (in_reads edges) l) c.as_slice-oids.ensures
+    (c.in_ok-partition.ensures.steps edges c.requires.same) in
+    let second : c.blocks_by.new.steps ≡ c.partition_of.new.steps + sum_by (out_reads edges) objects =
+    subst (λ (l : List Oid). c.blocks_by.new.steps ≡ c.partition_of.new.steps + sum_by (out_reads edges) l) c.as_slice-oids.ensures
     c.in_ok-blocks.ensures.steps in
-    omega (arith, first, second, cost_both edges links objects)
+    omega (arith, first, second, cost_both edges objects)

@@ -1,0 +1,11 @@
+pub mod TallyLaws
+pub mod MoveLaws
+pub mod MarkLaws
+pub mod FairLaws
+pub mod HastenLaws
+pub mod RecountLaws
+pub mod FileLaws
+pub mod ExchangeLaws
+pub mod ListedLaws
+pub mod HasteLaws
+pub mod StartLaws

@@ -1,5 +1,0 @@
-use Rattle.block_rounds.specs.inside.Listed.{AreRowsBelow}
-use Rattle.block_rounds.proofs.graph.edges_of.Given as goal
-
-abbrev pub invariant-rows : goal.invariant-rows
-invariant-rows l = AreRowsBelow l.node l.rows l.edges.items

@@ -1,7 +1,0 @@
-use Rattle.std.proofs.Common.{rules}
-use Rattle.block_rounds.specs.inside.Marking.{mix_one}
-use Rattle.block_rounds.proofs.marking.mixed_one.Goals as goal
-
-pub returns : goal.returns
-unfolding mix_one
-returns c = search rules

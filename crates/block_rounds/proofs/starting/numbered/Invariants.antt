@@ -1,5 +1,0 @@
-use Rattle.block_rounds.specs.inside.Listed.{AreNumbersBelow}
-use Rattle.block_rounds.proofs.starting.numbered.Given as goal
-
-abbrev pub invariant-nodes : goal.invariant-nodes
-invariant-nodes l = AreNumbersBelow l.node l.numbers l.pairs.items

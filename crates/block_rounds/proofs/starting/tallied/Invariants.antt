@@ -1,6 +1,0 @@
-use Rattle.std.proofs.Common.{◌≡◌, take}
-use Rattle.block_rounds.specs.inside.Marking.{keys_of}
-use Rattle.block_rounds.proofs.starting.tallied.Given as goal
-
-abbrev pub invariant-edges : goal.invariant-edges
-invariant-edges l = l.tally ≡ keys_of (take l.edge-index l.edges) l.tags

@@ -1,0 +1,4 @@
+pub mod Types
+pub mod Facts
+pub mod FactLaws
+pub mod Held

@@ -1,6 +1,0 @@
-use Rattle.std.proofs.Common.{take}
-use Rattle.doem_history.proofs.FactSetLaws.{AreLeft}
-use Rattle.doem_history.proofs.fact_sets.without.Given as goal
-
-abbrev pub invariant-facts : goal.invariant-facts
-invariant-facts g l = AreLeft g.F.Fact.order (take l.fact-index l.facts) l.others l.only

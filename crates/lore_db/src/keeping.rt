@@ -1,0 +1,171 @@
+ghost use Rattle.std.specs.Prelude.{◌≡◌, ◌⊎◌, ◌↔◌, [], ◌∷◌, true, false, Some, None, map, length, slice_get, Contains};
+ghost use Rattle.std.specs.Prelude.{IsTrue, MatchOption, IfOk, IfErr, OnOk, OnErr, ◌<◌};
+ghost use Rattle.lore_base.specs.Databases.{IsLive};
+ghost use Rattle.lore_base.specs.Verdicts.{IsToldBy};
+ghost use Rattle.lorel_trees.specs.Trees.{statement_tree, history as keeping};
+ghost use Rattle.lorel_trees.specs.Sound.{IsSound};
+ghost use Rattle.doem_history.specs.Moments.{IsFull};
+ghost use Rattle.doem_history.specs.Histories.{moments_of};
+ghost use Rattle.statements.specs.Types.refusals;
+ghost use Rattle.statements.specs.Types.{Value as TheValue};
+ghost use Rattle.statements.specs.Forms.{IsChanging, IsOfHistory};
+ghost use Rattle.statements.specs.Stops.{told, OnReply};
+ghost use Rattle.lore_db.specs.States.{Performs, StateCause, state_order, CountsNoStep};
+ghost use Rattle.lore_db.specs.States.{IsRestore, present};
+ghost use Rattle.lore_db.specs.inside.Kept.{kept_moments};
+
+use crate::db::Db;
+use doem_history::History;
+use index_traits::ValueOf;
+use lore_base::{Fault, NoMemory, ObjectList, Oid, Refusal, Steps, TryCopy, Value};
+use lore_store::Store;
+use lorel_trees::Statement;
+use oem_graph::Graph;
+use statements::{Reply, Stop, all_edges, counts};
+use std::alloc::Global;
+use std::sync::ledger::Ledger;
+
+impl Db {
+    /// Keeps a history from then on, or none.
+    pub(crate) fn keep<L: Ledger>(
+        &mut self,
+        alloc: Global,
+        on: bool,
+        steps: &mut Steps<L>,
+    ) -> Result<Reply, Stop>
+        ensures ok { IfOk result (λ reply.
+            Performs self.old.state (keeping on) reply self.new.state) }
+        ensures refused { IfErr result (λ stop.
+            IsToldBy (StateCause self.old.state (keeping on)) state_order (told stop)) }
+        ensures same { OnErr result (self.new ≡ self.old) }
+        ensures uncounted { OnReply result
+            (CountsNoStep self.old.state (keeping on) → steps.new ≡ steps.old) }
+    {
+        if on {
+            self.begin(alloc, steps)
+        } else {
+            Ok(self.end())
+        }
+    }
+
+    // Keeps the present moment alone from then on. Refused is one that weighs more than a history may
+    // (`HistoryFull`): then the history that was kept stays. A step is counted for each object and one
+    // for each edge.
+    fn begin<L: Ledger>(&mut self, alloc: Global, steps: &mut Steps<L>) -> Result<Reply, Stop>
+        ensures ok { IfOk result (λ reply.
+            Performs self.old.state (keeping true) reply self.new.state) }
+        ensures refused { IfErr result (λ stop.
+            IsToldBy (StateCause self.old.state (keeping true)) state_order (told stop)) }
+        ensures same { OnErr result (self.new ≡ self.old) }
+    {
+        let history = begun(alloc, &self.store, steps)?;
+        self.history = Some(history);
+        Ok(counts(&self.store))
+    }
+
+    // Keeps no history from then on.
+    fn end(&mut self) -> Reply
+        ensures { Performs self.old.state (keeping false) result self.new.state }
+    {
+        self.history = None;
+        counts(&self.store)
+    }
+
+    /// Executes a statement that lists no changes: the names, objects and edges stay. A dump is restored
+    /// only where no history is kept (`NotFresh`).
+    pub(crate) fn execute_still<L: Ledger>(
+        &mut self,
+        alloc: Global,
+        statement: &Statement,
+        steps: &mut Steps<L>,
+    ) -> Result<Reply, Stop>
+        requires sound { IsSound (statement_tree statement.now) }
+        requires still { ¬ IsChanging (statement_tree statement.now) }
+        requires plain { ¬ IsOfHistory (statement_tree statement.now) }
+        ensures ok { IfOk result (λ reply.
+            Performs self.old.state (statement_tree statement.now) reply self.new.state) }
+        ensures refused { let cause = StateCause self.old.state (statement_tree statement.now) in
+            IfErr result (λ stop. IsToldBy cause state_order (told stop)) }
+        ensures same { OnErr result (self.new ≡ self.old) }
+        ensures uncounted { OnReply result
+            (CountsNoStep self.old.state (statement_tree statement.now) → steps.new ≡ steps.old) }
+    {
+        if keeps_out(&self.history, statement) {
+            return Err(Stop::Refused(Refusal::NotFresh));
+        }
+        let reply = statements::execute(alloc, &mut self.store, statement, steps)?;
+        // That the database is valid is known where its graph is looked at.
+        let _graph = self.store.graph();
+        Ok(reply)
+    }
+}
+
+// Whether a history is kept, and the statement restores a dump.
+fn keeps_out(history: &Option<History>, statement: &Statement) -> bool
+    ensures { IsTrue result ↔ MatchOption (kept_moments history.now) ⊥
+        (λ moments. IsRestore (statement_tree statement.now)) }
+{
+    match history {
+        Some(_) => is_restore(statement),
+        None => false,
+    }
+}
+
+// Whether the statement restores a dump.
+fn is_restore(statement: &Statement) -> bool
+    ensures { IsTrue result ↔ IsRestore (statement_tree statement.now) }
+{
+    matches!(statement, Statement::Restore(_))
+}
+
+// A history of the present moment alone.
+fn begun<L: Ledger>(alloc: Global, store: &Store, steps: &mut Steps<L>) -> Result<History, Stop>
+    ensures ok { IfOk result (λ history. moments_of history ≡ present store.now.db ∷ []) }
+    ensures light { OnOk result (¬ IsFull (present store.now.db ∷ [])) }
+    ensures refused { IfErr result (λ stop. (told stop ≡ None)
+        ⊎ ((told stop ≡ Some refusals.HistoryFull) × IsFull (present store.now.db ∷ []))) }
+{
+    let graph = store.graph();
+    let edges = all_edges(alloc, graph, steps)?;
+    let objects = all_objects(alloc, graph)?;
+    match History::start(alloc, graph.names(), &objects, &edges) {
+        Ok(history) => Ok(history),
+        Err(fault) => Err(Stop::by(fault.refusal())),
+    }
+}
+
+// All objects with their values, in order.
+fn all_objects(alloc: Global, graph: &Graph) -> Result<ObjectList, NoMemory>
+    ensures { IfOk result (λ objects. objects ≡ graph.now.graph.objects) }
+{
+    let mut objects = ObjectList::with_capacity(alloc, graph.objects() as usize)?;
+    'places: for place in 0..graph.objects() {
+        let oid = oid_at(graph, place);
+        let value = value_in(graph, oid).try_copy(alloc)?;
+        objects.push((oid, value))?;
+    }
+    Ok(objects)
+}
+
+// The object at this place, counted from 0.
+fn oid_at(graph: &Graph, place: u32) -> Oid
+    requires { place < length graph.now.graph.objects }
+    ensures { slice_get (map (λ object. object.0) graph.now.graph.objects) place ≡ Some result }
+{
+    match graph.object(place) {
+        Some(oid) => oid,
+        None => unreachable!(),
+    }
+}
+
+// The value of the live object.
+fn value_in(graph: &Graph, oid: Oid) -> &Value
+    requires { IsLive graph.now.graph.objects oid }
+    ensures { (value : TheValue) → Contains graph.now.graph.objects (oid, value)
+        → result.now ≡ value }
+{
+    match graph.value_of(oid) {
+        Some(value) => value,
+        None => unreachable!(),
+    }
+}

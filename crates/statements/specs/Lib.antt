@@ -1,0 +1,11 @@
+pub mod Types
+pub mod Forms
+pub mod Effects
+pub mod Plans
+pub mod Statements
+pub mod Made
+pub mod Pasts
+pub mod Stops
+pub mod Uncounted
+pub mod Bounds
+pub mod inside

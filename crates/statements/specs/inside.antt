@@ -1,0 +1,6 @@
+-- Definitions that no public contract cites.
+pub mod Views
+pub mod Listed
+pub mod Stages
+pub mod Starts
+pub mod Locals

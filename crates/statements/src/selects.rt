@@ -1,0 +1,196 @@
+ghost use Rattle.std.specs.Prelude.{◌≡◌, IfSome, IfOk, IfErr, OnOk};
+ghost use Rattle.lorel_trees.specs.Trees.{select_tree, select};
+ghost use Rattle.lorel_bound.specs.Bound.{bound_tree};
+ghost use Rattle.lore_base.specs.Verdicts.{IsClear, IsToldBy};
+ghost use Rattle.lorel_bind.specs.Answers.{IsAnswer};
+ghost use Rattle.lorel_bind.specs.Bindings.{IsBinding};
+ghost use Rattle.lorel_bound.specs.Runnable.{IsRunnable};
+ghost use Rattle.lorel_bound.specs.Plans.{IsPlanOf};
+ghost use Rattle.lorel_ranges.specs.Texts.{IsShallow};
+ghost use Rattle.lorel_bound.specs.SlotRows.{IsSlotRow};
+ghost use Rattle.statements.specs.Types.{Rows as TheRows};
+ghost use Rattle.statements.specs.Types.refusals;
+ghost use Rattle.statements.specs.Pasts.{database_over};
+ghost use Rattle.statements.specs.Plans.{AreCountsOver, IsKindOver};
+ghost use Rattle.statements.specs.Statements.{Cause, cause_order, Executes};
+ghost use Rattle.statements.specs.Uncounted.{IsQuietBound, IsQuietSelect};
+ghost use Rattle.statements.specs.inside.Starts.{HasNamedStarts};
+ghost use Rattle.statements.specs.inside.Views.{IsRowOf};
+ghost use Rattle.statements.specs.Stops.{told, OnReply};
+ghost use Rattle.statements.specs.inside.Stages.{ReadCause, bind_order, read_order};
+ghost use Rattle.answers.specs.Asked.{AreRows, AreTooMany};
+
+use crate::replies::Reply;
+use crate::rows::{View, rows_over};
+use crate::stops::Stop;
+use guide_query::GuidePaths;
+use index_traits::{Adjacent, ValueOf};
+use lore_base::{Names, NoMemory, Steps};
+use lore_store::Store;
+use lorel_bind::bind;
+use lorel_bound::{Answer, Bound, Plan};
+use lorel_trees::Select;
+use planner::{choose, forward_plan};
+use std::alloc::Global;
+use std::sync::ledger::Ledger;
+
+/// Selects rows. No step is counted where the guide tells all and no cell shows a word, or where no
+/// value is found to begin with.
+pub(crate) fn select<L: Ledger>(
+    alloc: Global,
+    store: &Store,
+    query: &Select,
+    steps: &mut Steps<L>,
+) -> Result<Reply, Stop>
+    requires { IsShallow (select_tree query.now) }
+    ensures ok { IfOk result (λ reply.
+        Executes store.now.db (select (select_tree query.now)) reply store.now.db) }
+    ensures refused { let tree = select (select_tree query.now) in
+        IfErr result (λ stop. IsToldBy (Cause store.now.db tree) cause_order (told stop)) }
+    ensures quiet { OnReply result (IsQuietSelect store.now.db (select_tree query.now)
+        → steps.new ≡ steps.old) }
+{
+    Ok(Reply::Rows(rows_of(alloc, store, query, steps)?))
+}
+
+/// The rows of a select. Refused are one that can't be bound (`UnknownName`, `UnknownVariable`,
+/// `DuplicateVariable`, `TooManyRanges`), and one with more rows than `ROWS`, or more labels
+/// in their words than `PATH_LABELS` (`TooManyRows`).
+pub(crate) fn rows_of<L: Ledger>(
+    alloc: Global,
+    store: &Store,
+    query: &Select,
+    steps: &mut Steps<L>,
+) -> Result<Answer, Stop>
+    requires { IsShallow (select_tree query.now) }
+    ensures rows { IfOk result (λ answer. IsAnswer store.now.db (select_tree query.now) answer) }
+    ensures ok { OnOk result (IsClear (ReadCause store.now.db (select_tree query.now)) read_order) }
+    ensures refused { let cause = ReadCause store.now.db (select_tree query.now) in
+        IfErr result (λ stop. IsToldBy cause read_order (told stop)) }
+    ensures quiet { OnReply result (IsQuietSelect store.now.db (select_tree query.now)
+        → steps.new ≡ steps.old) }
+{
+    let bound = bound(alloc, store, query)?;
+    let found = found(alloc, store, &bound, steps);
+    // A drop that is written out is proved once; else it is proved in this function, at length.
+    drop(bound);
+    found
+}
+
+/// A select, bound. Refused is one that can't be bound.
+pub(crate) fn bound(alloc: Global, store: &Store, query: &Select) -> Result<Bound, Stop>
+    requires { IsShallow (select_tree query.now) }
+    ensures binding { IfOk result (λ bound.
+        IsBinding store.now.db.graph.names (select_tree query.now) (bound_tree bound)) }
+    ensures runnable { IfOk result (λ bound. IsRunnable (bound_tree bound)) }
+    ensures named { IfOk result (λ bound.
+        HasNamedStarts store.now.db.graph.names (bound_tree bound)) }
+    ensures ok { OnOk result (IsClear (ReadCause store.now.db (select_tree query.now)) bind_order) }
+    ensures refused { let cause = ReadCause store.now.db (select_tree query.now) in
+        IfErr result (λ stop. IsToldBy cause bind_order (told stop)) }
+{
+    Ok(bind(alloc, query, store.graph().names())?)
+}
+
+/// The plan of a bound select, by the mode and what the guide and the value index tell. No edge is
+/// read.
+pub(crate) fn plan_of(alloc: Global, store: &Store, bound: &Bound) -> Result<Plan, NoMemory>
+    requires runnable { IsRunnable (bound_tree bound.now) }
+    requires named { HasNamedStarts store.now.db.graph.names (bound_tree bound.now) }
+    ensures counts { let tree = bound_tree bound.now in
+        IfOk result (λ plan. AreCountsOver store.now.db tree plan.candidates plan.found) }
+    ensures kind { IfOk result (λ plan.
+        IsKindOver store.now.db plan.candidates plan.found plan.kind) }
+    ensures steps { IfOk result (IsPlanOf store.now.db.labels (bound_tree bound.now)) }
+{
+    let (graph, labels, guide) = (store.graph(), store.labels(), store.guide());
+    let paths = GuidePaths::new(guide, graph.names(), labels);
+    let (mode, values) = (store.mode(), store.values());
+    let (objects, nodes) = (graph.objects(), guide.len());
+    choose(alloc, bound, mode, values, &paths, labels, objects, nodes)
+}
+
+/// The rows of a bound select. Refused are more than `ROWS`, and more than `PATH_LABELS` labels in
+/// their words.
+pub(crate) fn found<L: Ledger>(
+    alloc: Global,
+    store: &Store,
+    bound: &Bound,
+    steps: &mut Steps<L>,
+) -> Result<Answer, Stop>
+    requires runnable { IsRunnable (bound_tree bound.now) }
+    requires named { HasNamedStarts store.now.db.graph.names (bound_tree bound.now) }
+    ensures quiet { OnReply result (IsQuietBound store.now.db (bound_tree bound.now)
+        → steps.new ≡ steps.old) }
+    ensures rows { IfOk result (AreRows (IsSlotRow store.now.db (bound_tree bound.now))) }
+    ensures refused { let asked = IsSlotRow store.now.db (bound_tree bound.now) in
+        IfErr result (λ stop. IfSome (told stop) (λ refusal.
+        (refusal ≡ refusals.TooManyRows) × AreTooMany asked)) }
+{
+    let plan = plan_of(alloc, store, bound)?;
+    let (graph, labels) = (store.graph(), store.labels());
+    let paths = GuidePaths::new(store.guide(), graph.names(), labels);
+    let view = View {
+        graph,
+        labels,
+        links: store.links(),
+        values: store.values(),
+        paths: &paths,
+    };
+    rows_over(alloc, &view, bound, &plan, steps)
+}
+
+/// The rows of a select over a graph with these names, whose labels are in the store's table: they are
+/// found from the names alone. Refused is what a select over these names and this graph is refused
+/// for.
+pub fn select_over<G: Adjacent + ValueOf, L: Ledger>(
+    alloc: Global,
+    store: &Store,
+    names: &Names,
+    graph: &G,
+    query: &Select,
+    steps: &mut Steps<L>,
+) -> Result<Answer, Stop>
+    requires { IsShallow (select_tree query.now) }
+    ensures ok { let db = database_over store.now.db names.now (G.objects graph.now)
+        (G.edges graph.now) in IfOk result (λ answer.
+        Executes db (select (select_tree query.now)) (TheRows answer) db) }
+    ensures refused { let db = database_over store.now.db names.now (G.objects graph.now)
+        (G.edges graph.now) in let tree = select (select_tree query.now) in
+        IfErr result (λ stop. IsToldBy (Cause db tree) cause_order (told stop)) }
+{
+    let bound = bind(alloc, query, names)?;
+    let found = found_over(alloc, store, graph, &bound, steps);
+    // A drop that is written out is proved once; else it is proved in this function, at length.
+    drop(bound);
+    found
+}
+
+// The rows of a bound select over the graph.
+fn found_over<G: Adjacent + ValueOf, L: Ledger>(
+    alloc: Global,
+    store: &Store,
+    graph: &G,
+    bound: &Bound,
+    steps: &mut Steps<L>,
+) -> Result<Answer, Stop>
+    requires { IsRunnable (bound_tree bound.now) }
+    ensures rows { IfOk result (AreRows (IsRowOf store.now.db.labels (G.edges graph.now)
+        (G.objects graph.now) (bound_tree bound.now))) }
+    ensures refused { let asked = IsRowOf store.now.db.labels (G.edges graph.now)
+        (G.objects graph.now) (bound_tree bound.now) in
+        IfErr result (λ stop. IfSome (told stop) (λ refusal.
+        (refusal ≡ refusals.TooManyRows) × AreTooMany asked)) }
+{
+    let plan = forward_plan(alloc, bound)?;
+    let (kept, labels) = (store.graph(), store.labels());
+    let paths = GuidePaths::new(store.guide(), kept.names(), labels);
+    let view = View {
+        graph,
+        labels,
+        links: store.links(),
+        values: store.values(),
+        paths: &paths,
+    };
+    rows_over(alloc, &view, bound, &plan, steps)
+}
