@@ -23,7 +23,7 @@ from generated_people import generated_cases
 from large_scripts import (EDGES, FACT_WEIGHT, HISTORY_WEIGHT, ITEMS, LABELS, LABEL_BYTES, LAST_MOMENT, LAST_NUMBER, LAST_SEED,
                            LEAVES, LEVELS, MANY, MEMBERS, NAMES,
                            NODES, OBJECTS, PERSONS, ROWS, SAMPLES, SCRIPT_BYTES, START_NODES, STATEMENT_BYTES, TEXT_BYTES,
-                           WORD_LABELS, Case, around, braces, doubled, doubling, dump_text, escaped, head, in_turn, labelled,
+                           VIEWS, WORD_LABELS, Case, around, braces, doubled, doubling, dump_text, escaped, head, in_turn, labelled,
                            long_script, long_texts, longest_chain, numbered, ok, passing_set, people, quoted_label,
                            refused, repeated, rows, sampled)
 
@@ -503,11 +503,33 @@ def history_cases():
                one * 2 + (ok(2, 1, 2) + one) * 10_000 + rows(["&2 1"]) + rows([]) + rows([f"&{10_000 + 1} 1"]))
 
 
+def block_cases():
+    yield Case("blocks of as many objects as there may be", [numbered(OBJECTS - 1), "blocks; blocks select A.a.b;"], 0,
+               ok(OBJECTS, OBJECTS - 1, 2) + f"block &1 1\nblock &2 {OBJECTS - 1}\nblocks 2\n" + rows([]))
+    lines = "".join(f"block &{i} 1\n" for i in range(1, 14))
+    yield Case("twelve objects of which the guide has each set", [doubled(12), "blocks;"], 0, ok(13, 25, 4096) + lines + "blocks 13\n")
+
+
+def view_cases():
+    side = isqrt(ROWS)
+    pairs = [f"&{i} 0 | &{j} 0" for i in range(2, side + 2) for j in range(2, side + 2)]
+    watches = [f"watch v{i} := select X, Y from N.a X, N.a Y;" for i in range(VIEWS + 1)]
+    yield Case("as many views as there may be of nearly as many rows, and one more",
+               [braces("N", ["a 0"] * side), *watches, f"update N.b += 1; show v0; update N.a += 1; show v{VIEWS - 1};"], 1,
+               ok(side + 1, side, 2) * (VIEWS + 1) + refused("TooManyViews") + ok(side + 2, side + 1, 3) + rows(pairs)
+               + ok(side + 3, side + 2, 3) + refused("TooManyRows"))
+    watches = ["watch v%d := select A(%s);" % (i, "|".join(f".%y{i}_{leaf}" for leaf in range(LEAVES))) for i in range(VIEWS)]
+    labels = ", ".join(["x0 &1 1", *(f"x{i} &1" for i in range(1, LABELS))])
+    yield Case("a change of as many labels as there may be, which concerns none of as many views of as many steps",
+               ["load A := {};", *watches, f"load B := {{ {labels} }}; show v0;"], 0,
+               ok(1, 0, 1) * (VIEWS + 1) + ok(3, LABELS, 3) + rows([]))
+
+
 def cases():
     """All cases, one after another, since each may hold many megabytes."""
     for group in [row_cases, statement_cases, label_cases, name_cases, size_cases, update_cases, condition_cases, node_cases,
                   cell_cases, word_cases, path_cases, text_cases, long_label_cases, dump_cases, made_cases, generated_cases,
-                  history_cases, script_cases]:
+                   history_cases, block_cases, view_cases, script_cases]:
         yield from group()
 
 

@@ -25,6 +25,7 @@ ITEMS = 8
 LEAVES = 64
 LEVELS = 64
 LAST_MOMENT = 65_536
+VIEWS = 64
 HISTORY_WEIGHT = 1_073_741_824  # of a history: FACT_WEIGHT for each run of a fact, and the bytes of a text
 FACT_WEIGHT = 64
 STATEMENT_BYTES = 67_108_864
@@ -35,7 +36,8 @@ MANY = min(MEMBERS, ROWS)  # of these as many as an answer or an update has rows
 
 REFUSALS = """BadToken RealRefused NumberRange TextTooLong Syntax Unfinished UnknownName UnknownVariable DuplicateVariable
 TooManyRanges DuplicateLocal UndefinedLocal TooManyRows NotOne AtomicParent HasChildren OidsSpent TooManyLabels TooManyNames
-TooManyObjects TooManyEdges GuideNodes LimitRange NotFresh BadRestore GuideCells HistoryFull NoHistory MomentRange""".split()
+TooManyObjects TooManyEdges GuideNodes LimitRange NotFresh BadRestore GuideCells HistoryFull NoHistory MomentRange
+TooManyViews UnknownView""".split()
 
 
 @dataclass

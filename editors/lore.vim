@@ -37,7 +37,7 @@ syntax match   loreTruth   contained "\<\%(true\|false\)\>\%(\_s*[,}]\)\@="
 syntax region  loreBraces  contained matchgroup=loreSign start="{" end="}"
       \ contains=loreComment,loreNumber,loreText,loreQuoted,loreLocal,loreMember,loreTruth,loreBraces
 syntax region  loreScript  matchgroup=loreStatement end=";"
-      \ start="\<\%(load\|name\|unname\|update\|select\|explain\|guide\|browse\|sample\|dump\|generate\|at\|changes\)\>"
+      \ start="\<\%(load\|name\|unname\|update\|select\|explain\|guide\|browse\|sample\|dump\|generate\|at\|changes\|blocks\|watch\|unwatch\|show\)\>"
       \ contains=loreSign,loreNumber,loreComment,loreText,loreLocal,loreWord,loreReserved,loreFlag,loreLogic,lorePathOf,loreLabel,loreBraces
 syntax region  loreScript  matchgroup=loreStatement start="\<set\>" end=";" contains=loreStray,loreNumber,loreComment,loreMode
 syntax keyword loreMode    contained nodes plan auto top bottom guide

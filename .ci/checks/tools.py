@@ -18,6 +18,7 @@ TWO_LOADED = b"load A := { record { a 1, a { item 2, item true } }, record { 'a 
 ENDS = (
     ("bin/guide-dot where no guide is", ["bin/guide-dot"], b"ok objects 1 edges 0 nodes 1\n", 1),
     ("bin/guide-dot for a wrong argument", ["bin/guide-dot", "x"], b"", 2),
+    ("bin/blocks-dot where no blocks are", ["bin/blocks-dot"], b"ok objects 1 edges 0 nodes 1\n", 1),
     ("bin/json-lore for what is no JSON", ["bin/json-lore", "A"], b'{"a": 01}', 1),
     ("bin/json-lore for a key that is no label", ["bin/json-lore", "A"], b'{"": 1}', 1),
     ("bin/json-lore without an argument", ["bin/json-lore"], b"", 2),
@@ -34,7 +35,8 @@ def examples(tally, top):
     """The pictures and loads among the examples, made again. A script says in a comment which command wrote its load."""
     folder = pathlib.Path(top, "examples")
     for picture in sorted(folder.rglob("*.dot")):
-        ran = run(["bin/guide-dot"], picture.with_suffix(".out").read_bytes())
+        tool = "bin/blocks-dot" if b"digraph blocks" in picture.read_bytes() else "bin/guide-dot"
+        ran = run([tool], picture.with_suffix(".out").read_bytes())
         tally.check(f"the picture {picture.relative_to(top)}", differing(ran.stdout, picture.read_bytes()))
     written = set()
     for script in sorted(folder.rglob("*.lore")):

@@ -21,7 +21,7 @@ from dataclasses import dataclass, field
 
 MANUAL = pathlib.Path(__file__).resolve().parents[2] / "docs" / "LANGUAGE.md"
 FENCE = "```"
-LAST_LINE = re.compile(r"(ok objects|rows|nodes|labels|sample|changes|plan|refused) .*")
+LAST_LINE = re.compile(r"(ok objects|rows|nodes|labels|sample|plan|changes|blocks|refused) .*")
 
 
 @dataclass

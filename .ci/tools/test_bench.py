@@ -15,9 +15,50 @@ from faults_lib import ends, memory  # noqa: E402
 from faults_lib.library import Ran  # noqa: E402
 from faults_lib.scripts import MARK, Script, ends_of, marked  # noqa: E402
 from fuzz_lib import grammar  # noqa: E402
+from fuzz_lib.properties import between  # noqa: E402
 from fuzz_lib.shrinking import shrunk  # noqa: E402
 from hostile_lib import cases  # noqa: E402
 from lore_lib import lexer  # noqa: E402
+
+# A ring of two objects with a value, and what it is once the value is another, the ring is open, and names and an object came.
+RING = b"""oem 2
+next 4
+nodes 4096
+plan auto
+label next
+label v
+name G &1
+name H &2
+object &1 {}
+object &2 {}
+object &3 5
+edge &1 next &2
+edge &2 next &1
+edge &2 v &3
+end
+"""
+OPEN = b"""oem 2
+next 11
+nodes 4096
+plan auto
+label next
+label v
+label 'a b'
+name B &10
+name G &1
+name H &1
+object &1 {}
+object &2 {}
+object &3 6
+object &10 "a b"
+edge &1 next &2
+edge &1 v &10
+edge &1 'a b' &10
+edge &2 v &3
+end
+"""
+DIFFERING = (b"+ name B &10\n- name H &2\n+ name H &1\n- object &3 5\n+ object &3 6\n+ object &10 \"a b\"\n+ edge &1 v &10\n"
+             b"+ edge &1 'a b' &10\n- edge &2 next &1\nchanges 9\n")
 
 LOADED = Script("two loads", b"load A := 1; load B := 2;", b"one\ntwo\n", 0, (12, 25), (0, 4, 8, 8))
 
@@ -73,7 +114,18 @@ class Fuzz(unittest.TestCase):
             self.assertEqual(grammar.script(seed), grammar.script(seed))
         kinds = {each.kind for seed in range(150) for each in grammar.script(seed)}
         self.assertLessEqual({"load", "name", "unname", "update", "select", "explain", "guide", "browse", "sample", "set", "dump",
-                              "restore", "generate", "history", "at", "changes"}, kinds)
+                              "restore", "generate", "history", "at", "changes", "blocks", "watch", "unwatch", "show"}, kinds)
+
+    def test_statements_at_the_limits(self):
+        made = [grammar.Maker(random.Random(seed)).at_limit() for seed in range(400)]
+        tokens = {token for each in made for token in each}
+        self.assertLessEqual({'"' + "x" * 4_096 + '"', '"' + "x" * 4_097 + '"', "l" * 255, "l" * 256, "%" * 255, "%" * 256}, tokens)
+        for token, counts in (("not", (64, 65)), ("(", (64, 65)), ("{", (64, 65)), ("exists", (64, 65)), ("#", (64, 65)), (",", (7, 8))):
+            self.assertLessEqual({*counts}, {each.count(token) for each in made}, token)
+
+    def test_what_two_dumps_differ_in(self):
+        self.assertEqual(between(RING, OPEN), DIFFERING)
+        self.assertEqual(between(OPEN, OPEN), b"changes 0\n")
 
     def test_blanks_and_comments_leave_the_tokens(self):
         rng = random.Random(1)

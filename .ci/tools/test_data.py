@@ -620,7 +620,7 @@ class Manners(unittest.TestCase):
             self.assertNotIn(b"Traceback", run.stderr)
 
     def test_interrupt(self):
-        for tool, words in [*TOOLS.items(), ("guide-dot", [])]:
+        for tool, words in [*TOOLS.items(), ("guide-dot", []), ("blocks-dot", [])]:
             run = subprocess.Popen([BIN / tool, *words], stdin=subprocess.PIPE, stdout=subprocess.PIPE, stderr=subprocess.PIPE)
             run.stdin.write(b" " * 200000)      # more than a pipe holds: so the tool reads already
             run.stdin.flush()

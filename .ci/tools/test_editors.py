@@ -24,8 +24,8 @@ TOKEN = re.compile(r"""
     (?P<comment>--[^\n]*) | (?P<text>"(?:[^"\\]|\\.)*") | (?P<quoted>'(?:[^'\\]|\\.)*') | (?P<pathof>path-of(?![A-Za-z0-9_%]))
   | (?P<number>-?[0-9]+(?![A-Za-z0-9_%])) | (?P<local>&[0-9]+) | (?P<word>[A-Za-z0-9_%]+)
   | (?P<sign>:=|\+=|-=|==|!=|<=|>=|[=<>?*+|@,():.\#{};])""", re.VERBOSE | re.DOTALL)
-STATEMENT_WORDS = ("load name unname update select explain guide browse sample set dump restore generate history at changes"
-                   " nodes plan auto top bottom on off").split()
+STATEMENT_WORDS = ("load name unname update select explain guide browse sample set dump restore generate history at changes blocks"
+                   " watch unwatch show nodes plan auto top bottom on off").split()
 RESERVED = "select from where and or not exists for all in like true false".split()
 FLAGS = ("true", "false")
 # The scopes of VS Code and the groups of vim of each kind of token.
@@ -53,7 +53,9 @@ update A.true := false; load A := { true true, false &9 false, 'true' true, x
   false }; select A.false where true != A.true and A.x = false;
 update A.x-=B.y; set -- how many
   nodes 7; set plan bottom; history -- kept
-  on; at 0 select at.on from changes.history at where at.off = history; changes 0 1; history off;
+  on; at 0 select at.on from changes.history at where at.off = history; changes 0 1; history off; blocks; blocks select A.blocks where blocks = 1;
+watch watch := select A.on; show -- it
+  show; unwatch at;
 restore oem 2 next 4 nodes 7 plan top label 'a b' label select label true name Menu &1 -- a name
 object &1 {} object &2 "x -- y" object &3 true edge &1 'a b' &2 edge &1 select &2 edge &1 true &3 end;
 """

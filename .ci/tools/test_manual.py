@@ -29,7 +29,7 @@ SECONDS = 60
 LOAD = 'load A := { r { t "x" } };'
 ONE_SCREEN = "On one screen"
 # Statements of the page for one screen that leave the database as it is.
-LEAVES_ALL = re.compile(r"(select|explain|guide|browse|sample|dump|set plan auto|restore|history|at|changes)\b")
+LEAVES_ALL = re.compile(r"(select|explain|guide|browse|sample|dump|set plan auto|restore|history|at|changes|blocks|watch|unwatch|show)\b")
 
 # What the constants of the sources, and those of the tools, stand for among the limits of the manual.
 LIMITS = {
@@ -40,7 +40,7 @@ LIMITS = {
     "ITEMS": "items of a select", "PATH_LABELS": "labels of all words in an answer", "CHUNK_BYTES": "bytes of a statement",
     "SCRIPT_BYTES": "bytes of a script", "NESTING": "levels of braces", "SAMPLE": "the number of `sample`",
     "SEED": "the seed of `generate`", "MOST_PERSONS": "the persons of `generate`", "FEWEST_PERSONS": "the persons of `generate`",
-    "MOMENTS": "the number of a moment", "HISTORY_WEIGHT": "what a history [weighs](#what-a-history-holds)",
+    "MOMENTS": "the number of a moment", "HISTORY_WEIGHT": "what a history [weighs](#what-a-history-holds)", "VIEWS": "views",
 }
 TOOL_LIMITS = {
     "OBJECTS": "objects of a database", "EDGES": "edges", "LABELS": "different labels", "NAMES": "names",
@@ -49,11 +49,11 @@ TOOL_LIMITS = {
     "STATEMENT_BYTES": "bytes of a statement", "SCRIPT_BYTES": "bytes of a script", "ROWS": "rows of an answer",
     "LEAVES": "leaves of all paths of a select", "ITEMS": "items of a select", "SAMPLE": "the number of `sample`",
     "WORD_LABELS": "labels of all words in an answer", "OIDS": "the number of an object",
+    "MOMENTS": "the number of a moment", "HISTORY_WEIGHT": "what a history [weighs](#what-a-history-holds)", "VIEWS": "views",
     "PERSONS_LEAST": "the persons of `generate`", "PERSONS_MOST": "the persons of `generate`", "SEEDS": "the seed of `generate`",
-    "MOMENTS": "the number of a moment",
 }
 # Those of what the sources begin and the manual doesn't have yet.
-NOT_YET = ("VIEWS",)
+NOT_YET = ()
 ONE_MORE = ("NEXT_NUMBER", "NEXT_OID")
 
 
@@ -124,6 +124,8 @@ def slips(most):
         27: ["history on;" + "update A.r.t := 1;" * (most["the number of a moment"] + 1)],
         28: ["at 0 select A;", "changes 0 1;"],
         29: ["history on; update A.r := 1; at 1 select A;", "history on; update A.r.t := 1; changes 1 0;"],
+        30: ["".join(f"watch v{number} := select A;" for number in range(most["views"] + 1))],
+        31: ["show V;", "unwatch A;", "watch V := select A; unwatch V; show V;"],
     }
 
 
@@ -194,7 +196,7 @@ class Pages(unittest.TestCase):
 
     def test_refusals_are_numbered_and_whole(self):
         rows = table_rows(self.text, "Refusals")
-        self.assertEqual([row[0] for row in rows], [str(number) for number in range(1, 30)])
+        self.assertEqual([row[0] for row in rows], [str(number) for number in range(1, 32)])
         for row in rows:
             self.assertEqual(len(row), 5)
             self.assertTrue(all(row))

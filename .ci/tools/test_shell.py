@@ -163,6 +163,8 @@ class Scripts(Folder):
         self.assertEqual(self.talk(b".mode lines\n" + script).stdout.split(b"\n")[1], b'&3 "road" | &4 900')
         past = b"history on;\nunname Shop;\nat 0 select X.price from Shop.bike X;\n"
         self.assertEqual(self.talk(b".mode csv\n" + SHOP + past).stdout, b"X.price\n900\n1200\n")
+        kept = b"watch V := select X.kind, X.price from Shop.bike X;\n.mode csv\nshow V;\n"
+        self.assertEqual(self.talk(SHOP + kept).stdout.split(b"\n", 2)[2], b"X.kind,X.price\nroad,900\ncargo,1200\n")
         self.assertEqual(self.talk(b".mode xml\n").returncode, 1)
 
     def test_read_timer_and_stop(self):
@@ -504,7 +506,8 @@ class Files(Folder):
         done = self.talk(b"load A := 1;\n.open! shop.oem\nselect Shop;\n")
         self.assertEqual((done.returncode, b"rows 1" in done.stdout), (0, True))
         self.assertIn(b"weren't saved", self.talk(b"load A := 1;\n", "shop.oem").stderr)
-        self.assertNotIn(b"weren't saved", self.talk(b"-- none;\n history on;\nchanges 0 0;\nhistory off;\n", "shop.oem").stderr)
+        kept = b"-- none;\n history on;\nchanges 0 0;\nhistory off;\nwatch V := select Shop;\nshow V;\nunwatch V;\n"
+        self.assertNotIn(b"weren't saved", self.talk(kept, "shop.oem").stderr)
 
 
 @NEEDS_PROGRAM

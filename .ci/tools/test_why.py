@@ -360,7 +360,7 @@ class Tool(unittest.TestCase):
         self.assertEqual(self.run_why((HERE,)).returncode, 3)
         self.assertEqual(self.run_why(program="/nowhere").returncode, 4)
         done = self.run_why(("--list",))
-        self.assertEqual((done.returncode, done.stdout.count(b"Mostly because")), (0, 29))
+        self.assertEqual((done.returncode, done.stdout.count(b"Mostly because")), (0, 31))
         self.assertEqual(self.run_why(("--help",)).returncode, 0)
 
     def test_program_that_ends(self):

@@ -9,7 +9,8 @@ OPERATORS = ("=", "!=", "<", "<=", ">", ">=", "like")
 ATOMS = ("0", "1", "2", "-1", "9", "10", '"9"', '"a"', '"10"', '"a b"', '"01"', '"-1"', '""', '"a%"', '"%1"', '"_"', '"é"', '"\\"\\n"',
          "true", "false", '"true"', "9223372036854775807", "-9223372036854775808", '"9223372036854775808"')
 MODES = ("auto", "top", "bottom", "guide")
-UNBUILT = ("blocks", "blocks select A.a", "watch V := select A", "unwatch V", "show V", "history")
+NO_FORMS = ("history", "blocks x", "watch V", "watch V := A", "show", "unwatch", "at select A")
+VIEWS = ("V", "W", "A", "from_here")
 MOMENTS = (0, 0, 1, 2, 3, 5)
 SEPARATORS = (" ", "  ", "\n", "\t", "\r\n", " -- ; ' \"\n", "--\n", " --;--\n\t")
 ALONE = frozenset("{},()")
@@ -50,6 +51,11 @@ class Scope:
     def variable(self):
         self.made += 1
         return f"V{self.made}"
+
+
+def listed(parts):
+    """The tokens of parts with commas between them."""
+    return [token for place, part in enumerate(parts) for token in ([","] if place else []) + part]
 
 
 class Maker:
@@ -184,14 +190,14 @@ class Maker:
     def tail(self, scope, ranges):
         return ranges + (["where", *self.conditions(scope, 2)] if self.chance(0.55) else [])
 
-    def select(self):
-        """The tokens of a select."""
+    def select(self, words=True):
+        """The tokens of a select, maybe with words among its items."""
         scope = Scope()
         ranges = self.ranges(scope)
         tokens = ["select"]
         for place in range(self.rng.choice((1, 1, 1, 2, 2, 3))):
             tokens += [","] if place else []
-            if scope.words and self.chance(0.4):
+            if words and scope.words and self.chance(0.4):
                 tokens += ["path-of", "(", self.rng.choice(scope.words), ")"]
             else:
                 tokens += self.path(scope, (0, 0, 1, 1, 2))
@@ -213,6 +219,8 @@ class Maker:
         return ["update", *target, *what, *self.tail(scope, ranges)]
 
     def generated(self):
+        if self.chance(0.1):
+            return ["generate", *self.rng.choice((("0", "19"), ("-1", "20"), ("2147483648", "20"), ("7", "10001")))]
         self.large = True
         self.known += ["People"] * 3
         return ["generate", str(self.rng.randint(0, 99)), str(self.rng.randint(20, 24))]
@@ -220,12 +228,33 @@ class Maker:
     def restored(self):
         """The tokens of a small dump text, whole or with a part left out."""
         self.known.append("A")
-        tokens = (f"restore oem 2 next {self.rng.randint(6, 99)} nodes {self.rng.choice((4096, 9, 2))} plan auto label a label b "
-                  "name A &1 object &1 {} object &2 5 object &3 {} object &4 \"x\" "
+        version, value = self.rng.choice((2, 2, 2, 1)), self.rng.choice(("5", "5", "true"))
+        tokens = (f"restore oem {version} next {self.rng.randint(6, 99)} nodes {self.rng.choice((4096, 9, 2))} plan auto "
+                  f"label a label b name A &1 object &1 {{}} object &2 {value} object &3 {{}} object &4 \"x\" "
                   "edge &1 a &2 edge &1 a &3 edge &3 b &1 edge &3 b &4 end").replace("{}", "{ }").split()
         if self.chance(0.3):
             del tokens[self.rng.randrange(len(tokens))]
         return tokens
+
+    def at_limit(self):
+        """The tokens of a statement that stands at a limit of the language, or one past it."""
+        past, name = int(self.chance(0.5)), self.name()
+        few, many, step = 8 + past, 64 + past, self.rng.choice(((".", "a", "?"), (".", "#"), (".", "a")))
+        chain = [["exists", f"V{i}", "in", f"V{i - 1}" if i else name, ".", "a", ":"] for i in range(many)]
+        return self.rng.choice((
+            ["select", "V0", "from", *listed([name, ".", self.label(), f"V{i}"] for i in range(few))],
+            ["select", *listed([name] for _ in range(few))],
+            ["select", name, *step * many],
+            ["select", name, "where", *["("] * many, name, "=", "1", *[")"] * many],
+            ["select", name, "where", *["not"] * many, name, ".", "a", "=", "1"],
+            ["select", name, "where", *(token for part in chain for token in part), "1", "=", "1"],
+            ["select", name, *["("] * many, ".", "a", *[")"] * many],
+            ["load", self.bound(), ":=", *["{", "a"] * many, "1", *["}"] * many],
+            ["load", self.bound(), ":=", '"' + "x" * (4_096 + past) + '"'],
+            ["load", self.bound(), ":=", "{", "l" * (255 + past), "1", "}"],
+            ["update", name, ".", "'" + "q" * (255 + past) + "'", "+=", "1"],
+            ["select", name, ".", "%" * (255 + past)],
+        ))
 
     def broken(self):
         """The tokens of a statement with one taken out, doubled or put in."""
@@ -261,7 +290,13 @@ class Maker:
             (3, lambda: ["history", rng.choice(("on", "on", "off"))]),
             (5, lambda: ["at", str(rng.choice(MOMENTS)), *self.select()]),
             (3, lambda: ["changes", str(rng.choice(MOMENTS)), str(rng.choice(MOMENTS))]),
-            (0.6, lambda: rng.choice(UNBUILT).split()),
+            (1.5, lambda: ["blocks"]),
+            (4, lambda: ["blocks", *self.select()]),
+            (4, lambda: ["watch", rng.choice(VIEWS), ":=", *self.select(self.chance(0.05))]),
+            (1, lambda: ["unwatch", rng.choice(VIEWS)]),
+            (5, lambda: ["show", rng.choice(VIEWS)]),
+            (0.6, lambda: rng.choice(NO_FORMS).split()),
+            (0.8, self.at_limit),
         )
         return rng.choices([make for _, make in kinds], [weight for weight, _ in kinds])[0]()
 
@@ -280,4 +315,5 @@ class Maker:
 
 
 def script(seed):
+    """The statements of a script that this number stands for."""
     return Maker(random.Random(seed)).script()

@@ -15,7 +15,8 @@ from fuzz_lib.grammar import MODES, Statement, spread  # noqa: E402
 PLAN_LINE = re.compile(rb"^plan (auto|top|bottom|guide)$", re.M)
 DUMP_BEGINS = b"oem 2\n"
 GUIDE_LINE = re.compile(rb"^(.*) (\d+)$")
-ASKING = ("select", "explain", "guide", "browse", "sample", "dump", "at", "changes")
+ASKING = ("select", "explain", "guide", "browse", "sample", "dump", "at", "changes", "blocks", "show")
+CHANGING = ("load", "name", "unname", "update", "generate")
 ASKED = 30  # paths of a guide that are asked
 LEAVES = 60  # a path of a guide with more labels isn't asked
 
@@ -200,5 +201,93 @@ def as_it_was(runner, _printer, statements):
     return None
 
 
+def facts_of(dump):
+    """The names, objects and edges of a dump, and the numbers of its labels."""
+    lines = dump.split(b"\n")
+    labels = [line[6:] for line in lines if line.startswith(b"label ")]
+    return ({line for line in lines if line.startswith((b"name ", b"object ", b"edge "))},
+            {label: number for number, label in enumerate(labels)})
+
+
+def place_of(fact, labels):
+    """Where a fact stands in a dump."""
+    kind, _, rest = fact.partition(b" ")
+    first, _, rest = rest.partition(b" ")
+    if kind == b"name":
+        return 0, first
+    if kind == b"object":
+        return 1, int(first[1:])
+    label, _, child = rest.rpartition(b" ")
+    return 2, int(first[1:]), labels[label], int(child[1:])
+
+
+def between(before, after):
+    """What `changes` has to say of two moments with these dumps, told by the dumps alone."""
+    (old, _), (new, labels) = facts_of(before), facts_of(after)
+    signed = [(b"-", fact) for fact in old - new] + [(b"+", fact) for fact in new - old]
+    signed.sort(key=lambda each: (*place_of(each[1], labels), each[0] == b"+"))
+    return b"".join(b"%s %s\n" % each for each in signed) + b"changes %d\n" % len(signed)
+
+
+def with_history(statements):
+    """The statements with a history that begins behind the first of them, and the place where it does."""
+    kept = [each for each in statements if each.kind != "history"]
+    place = len(kept) // 3
+    return kept[:place] + [Statement("history", ["history", "on"])] + kept[place:], place
+
+
+def moments_of(runner, statements, place):
+    """The dumps of the moments of a history that begins at this place, or None where replies can't be told apart."""
+    asked = [each for one in statements for each in (one, Statement("dump", ["dump"]))]
+    replies = replies_of(runner, asked)
+    if replies is None or not replies[2 * place].startswith(b"ok "):
+        return None
+    dumps = [replies[2 * place + 1]]
+    for at in range(place + 1, len(statements)):
+        if statements[at].kind in CHANGING and replies[2 * at].startswith(b"ok "):
+            dumps.append(replies[2 * at + 1])
+    return dumps
+
+
+def as_dumped(runner, _printer, statements):
+    """What `changes` tells of two moments is what their dumps differ in: each and the next, and each and the last."""
+    kept, place = with_history(statements)
+    dumps = moments_of(runner, kept, place)
+    if dumps is None:
+        return None
+    last = len(dumps) - 1
+    pairs = sorted({(i, j) for i in range(last + 1) for j in (i, min(i + 1, last), last)})
+    asked = b"".join(b"%s changes %d %d;" % (MARK, *pair) for pair in pairs)
+    told = runner.run(text_of(kept) + asked).written.split(MARKED)[1:]
+    for (i, j), reply in zip(pairs, told):
+        if reply != between(dumps[i], dumps[j]):
+            return differing(reply, between(dumps[i], dumps[j]), f"changes {i} {j} and the dumps of these moments")
+    return None if len(told) == len(pairs) else "not all questions about moments are replied to"
+
+
+def by_blocks(runner, _printer, statements):
+    """Selects answer the same by blocks, and selects by blocks the same without them."""
+    turned = {"select": lambda each: Statement("blocks", ["blocks", *each.tokens]),
+              "blocks": lambda each: Statement("select", each.tokens[1:]) if each.tokens[1:] else each}
+    others = [turned.get(each.kind, lambda it: it)(each) for each in statements]
+    return differing(runner.run(text_of(others)).written, runner.run(text_of(statements)).written, "selects by blocks and without")
+
+
+def as_selected(runner, _printer, statements):
+    """Behind each statement a view that is shown answers what its select answers."""
+    replies = replies_of(runner, statements)
+    if replies is None:
+        return "replies with statements between them that are refused are others"
+    views, shown, asked = {}, [], []
+    for each, reply in zip(statements, replies):
+        if each.kind == "watch" and reply.startswith(b"ok "):
+            views[each.tokens[1]] = each.tokens[3:]
+        elif each.kind == "unwatch" and reply.startswith(b"ok "):
+            views.pop(each.tokens[1])
+        shown += [each, *(Statement("show", ["show", name]) for name in views)]
+        asked += [each, *(Statement("select", tokens) for tokens in views.values())]
+    return differing(runner.run(text_of(shown)).written, runner.run(text_of(asked)).written, "views that are shown and their selects")
+
+
 PROPERTIES = (ends_well, in_pieces, in_modes, through_dump, printed, as_guided, with_blanks, without_refused, without_asked,
-              in_halves, as_it_was)
+              in_halves, as_it_was, as_dumped, by_blocks, as_selected)

@@ -7,7 +7,8 @@ import sys
 HERE = os.path.dirname(os.path.abspath(__file__))
 sys.path.insert(0, os.path.join(HERE, "..", "..", ".ci"))
 
-from large_scripts import (CELLS, LABEL_BYTES, LABELS, LEAVES, LEVELS, NAMES, NODES, OBJECTS, START_NODES,  # noqa: E402
+from large import heaviest_case  # noqa: E402
+from large_scripts import (CELLS, LABEL_BYTES, LABELS, LEAVES, LEVELS, MEMBERS, NAMES, NODES, OBJECTS, START_NODES,  # noqa: E402
                            STATEMENT_BYTES, TEXT_BYTES, Case, braces, doubled, head, ok, refused, rows)
 
 RING = 60_000
@@ -38,10 +39,11 @@ def ring(members):
 
 def ring_cases():
     loaded, all_of_it = ok(RING + 1, 2 * RING, 2), rows(f"&{i} {{}}" for i in range(2, RING + 2))
-    path = "G.m" + ".#" * (LEAVES - 1)
+    path = "G" + ".#" * LEAVES
     for mode in ("top", "guide"):
-        yield Case(f"a path with 63 times `.#` round a ring of 60,000, plan {mode}",
-                   [ring(RING), f"set plan {mode};", f"select {path};"], 0, loaded * 2 + all_of_it)
+        yield Case(f"a path with 64 times `.#` round a ring of 60,000, plan {mode}",
+                   [ring(RING), f"set plan {mode};", f"select {path};"], 0,
+                   loaded * 2 + rows(f"&{i} {{}}" for i in range(1, RING + 2)))
     stars = "(" * 60 + ".n" + ")*" * 60
     yield Case("60 stars one in another, round the ring", [ring(RING), "set plan top;", f"select G.m{stars};"], 0,
                loaded * 2 + all_of_it)
@@ -207,8 +209,28 @@ def guide_cases():
                state + (refused("GuideNodes") + refused("GuideCells")) * turns)
 
 
+def moment_cases():
+    turns, asked = 30_000, 1_000
+    state, more = ok(2, 1, 2), ok(2, 2, 2)
+    yield Case("an edge that comes and goes 30,000 times, and a thousand questions about the first moment",
+               ["load A := { a 1 }; history on;", *(["update A.b += A.a;", "update A.b -= A.a;"] * turns),
+                *(["at 0 select A.a;"] * asked)], 0, state * 2 + (more + state) * turns + rows(["&2 1"]) * asked)
+    one = ok(1, 0, 1)
+    yield Case("60,000 values of one object, and a thousand questions about the first one",
+               ["load A := 0; history on;", *(f"update A := {i};" for i in range(1, 2 * turns + 1)), *(["at 0 select A;"] * asked)], 0,
+               one * (2 * turns + 2) + rows(["&1 0"]) * asked)
+    yield Case("a name that comes and goes 30,000 times, and a thousand questions about a moment between",
+               ["load A := 0; history on;", *(["name N := A;", "unname N;"] * turns), *([f"at {turns - 1} select N;"] * asked)], 0,
+               one * (2 * turns + 2) + rows(["&1 0"]) * asked)
+    full = ok(OBJECTS, MEMBERS, 2)
+    yield Case("what differs between two moments of as many objects as there may be, a thousand times",
+               [braces("A", ["a 0"] * MEMBERS), "history on; name B := A;", *(["changes 0 1;"] * asked)], 0,
+               full * 3 + "+ name B &1\nchanges 1\n" * asked)
+    yield heaviest_case()
+
+
 def cases():
     """All cases, one after another, since each may hold many megabytes."""
     for group in [graph_cases, copy_cases, ring_cases, condition_cases, open_cases, dump_cases, local_cases,
-                  object_cases, word_cases, guide_cases]:
+                  object_cases, word_cases, guide_cases, moment_cases]:
         yield from group()

@@ -188,7 +188,7 @@ def separated(at):
 
 
 STATEMENTS = ("load", "select", "update", "unname", "explain", "guide", "dump", "browse", "sample", "restore", "generate", "set",
-              "name", "history", "at", "changes")
+              "name", "history", "at", "changes", "blocks", "watch", "unwatch", "show")
 SIGN = (b"=", b"!=", b"<", b"<=", b">", b">=", b"like")
 REPEATING = (b"?", b"*", b"+")
 VALUED = ("text", "number")

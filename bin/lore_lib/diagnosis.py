@@ -24,7 +24,7 @@ CALLED = {NAME: "a name", "quoted label": "a label in quotes", "identifier": "a 
           "number": "a number", "local": "a local, as &1", "text": "a text", END: "`;`"}
 SHOWN = 24
 FEW = 3
-WITH_VARIABLES = (b"select", b"explain", b"update", b"at")
+WITH_VARIABLES = (b"select", b"explain", b"update", b"at", b"blocks", b"watch")
 
 
 @dataclass
@@ -382,6 +382,11 @@ def moment_range(found, plain, probe):
     return plain
 
 
+def unknown_view(found, plain, probe):
+    """The name that no view has."""
+    return at(found[1], plain, f"no view has the name {excerpt(found[1].text)}")
+
+
 def dump_lines(found):
     """The tokens of a dump text as the lines that a dump has, with the first token of each."""
     sizes = {"oem": 2, "next": 2, "nodes": 2, "plan": 2, "label": 2, "name": 3, "edge": 4, "end": 1}
@@ -429,4 +434,5 @@ SPECIAL = {
     refusals.LIMIT_RANGE: limit_range,
     refusals.BAD_RESTORE: bad_restore,
     refusals.MOMENT_RANGE: moment_range,
+    refusals.UNKNOWN_VIEW: unknown_view,
 }

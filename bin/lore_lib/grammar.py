@@ -42,6 +42,11 @@ statement = "load" name ":=" literal
           | "history" ( "on" | "off" )
           | "at" number select
           | "changes" number number
+          | "blocks"
+          | "blocks" select
+          | "watch" name ":=" "select" path { "," path } tail
+          | "unwatch" name
+          | "show" name
 mode      = "auto" | "top" | "bottom" | "guide"
 
 select = "select" item { "," item } tail

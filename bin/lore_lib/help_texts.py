@@ -25,7 +25,11 @@ STATEMENTS = {
     "history": ("history on, history off", "keeps the database as it was after each change, from moment 0 on, or forgets it",
                 "history on;"),
     "at": ("at NUMBER select ..", "a select over the database as it was at a moment", "at 0 select Guide.restaurant.name;"),
+    "blocks": ("blocks, blocks select ..", "objects that no path tells apart, or a select by these", "blocks;"),
     "changes": ("changes NUMBER NUMBER", "what differs between two moments", "changes 0 1;"),
+    "watch": ("watch VIEW := select ..", "keeps a select with its rows", "watch Names := select Guide.restaurant.name;"),
+    "unwatch": ("unwatch VIEW", "forgets a kept select", "unwatch Names;"),
+    "show": ("show VIEW", "what a kept select answers now", "show Names;"),
 }
 COMMANDS = {
     ".help": (".help [STATEMENT|.COMMAND|NUMBER]", "this, a statement, a command, or a refusal by its number"),

@@ -29,6 +29,7 @@ PERSONS_LEAST = 20
 PERSONS_MOST = 10000
 SCRIPT_BYTES = 1073741824
 MOMENTS = 65536
+VIEWS = 64
 FLAGS = ("false", "true")
 RESERVED = frozenset("select from where and or not exists for all in like true false".split())
 

@@ -1,10 +1,14 @@
 """How lore-talk prints: replies go to standard output, all else to standard error, and rows as the mode says."""
 import os
+import re
 
 from lore_lib.lexer import tokens
 from lore_lib.places import visible
 from lore_lib.replies import read_rows
 from lore_lib.rows_out import MODES, heads
+
+
+WATCHING = re.compile(rb"(?:\s|--[^\n]*\n)*watch\b")  # a select is kept under a name
 
 
 class Stop(Exception):
@@ -46,9 +50,13 @@ class Output:
 
     def __init__(self):
         self.mode = "lines"
+        self.views = {}  # the heads of the select that each view keeps
 
     def reply(self, chunk, reply):
         """The reply to a statement. Where rows are to be read by another program, no other reply is put among them."""
+        if reply.startswith(b"ok ") and WATCHING.match(chunk.data):
+            found, _ = tokens(chunk.data)
+            self.views[found[1].text] = heads(chunk.data, found)
         text = self.rows(chunk, reply) if self.mode != "lines" and reply.endswith(b"\n") else None
         if text is not None:
             out(text.encode())
@@ -65,9 +73,11 @@ class Output:
     def rows(self, chunk, reply):
         """The rows of a reply in their mode, None where it has none."""
         found, _ = tokens(chunk.data)
-        if not found or found[0].text not in (b"select", b"at", b"sample"):
+        if not found or found[0].text not in (b"select", b"at", b"blocks", b"sample", b"show") or [it.text for it in found] == [b"blocks"]:
             return None
-        if found[0].text != b"sample":
+        if found[0].text == b"show":
+            names = self.views[found[1].text]
+        elif found[0].text != b"sample":
             names = heads(chunk.data, found)
         else:
             names = [chunk.data[found[1].start:found[-2].end].decode()]

@@ -7,7 +7,7 @@ BAD_TOKEN, REAL_REFUSED, NUMBER_RANGE, TEXT_TOO_LONG, SYNTAX, UNFINISHED = range
 UNKNOWN_NAME, UNKNOWN_VARIABLE, DUPLICATE_VARIABLE, TOO_MANY_RANGES, DUPLICATE_LOCAL, UNDEFINED_LOCAL = range(7, 13)
 TOO_MANY_ROWS, NOT_ONE, ATOMIC_PARENT, HAS_CHILDREN, OIDS_SPENT, TOO_MANY_LABELS, TOO_MANY_NAMES = range(13, 20)
 TOO_MANY_OBJECTS, TOO_MANY_EDGES, GUIDE_NODES, LIMIT_RANGE, NOT_FRESH, BAD_RESTORE, GUIDE_CELLS = range(20, 27)
-HISTORY_FULL, NO_HISTORY, MOMENT_RANGE = range(27, 30)
+HISTORY_FULL, NO_HISTORY, MOMENT_RANGE, TOO_MANY_VIEWS, UNKNOWN_VIEW = range(27, 32)
 
 
 @dataclass(frozen=True)
@@ -91,6 +91,8 @@ ALL = [Refusal(*row) for row in (
     (NO_HISTORY, "NoHistory", "no history is kept that could be asked", "`history on` is missing, or was refused"),
     (MOMENT_RANGE, "MomentRange", "there is no moment of the number, or the first number is above the second",
      "a change that was refused added no moment"),
+    (TOO_MANY_VIEWS, "TooManyViews", f"more than {limits.VIEWS} views would be kept", "views that nobody shows any more"),
+    (UNKNOWN_VIEW, "UnknownView", "no view has the name", "the name is mistyped, or its `watch` was refused"),
 )]
 BY_NUMBER = {refusal.number: refusal for refusal in ALL}
 BY_NAME = {refusal.name.lower(): refusal for refusal in ALL}

@@ -7,7 +7,7 @@ from dataclasses import dataclass, field
 from lore_lib.limits import RESERVED
 
 BINDING = (b":=", b"+=", b"-=")
-SELECTING = {b"select": 1, b"explain": 2, b"at": 3}  # where the items of a select begin
+SELECTING = {b"select": 1, b"explain": 2, b"at": 3, b"blocks": 2, b"watch": 4}  # where the items of a select begin
 
 
 @dataclass

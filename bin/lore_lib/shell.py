@@ -13,7 +13,7 @@ from lore_lib.session import Ended, Session, refusal_of
 from lore_lib.telling import told
 from lore_lib.tool import Fault
 
-KEEPING = re.compile(rb"(?:\s|--[^\n]*\n)*history\b")  # a history is kept, or none: the database stays as it is
+KEEPING = re.compile(rb"(?:\s|--[^\n]*\n)*(?:history|watch|unwatch)\b")  # of a history or a view: the database stays as it is
 
 
 class Shell:

@@ -1,6 +1,6 @@
 -- What a history answers that is asked, and what it is refused for.
-use Rattle.std.proofs.Common.{◌≡◌, ℕ, ◌≤◌, ◌⊎◌, inl, inr, List, [], ◌∷◌, Option, Some, None, refl, sym, ap, subst, ◌∙◌, arith}
-use Rattle.std.specs.Prelude.{ℤ, pos, ◌↔◌, MatchOption}
+use Rattle.std.proofs.Common.{◌≡◌, ℕ, ◌≤◌, inl, inr, List, Option, Some, None, refl, sym, ap, subst, ◌∙◌, arith}
+use Rattle.std.specs.Prelude.{ℤ, pos, ◌↔◌, Bool, MatchOption}
 use Rattle.std.specs.List.{slice_get}
 use Rattle.std.proofs.lemmas.Option.{same_Some}
 use Rattle.lore_base.specs.Databases.{Database}
@@ -11,14 +11,15 @@ use Rattle.lorel_trees.specs.Trees.{SelectTree, StatementTree, select}
 use Rattle.doem_history.specs.Moments.{Moment}
 use Rattle.doem_history.specs.Histories.{KeptHistory, moment_at, moments_of}
 use Rattle.statements.specs.Types.{Oid, Cell, Refusal}
-use Rattle.lore_db.specs.Types.{Reply, Rows, Past, Lines, Refused}
+use Rattle.lore_db.specs.Types.{Rows, Past, Lines, Refused}
 use Rattle.statements.specs.Types.refusals
 use Rattle.statements.specs.Pasts.{database_over}
 use Rattle.statements.specs.Statements.{Cause, cause_order, Executes}
 use Rattle.lore_db.specs.Changes.{AreChangeLines}
-use Rattle.lore_db.specs.States.{State, IsMoment, HasMoment, AreTwoMoments, database_at, AsksHistory, AsksNoMoment}
-use Rattle.lore_db.specs.States.{CauseAtMoment, IsRestore, AnswersAt, TellsChanges, PlainCause, StateCause, state_order, WouldBeFullAfter, WouldBeFull, Performs, CountsNoStep}
-use Rattle.lore_db.proofs.StateLaws.{of_none, of_some, of_kept, never_both, IsAdmitted, clear_all, told_plain, no_history}
+use Rattle.lore_db.specs.States.{State, IsMoment, HasMoment, AreTwoMoments, database_at, AsksNoMoment}
+use Rattle.lore_db.specs.States.{CauseAtMoment, IsRestore, AnswersAt, TellsChanges, PlainCause, StateCause, state_order, WouldBeFullAfter, WouldBeFull, Performs}
+use Rattle.lore_db.specs.States.{CountsNoStep}
+use Rattle.lore_db.proofs.StateLaws.{of_none, of_some, of_kept, never_both, IsAdmitted, HasViews, clear_all, told_plain, no_history}
 use Rattle.lore_db.proofs.MomentLaws.{is_moment}
 
 -- a number is that of one moment
@@ -30,11 +31,6 @@ pub one_moment : (moments : List Moment) (given : ℤ) (number other : ℕ) (mom
 one_moment moments given number other moment another h k =
     let same = one_number given number other h.0 k.0 in
     (same, same_Some moment another (sym h.1 ∙ ap (λ (n : ℕ). slice_get moments n) same ∙ k.1))
-
--- where no history is kept
-pub asked_none : (state : State) (statement : StatementTree) → AsksHistory statement → state.history ≡ None
-    → IsFirst (StateCause state statement) state_order refusals.NoHistory
-asked_none state statement asks none = inl (inl (asks, none), refl)
 
 module _ (state : State) (moments : List Moment) (kept : state.history ≡ Some moments) where
   -- where there are no such moments
@@ -61,12 +57,16 @@ module _ (state : State) (moments : List Moment) (kept : state.history ≡ Some 
       fresh = λ h. of_none state.history (λ all. IsRestore asked) (λ all restores. restores) h;
     }
 
+    -- views have no say in it
+    at_views : HasViews state asked
+    at_views = record { few = λ h. h; there = λ h. h }
+
     pub at_light : WouldBeFull state asked → ⊥
     at_light full = of_none state.history (WouldBeFullAfter state.db asked) (λ all found. found.1.changing) full
 
     -- it counts steps
-    pub at_counts : CountsNoStep state asked → ⊥
-    at_counts quiet =
+    pub at_counts : (blocked : Bool) (fresh : List (List ℕ)) → CountsNoStep (record { state = state; blocked = blocked; fresh = fresh }) asked → ⊥
+    at_counts blocked fresh quiet =
         let none : HasMoment moments given → ⊥ =
         subst (λ (o : Option (List Moment)). MatchOption o (Unit {0}) (λ all. HasMoment all given → ⊥)) kept quiet in
         none (number, moment, is)
@@ -91,7 +91,7 @@ module _ (state : State) (moments : List Moment) (kept : state.history ≡ Some 
     at_performs rows (inl (clear, does)) =
         let same = rows_of rows does.1.0 does.1.1 in
         inl (
-          clear_all state asked at_admitted (clear_same (Cause past (select query)) (PlainCause state asked) at_cause cause_order clear) at_light,
+          clear_all state asked at_admitted at_views (clear_same (Cause past (select query)) (PlainCause state asked) at_cause cause_order clear) at_light,
           (
             refl,
             of_some state.history (AnswersAt state.db given query (Past number rows)) moments kept (record {
@@ -125,7 +125,7 @@ module _ (state : State) (moments : List Moment) (kept : state.history ≡ Some 
             none = λ h. never_both state.history moments kept h.1;
             range = λ h. of_kept state.history (λ all. AsksNoMoment all telling) moments kept h two;
             fresh = λ h. of_none state.history (λ all. IsRestore telling) (λ all restores. restores) h;
-          }) uncaused (λ full. of_none state.history (WouldBeFullAfter state.db telling) (λ all found. found.1.changing) full),
+          }) (record { few = λ h. h; there = λ h. h }) uncaused (λ full. of_none state.history (WouldBeFullAfter state.db telling) (λ all found. found.1.changing) full),
           (refl, of_some state.history (TellsChanges state.db first last (Lines lines)) moments kept (record { two = two; lines = lines; are = are; replied = refl })),
         )
       where

@@ -17,7 +17,8 @@ use Rattle.statements.specs.declared.stops.Stop.{Stop}
 use Rattle.statements.specs.declared.stops.Stop.TheVariants as stop
 use Rattle.statements.proofs.BoundLaws.{unread_changing, counted_within}
 use Rattle.lore_db.specs.Types.{Reply, Refused}
-use Rattle.lore_db.specs.States.{State, StateCause, state_order, Performs, CountsNoStep, ReadsInState}
+use Rattle.lore_db.specs.States.{State, Kept, StateCause, state_order, Performs, CountsNoStep, ReadsInState}
+use Rattle.lore_db.specs.Freshness.{KeepsFresh}
 
 none_some : (refusal : Refusal) → None ≡ Some refusal → ⊥
 none_some refusal same = cc
@@ -41,11 +42,15 @@ module _ (state : State) (statement : StatementTree) (old now : ℕ) where
   planned_again (Ok value) first given h = tt
   planned_again (Err ended) first given h = subst StopsWithin (sym given) (planned_told (told first) h)
 
+  -- want of memory tells nothing
+  pub none_within : {T : Type 0} (result : Result T Stop) → IsErrAnd result (λ stop. told stop ≡ None) → IfErr result StopsWithin
+  none_within (Ok value) given = tt
+  none_within (Err ended) given = subst (λ (told : Option Refusal). IfSome told (λ refusal. Within (Refused refusal))) (sym given) tt
+
   module _ (reads : ListsUnread statement → ReadsWithinEffects state.db statement old now) where
     -- what was made
-    pub made_within : (after : Database) (result : Result Reply Stop) → IfOk result (Counts after) → IfOk result Within
-    made_within after (Err ended) counts = tt
-    made_within after (Ok reply) counts = λ unread. inl (counted_within state.db statement old now state.db refl after reply counts reads unread)
+    pub made_within : (after : Database) (reply : Reply) → Counts after reply → Within reply
+    made_within after reply counts = λ unread. inl (counted_within state.db statement old now state.db refl after reply counts reads unread)
 
     -- or would have made the history full
     full_told : (Full : Type 0) (told : Option Refusal) → (told ≡ None) ⊎ ((told ≡ Some refusals.HistoryFull) × Full)
@@ -54,10 +59,10 @@ module _ (state : State) (statement : StatementTree) (old now : ℕ) where
     full_told Full (Some refusal) (inl none) = absurd (none_some refusal (sym none))
     full_told Full (Some refusal) (inr h) = λ unread. inr (ap Refused (same_Some refusal refusals.HistoryFull h.0), reads unread)
 
-    pub full_within : (Full : Type 0) (result : Result Reply Stop) → IfErr result (λ stop. (told stop ≡ None) ⊎ ((told stop ≡ Some refusals.HistoryFull) × Full))
-        → IfErr result StopsWithin
-    full_within Full (Ok reply) h = tt
-    full_within Full (Err ended) h = full_told Full (told ended) h
+    pub full_within : (Full : Type 0) {T : Type 0} (result : Result T Stop) (first : Stop) → IsErrAnd result (λ stop. stop ≡ first)
+        → (told first ≡ None) ⊎ ((told first ≡ Some refusals.HistoryFull) × Full) → IfErr result StopsWithin
+    full_within Full (Ok value) first given h = tt
+    full_within Full (Err ended) first given h = subst StopsWithin (sym given) (full_told Full (told first) h)
 
   -- of another statement nothing is said
   module _ (still : IsChanging statement → ⊥) where
@@ -80,10 +85,11 @@ module _ (state : State) (statement : StatementTree) (old now : ℕ) where
   replied_within (Err (stop.Refused refusal)) result is bounded stopped = subst (λ (r : Result Reply NoMemory). IfOk r Within) (sym is) stopped
   replied_within (Err stop.NoMemory) result is bounded stopped = subst (λ (r : Result Reply NoMemory). IfOk r Within) (sym is.1) tt
 
--- what work on a statement ends with, over the state before it and the one after it, where so much was read
-pub record IsDone (before after : State) (statement : StatementTree) (old now : ℕ) (result : Result Reply Stop) : Type 0 where
-  pub ok : IfOk result (λ reply. Performs before statement reply after)
-  pub refused : IfErr result (λ stop. IsToldBy (StateCause before statement) state_order (told stop))
+-- what work on a statement ends with, over what is kept before it and after it, where so much was read
+pub record IsDone (before after : Kept) (statement : StatementTree) (old now : ℕ) (result : Result Reply Stop) : Type 0 where
+  pub ok : IfOk result (λ reply. Performs before.state statement reply after.state)
+  pub fresh : IfOk result (λ reply. KeepsFresh before statement reply after)
+  pub refused : IfErr result (λ stop. IsToldBy (StateCause before.state statement) state_order (told stop))
   pub uncounted : OnReply result (CountsNoStep before statement → now ≡ old)
-  pub bounded : IfOk result (Within before statement old now)
-  pub stopped : IfErr result (StopsWithin before statement old now)
+  pub bounded : IfOk result (Within before.state statement old now)
+  pub stopped : IfErr result (StopsWithin before.state statement old now)

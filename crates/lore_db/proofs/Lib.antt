@@ -5,3 +5,8 @@ pub mod MomentLaws
 pub mod AskLaws
 pub mod MergeLaws
 pub mod LineLaws
+pub mod BlockedLaws
+pub mod ViewingLaws
+pub mod KeptLaws
+pub mod StillLaws
+pub mod WatchLaws

@@ -1,13 +1,13 @@
 -- The lines of what differs between two moments, from a delta that leads from the one to the other.
-use Rattle.std.proofs.Common.{◌≡◌, ◌≢◌, ◌↔◌, ◌+◌, ◌<◌, ◌≤◌, List, [], ◌∷◌, ◌++◌, length, map, Some, Less, Greater, refl, ◌∙◌, ap, sym, subst, arith}
-use Rattle.std.specs.Prelude.{AllPairs, Contains, ℕ, get_or, codes, decimal}
+use Rattle.std.proofs.Common.{◌≡◌, ◌≢◌, ◌+◌, ◌<◌, ◌≤◌, List, [], ◌∷◌, ◌++◌, length, map, Some, Less, Greater, refl, ◌∙◌, ap, sym, subst, arith}
+use Rattle.std.specs.Prelude.{AllPairs, ℕ, get_or, codes, decimal}
 use Rattle.std.specs.List.{slice_get}
 use Rattle.std.specs.Cmp.{IsTotalOrder}
 use Rattle.std.proofs.lemmas.List.{append_assoc, append-nil, map-append, length-append, length-map}
 use Rattle.std.proofs.lemmas.Option.{slice_get-get_or}
 use Rattle.std.specs.declared.cmp.Ordering.{Ordering}
 use Rattle.lore_base.specs.Walks.{edge_cmp}
-use Rattle.lore_base.specs.Deltas.{IsOnlyIn, ListsOnlyIn, IsDelta}
+use Rattle.lore_base.specs.Deltas.{ListsOnlyIn, IsDelta}
 use Rattle.dump_text.specs.Dumps.{line_of, name_line, object_line, edge_line, spelled_edge}
 use Rattle.doem_history.specs.Types.{Delta}
 use Rattle.doem_history.specs.Facts.{name_order, object_order}

@@ -34,7 +34,7 @@ impl Db {
             let cause = StateCause self.now.state asked in
             IfErr result (λ stop. IsToldBy cause state_order (told stop)) }
         ensures uncounted { let asked = select_at moment (select_tree query.now) in
-            OnReply result (CountsNoStep self.now.state asked → steps.new ≡ steps.old) }
+            OnReply result (CountsNoStep self.now asked → steps.new ≡ steps.old) }
     {
         let history = self.kept()?;
         let Some(moment) = number_of(history, moment) else {

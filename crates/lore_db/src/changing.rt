@@ -12,7 +12,8 @@ ghost use Rattle.statements.specs.Stops.{told};
 ghost use Rattle.statements.specs.Bounds.{ListsUnread};
 ghost use Rattle.lore_db.specs.Types.{Refused};
 ghost use Rattle.lore_db.specs.States.{Performs, StateCause, state_order, CountsNoStep};
-ghost use Rattle.lore_db.specs.States.{present, ReadsInState};
+ghost use Rattle.lore_db.specs.States.{present, ReadsInState, blocked_then};
+ghost use Rattle.lore_db.specs.Freshness.{KeepsFresh};
 ghost use Rattle.lore_db.specs.inside.Kept.{kept_moments, moments_then, IsLast, IsFullWith};
 ghost use Rattle.lore_db.specs.inside.Kept.{AppendsTo, HasRoomFor};
 
@@ -21,7 +22,8 @@ use doem_history::{History, HistoryPlan};
 use lore_base::{Fault, NoMemory, Steps};
 use lore_store::{Prepared, Store};
 use lorel_trees::Statement;
-use statements::{Reply, Stop, counts, planned};
+use one_index::Blocks;
+use statements::{PlannedChange, Reply, Stop, counts, planned};
 use std::alloc::Global;
 use std::sync::ledger::Ledger;
 
@@ -29,8 +31,8 @@ impl Db {
     /// Makes the changes that a statement lists over the database before it, and answers how many
     /// objects, edges and nodes of the guide there are then. Where a history is kept, the moment after
     /// is appended to it, also where nothing differs; a history that would be full is refused
-    /// (`HistoryFull`). No step is counted for numbers out of range by which objects were to be
-    /// generated.
+    /// (`HistoryFull`). Blocks are kept no longer, and views that the change concerns are fresh no
+    /// longer. No step is counted for numbers out of range by which objects were to be generated.
     pub(crate) fn change<L: Ledger>(
         &mut self,
         alloc: Global,
@@ -41,10 +43,14 @@ impl Db {
         requires changing { IsChanging (statement_tree statement.now) }
         ensures ok { IfOk result (λ reply.
             Performs self.old.state (statement_tree statement.now) reply self.new.state) }
+        ensures fresh { IfOk result (λ reply.
+            KeepsFresh self.old (statement_tree statement.now) reply self.new) }
         ensures refused { let cause = StateCause self.old.state (statement_tree statement.now) in
             IfErr result (λ stop. IsToldBy cause state_order (told stop)) }
+        ensures blocked { IfOk result (λ reply. self.new.blocked
+            ≡ blocked_then self.old.blocked (statement_tree statement.now) reply) }
         ensures same { OnErr result (self.new ≡ self.old) }
-        ensures uncounted { CountsNoStep self.old.state (statement_tree statement.now)
+        ensures uncounted { CountsNoStep self.old (statement_tree statement.now)
             → steps.new ≡ steps.old }
         ensures bounded { let tree = statement_tree statement.now in
             IfOk result (λ reply. ListsUnread tree
@@ -53,15 +59,34 @@ impl Db {
             IfErr result (λ stop. IfSome (told stop) (λ refusal. ListsUnread tree
             → ReadsInState self.old.state tree (Refused refusal) steps.old steps.new)) }
     {
-        let prepared = planned(alloc, &self.store, statement, steps)?;
-        make(&mut self.store, &mut self.history, prepared)
+        let plan = planned(alloc, &self.store, statement, steps)?;
+        let PlannedChange {
+            prepared,
+            new_labels,
+        } = plan;
+        let marks = self
+            .views
+            .marks(prepared.delta(), self.store.labels(), &new_labels)?;
+        let reply = make(
+            &mut self.store,
+            &mut self.history,
+            &mut self.blocks,
+            prepared,
+        )?;
+        self.views.mark(&marks);
+        Ok(reply)
     }
 }
 
 // Makes a change that was prepared: the moment that it leads to is planned, and room is made for both,
-// before either is put in place. Answers what there is then. Nothing changes where the history would be
-// full, or memory is refused.
-fn make(store: &mut Store, history: &mut Option<History>, prepared: Prepared) -> Result<Reply, Stop>
+// before either is put in place. Blocks that are kept go, since they aren't those of what there is then.
+// Answers what that is. Nothing changes where the history would be full, or memory is refused.
+fn make(
+    store: &mut Store,
+    history: &mut Option<History>,
+    blocks: &mut Option<Blocks>,
+    prepared: Prepared,
+) -> Result<Reply, Stop>
     requires leads { LeadsOn store.old.db store.old.guide prepared }
     requires delta { IsDelta store.old.db.graph (database_then store.old.db prepared).graph
         prepared.graph.delta }
@@ -73,7 +98,9 @@ fn make(store: &mut Store, history: &mut Option<History>, prepared: Prepared) ->
     ensures light { let after = present (database_then store.old.db prepared) in
         OnOk result (¬ IsFullWith history.old after) }
     ensures counts { IfOk result (Counts store.new.db) }
+    ensures blocked { OnOk result (blocks.new ≡ None) }
     ensures same { OnErr result (store.new.db ≡ store.old.db) }
+    ensures same_blocks { OnErr result (blocks.new ≡ blocks.old) }
     ensures same_moments { OnErr result (kept_moments history.new ≡ kept_moments history.old) }
     ensures same_last { OnErr result (IsLast history.new (present store.new.db)) }
     ensures refused { let after = present (database_then store.old.db prepared) in
@@ -85,6 +112,7 @@ fn make(store: &mut Store, history: &mut Option<History>, prepared: Prepared) ->
     reserve_moment(history, &moment)?;
     store.commit(prepared);
     commit_moment(history, moment);
+    *blocks = None;
     Ok(counts(store))
 }
 

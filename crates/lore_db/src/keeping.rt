@@ -8,11 +8,12 @@ ghost use Rattle.doem_history.specs.Moments.{IsFull};
 ghost use Rattle.doem_history.specs.Histories.{moments_of};
 ghost use Rattle.statements.specs.Types.refusals;
 ghost use Rattle.statements.specs.Types.{Value as TheValue};
-ghost use Rattle.statements.specs.Forms.{IsChanging, IsOfHistory};
+ghost use Rattle.statements.specs.Forms.{IsChanging, IsOfSession, IsOfBlocks};
 ghost use Rattle.statements.specs.Stops.{told, OnReply};
 ghost use Rattle.lore_db.specs.States.{Performs, StateCause, state_order, CountsNoStep};
-ghost use Rattle.lore_db.specs.States.{IsRestore, present};
-ghost use Rattle.lore_db.specs.inside.Kept.{kept_moments};
+ghost use Rattle.lore_db.specs.States.{IsRestore, present, blocked_then};
+ghost use Rattle.lore_db.specs.Freshness.{KeepsFresh, IsRefused};
+ghost use Rattle.lore_db.specs.inside.Kept.{kept_moments, IsRestored};
 
 use crate::db::Db;
 use doem_history::History;
@@ -21,6 +22,7 @@ use lore_base::{Fault, NoMemory, ObjectList, Oid, Refusal, Steps, TryCopy, Value
 use lore_store::Store;
 use lorel_trees::Statement;
 use oem_graph::Graph;
+use one_index::Blocks;
 use statements::{Reply, Stop, all_edges, counts};
 use std::alloc::Global;
 use std::sync::ledger::Ledger;
@@ -35,11 +37,13 @@ impl Db {
     ) -> Result<Reply, Stop>
         ensures ok { IfOk result (λ reply.
             Performs self.old.state (keeping on) reply self.new.state) }
+        ensures fresh { IfOk result (λ reply. KeepsFresh self.old (keeping on) reply self.new) }
         ensures refused { IfErr result (λ stop.
             IsToldBy (StateCause self.old.state (keeping on)) state_order (told stop)) }
+        ensures blocked { self.new.blocked ≡ self.old.blocked }
         ensures same { OnErr result (self.new ≡ self.old) }
         ensures uncounted { OnReply result
-            (CountsNoStep self.old.state (keeping on) → steps.new ≡ steps.old) }
+            (CountsNoStep self.old (keeping on) → steps.new ≡ steps.old) }
     {
         if on {
             self.begin(alloc, steps)
@@ -54,8 +58,10 @@ impl Db {
     fn begin<L: Ledger>(&mut self, alloc: Global, steps: &mut Steps<L>) -> Result<Reply, Stop>
         ensures ok { IfOk result (λ reply.
             Performs self.old.state (keeping true) reply self.new.state) }
+        ensures fresh { IfOk result (λ reply. KeepsFresh self.old (keeping true) reply self.new) }
         ensures refused { IfErr result (λ stop.
             IsToldBy (StateCause self.old.state (keeping true)) state_order (told stop)) }
+        ensures blocked { self.new.blocked ≡ self.old.blocked }
         ensures same { OnErr result (self.new ≡ self.old) }
     {
         let history = begun(alloc, &self.store, steps)?;
@@ -65,14 +71,17 @@ impl Db {
 
     // Keeps no history from then on.
     fn end(&mut self) -> Reply
-        ensures { Performs self.old.state (keeping false) result self.new.state }
+        ensures ok { Performs self.old.state (keeping false) result self.new.state }
+        ensures blocked { self.new.blocked ≡ self.old.blocked }
+        ensures fresh { KeepsFresh self.old (keeping false) result self.new }
     {
         self.history = None;
         counts(&self.store)
     }
 
-    /// Executes a statement that lists no changes: the names, objects and edges stay. A dump is restored
-    /// only where no history is kept (`NotFresh`).
+    /// Executes a statement that lists no changes: the names, objects and edges stay, but where a dump is
+    /// restored. That is done only where no history is kept (`NotFresh`), and blocks are kept no longer
+    /// then.
     pub(crate) fn execute_still<L: Ledger>(
         &mut self,
         alloc: Global,
@@ -81,14 +90,19 @@ impl Db {
     ) -> Result<Reply, Stop>
         requires sound { IsSound (statement_tree statement.now) }
         requires still { ¬ IsChanging (statement_tree statement.now) }
-        requires plain { ¬ IsOfHistory (statement_tree statement.now) }
+        requires plain { ¬ IsOfSession (statement_tree statement.now) }
+        requires unblocked { ¬ IsOfBlocks (statement_tree statement.now) }
         ensures ok { IfOk result (λ reply.
             Performs self.old.state (statement_tree statement.now) reply self.new.state) }
+        ensures fresh { IfOk result (λ reply.
+            KeepsFresh self.old (statement_tree statement.now) reply self.new) }
         ensures refused { let cause = StateCause self.old.state (statement_tree statement.now) in
             IfErr result (λ stop. IsToldBy cause state_order (told stop)) }
+        ensures blocked { IfOk result (λ reply. self.new.blocked
+            ≡ blocked_then self.old.blocked (statement_tree statement.now) reply) }
         ensures same { OnErr result (self.new ≡ self.old) }
         ensures uncounted { OnReply result
-            (CountsNoStep self.old.state (statement_tree statement.now) → steps.new ≡ steps.old) }
+            (CountsNoStep self.old (statement_tree statement.now) → steps.new ≡ steps.old) }
     {
         if keeps_out(&self.history, statement) {
             return Err(Stop::Refused(Refusal::NotFresh));
@@ -96,6 +110,7 @@ impl Db {
         let reply = statements::execute(alloc, &mut self.store, statement, steps)?;
         // That the database is valid is known where its graph is looked at.
         let _graph = self.store.graph();
+        leave(&mut self.blocks, statement, &reply);
         Ok(reply)
     }
 }
@@ -116,6 +131,28 @@ fn is_restore(statement: &Statement) -> bool
     ensures { IsTrue result ↔ IsRestore (statement_tree statement.now) }
 {
     matches!(statement, Statement::Restore(_))
+}
+
+// Whether the reply is a refusal.
+fn is_refusal(reply: &Reply) -> bool
+    ensures { IsTrue result ↔ IsRefused reply.now }
+{
+    matches!(reply, Reply::Refused(_))
+}
+
+// Takes the blocks away where the statement with this reply restored a dump.
+fn leave(blocks: &mut Option<Blocks>, statement: &Statement, reply: &Reply)
+    ensures gone { IsRestored (statement_tree statement.now) reply.now → blocks.new ≡ None }
+    ensures kept { ¬ IsRestored (statement_tree statement.now) reply.now
+        → blocks.new ≡ blocks.old }
+{
+    if !is_restore(statement) {
+        return;
+    }
+    if is_refusal(reply) {
+        return;
+    }
+    *blocks = None;
 }
 
 // A history of the present moment alone.
@@ -148,7 +185,7 @@ fn all_objects(alloc: Global, graph: &Graph) -> Result<ObjectList, NoMemory>
 }
 
 // The object at this place, counted from 0.
-fn oid_at(graph: &Graph, place: u32) -> Oid
+pub(crate) fn oid_at(graph: &Graph, place: u32) -> Oid
     requires { place < length graph.now.graph.objects }
     ensures { slice_get (map (λ object. object.0) graph.now.graph.objects) place ≡ Some result }
 {

@@ -12,34 +12,35 @@ use Rattle.lorel_lex.specs.Scan.{IsChunk, IsScript}
 use Rattle.lorel_lex.specs.Gaps.{IsBlank}
 use Rattle.lore_run.specs.Replies.{reply_text}
 use Rattle.lore_run.specs.Runs.{refusals, BeginsWith, ScriptPart, chunk, rest, EndsInRest, Runs, RunState, RepliesTo, RepliesToAll}
+use Rattle.lore_run.specs.Reads.{RunReads}
 use Rattle.lore_run.specs.declared.pieces.TheConstants.{PIECE_BYTES}
 use Rattle.lore_run.specs.declared.status.Outcome.{Outcome}
 use Rattle.lore_run.specs.declared.status.Status.{Status}
 use Rattle.lore_run.specs.declared.status.Status.TheVariants.{Done, DoneRefused, Usage, ReadFault, WriteFault, StatementTooLong, NoMemory, ScriptTooLong}
 use Rattle.lore_run.specs.Endings.{Outside, outside, state_of, KeepsLimits, HasLongChunk, FailsInReply, Ends, RunEnds, EndsWell, IsCausedBySource, IsCausedBySink}
 use Rattle.lore_run.specs.declared.tally.Tally.{Tally}
-use Rattle.lore_run.specs.inside.Turns.{Standing, beginning, IsUnended, RepliedInPart, Unmoved, Advances, StopsIn, FinishesWhole, Finishes, RunsSoFar, outcome_at}
+use Rattle.lore_run.specs.inside.Turns.{Standing, standing, beginning, IsUnended, Replied, RepliedInPart, Unmoved, Advances, StopsIn, FinishesWhole, Finishes, RunsSoFar, outcome_at}
 use Rattle.lore_base.proofs.PutLaws.{Appends-then}
 use Rattle.lore_run.proofs.LimitLaws.{IsWithin, keeps_up_to, keeps_limits, long_chunk_more}
 use Rattle.lore_run.proofs.RunLaws.{runs_then, joined-append, joined-one, All-one, Consumes-then, Consumes-kept, advances_then}
 
 -- from the new database on, these bytes were taken, and what stands behind their chunks is held
-abbrev pub Reaches : Option (List ℕ) → List ℕ → Standing → Type 0
-Reaches written taken now = Advances (beginning written) taken now
+abbrev pub Reaches : Option (List ℕ) → ℕ → List ℕ → Standing → Type 0
+Reaches written began taken now = Advances (beginning written began) taken now
 
 -- the chunks of what was taken
-begins : {written : Option (List ℕ)} {taken : List ℕ} {now : Standing} (back : List ℕ) → (reached : Reaches written taken now)
+begins : {written : Option (List ℕ)} {began : ℕ} {taken : List ℕ} {now : Standing} (back : List ℕ) → (reached : Reaches written began taken now)
     → BeginsWith (taken ++ back) reached.chunks (now.held ++ back)
 begins {now = now} back reached = record {
   whole = ap (λ l. l ++ back) reached.whole ∙ append_assoc (joined_chunks reached.chunks) now.held back;
   each = reached.each;
 }
 
-cut : {written : Option (List ℕ)} {taken : List ℕ} {now : Standing} → (reached : Reaches written taken now) → IsUnended now.held → IsScript taken reached.chunks now.held
+cut : {written : Option (List ℕ)} {began : ℕ} {taken : List ℕ} {now : Standing} → (reached : Reaches written began taken now) → IsUnended now.held → IsScript taken reached.chunks now.held
 cut reached kept = record { whole = reached.whole; each = reached.each; unended = kept.unended }
 
 -- they were replied to
-replies : {written : Option (List ℕ)} {taken : List ℕ} {now : Standing} (status : Status) (all : List ℕ) → (reached : Reaches written taken now)
+replies : {written : Option (List ℕ)} {began : ℕ} {taken : List ℕ} {now : Standing} (status : Status) (all : List ℕ) → (reached : Reaches written began taken now)
     → RepliesTo (map chunk reached.chunks) (state_of (outcome_at status now) all reached.printed now.state)
 replies {now = now} status all reached = record {
   counted = omega (arith, reached.done, length-map reached.chunks chunk);
@@ -47,9 +48,9 @@ replies {now = now} status all reached = record {
 }
 
 -- a run that a read fault ends
-pub ends_read_fault : (before : Outside) (count : ℕ) (left new_left : Option (List ℕ)) (now : Standing) → RunsSoFar before count left now → Keeps left new_left
+pub ends_read_fault : (before : Outside) (began count : ℕ) (left new_left : Option (List ℕ)) (now : Standing) → RunsSoFar before began count left now → Keeps left new_left
     → RunEnds (outcome_at ReadFault now) now.state before (outside new_left now.written)
-ends_read_fault before count left new_left now so_far keeps =
+ends_read_fault before began count left new_left now so_far keeps =
     let reached = so_far.advanced in
     record {
       taken = so_far.taken;
@@ -69,10 +70,10 @@ one_byte [] one = absurd (omega (arith, one))
 one_byte (byte ∷ []) one = (byte, refl)
 one_byte (byte ∷ (other ∷ others)) one = absurd (omega (arith, one))
 
-pub ends_too_long : (before : Outside) (count : ℕ) (left new_left : Option (List ℕ)) (now : Standing) (piece : List ℕ) → RunsSoFar before count left now
+pub ends_too_long : (before : Outside) (began count : ℕ) (left new_left : Option (List ℕ)) (now : Standing) (piece : List ℕ) → RunsSoFar before began count left now
     → count ≡ SCRIPT_BYTES → Consumes left new_left piece → length piece ≡ 1
     → RunEnds (outcome_at ScriptTooLong now) now.state before (outside new_left now.written)
-ends_too_long before count left new_left now piece so_far full took one =
+ends_too_long before began count left new_left now piece so_far full took one =
     let reached = so_far.advanced in
     let (byte, is) = one_byte piece one in
     record {
@@ -92,8 +93,8 @@ ends_too_long before count left new_left now piece so_far full took one =
     }
 
 -- nothing moved behind what was reached
-reaches_unmoved : {written : Option (List ℕ)} {taken : List ℕ} {now after : Standing} → Reaches written taken now → Unmoved now after → Reaches written taken (record after { held = now.held })
-reaches_unmoved {written} {taken} {now} {after} reached unmoved = record {
+reaches_unmoved : {written : Option (List ℕ)} {began : ℕ} {taken : List ℕ} {now after : Standing} → Reaches written began taken now → Unmoved now after → Reaches written began taken (record after { held = now.held; reads = now.reads })
+reaches_unmoved {written} {began} {taken} {now} {after} reached unmoved = record {
   chunks = reached.chunks;
   printed = reached.printed;
   count = reached.count;
@@ -101,17 +102,18 @@ reaches_unmoved {written} {taken} {now} {after} reached unmoved = record {
   each = reached.each;
   sized = reached.sized;
   ran = subst (λ (db : State). Runs new_state (map chunk reached.chunks) reached.printed reached.count db) (sym unmoved.state) reached.ran;
+  read = subst (λ (db : State). RunReads new_state (map chunk reached.chunks) db began now.reads) (sym unmoved.state) reached.read;
   done = ap (λ (t : Tally). t.done) unmoved.tally ∙ reached.done;
   refused = ap (λ (t : Tally). t.refused) unmoved.tally ∙ reached.refused;
   written = subst (λ (w : Option (List ℕ)). Appends written w reached.printed) (sym unmoved.written) reached.written;
 }
 
 -- a sink that fails in the reply of a chunk, or of the rest
-fails_in_reply : {written : Option (List ℕ)} {taken : List ℕ} {now after : Standing} (all : List ℕ) (left : Option (List ℕ)) (last : ScriptPart) (behind : List ℕ)
-    → (reached : Reaches written taken now) → (replied : RepliedInPart now last after) → length behind < PIECE_BYTES
+fails_in_reply : {written : Option (List ℕ)} {began : ℕ} {taken : List ℕ} {now after : Standing} (all : List ℕ) (left : Option (List ℕ)) (last : ScriptPart) (behind : List ℕ)
+    → (reached : Reaches written began taken now) → (replied : RepliedInPart now last after) → length behind < PIECE_BYTES
     → ((chunks : List (List ℕ)) × BeginsWith all chunks behind × (map chunk reached.chunks ++ last ∷ [] ≡ map chunk chunks)) ⊎ (EndsInRest all (map chunk reached.chunks ++ last ∷ []) × IsAtEnd left × (behind ≡ []))
     → FailsInReply (state_of (outcome_at WriteFault after) all (reached.printed ++ take replied.printed.count (reply_text after.state replied.reply)) after.state) left
-fails_in_reply {written} {taken} {now} {after} all left last behind reached replied few first = record {
+fails_in_reply {written} {began} {taken} {now} {after} all left last behind reached replied few first = record {
   earlier = map chunk reached.chunks;
   last = last;
   behind = behind;
@@ -131,11 +133,11 @@ fails_in_reply {written} {taken} {now} {after} all left last behind reached repl
 }
 
 -- a run that a piece stops
-pub ends_stopped : (status : Status) (before : Outside) (count : ℕ) (left new_left : Option (List ℕ)) (now after : Standing) (piece : List ℕ) → RunsSoFar before count left now
+pub ends_stopped : (status : Status) (before : Outside) (began count : ℕ) (left new_left : Option (List ℕ)) (now after : Standing) (piece : List ℕ) → RunsSoFar before began count left now
     → Consumes left new_left piece → count + length piece ≤ SCRIPT_BYTES → length piece ≤ PIECE_BYTES → StopsIn status now piece after
     → RunEnds (outcome_at status after) after.state before (outside new_left after.written)
-ends_stopped WriteFault before count left new_left now after piece so_far took few at_hand stops =
-    let reached : Reaches before.written (so_far.taken ++ stops.front) stops.middle = advances_then so_far.advanced stops.advanced in
+ends_stopped WriteFault before began count left new_left now after piece so_far took few at_hand stops =
+    let reached : Reaches before.written began (so_far.taken ++ stops.front) stops.middle = advances_then so_far.advanced stops.advanced in
     let fails = stops.stopped in
     let all = so_far.taken ++ piece in
     let parts : all ≡ (so_far.taken ++ stops.front) ++ stops.back = ap (λ l. so_far.taken ++ l) stops.parts ∙ sym (append_assoc so_far.taken stops.front stops.back) in
@@ -161,8 +163,8 @@ ends_stopped WriteFault before count left new_left now after piece so_far took f
             (omega (arith, less)) (omega (arith, so_far.counted, few, length-append so_far.taken piece)),
       );
     }
-ends_stopped StatementTooLong before count left new_left now after piece so_far took few at_hand stops =
-    let (long, unmoved) = stops.stopped in
+ends_stopped StatementTooLong before began count left new_left now after piece so_far took few at_hand stops =
+    let (long, unmoved, reads) = stops.stopped in
     let reached = reaches_unmoved (advances_then so_far.advanced stops.advanced) unmoved in
     let all = so_far.taken ++ piece in
     let parts : all ≡ (so_far.taken ++ stops.front) ++ stops.back = ap (λ l. so_far.taken ++ l) stops.parts ∙ sym (append_assoc so_far.taken stops.front stops.back) in
@@ -189,7 +191,7 @@ ends_stopped StatementTooLong before count left new_left now after piece so_far 
             (omega (arith, so_far.counted, few, length-append so_far.taken piece));
       };
     }
-ends_stopped NoMemory before count left new_left now after piece so_far took few at_hand stops =
+ends_stopped NoMemory before began count left new_left now after piece so_far took few at_hand stops =
     let reached = reaches_unmoved (advances_then so_far.advanced stops.advanced) stops.stopped in
     let all = so_far.taken ++ piece in
     let parts : all ≡ (so_far.taken ++ stops.front) ++ stops.back = ap (λ l. so_far.taken ++ l) stops.parts ∙ sym (append_assoc so_far.taken stops.front stops.back) in
@@ -205,11 +207,11 @@ ends_stopped NoMemory before count left new_left now after piece so_far took few
             (omega (arith, so_far.counted, few, length-append so_far.taken piece)),
       );
     }
-ends_stopped Done before count left new_left now after piece so_far took few at_hand stops = absurd stops.stopped
-ends_stopped DoneRefused before count left new_left now after piece so_far took few at_hand stops = absurd stops.stopped
-ends_stopped Usage before count left new_left now after piece so_far took few at_hand stops = absurd stops.stopped
-ends_stopped ReadFault before count left new_left now after piece so_far took few at_hand stops = absurd stops.stopped
-ends_stopped ScriptTooLong before count left new_left now after piece so_far took few at_hand stops = absurd stops.stopped
+ends_stopped Done before began count left new_left now after piece so_far took few at_hand stops = absurd stops.stopped
+ends_stopped DoneRefused before began count left new_left now after piece so_far took few at_hand stops = absurd stops.stopped
+ends_stopped Usage before began count left new_left now after piece so_far took few at_hand stops = absurd stops.stopped
+ends_stopped ReadFault before began count left new_left now after piece so_far took few at_hand stops = absurd stops.stopped
+ends_stopped ScriptTooLong before began count left new_left now after piece so_far took few at_hand stops = absurd stops.stopped
 
 -- all parts of a script that was taken whole, and the bytes that their replies have
 record AllReplied (written : Option (List ℕ)) (taken : List ℕ) (status : Status) (after : Standing) : Type 0 where
@@ -217,13 +219,13 @@ record AllReplied (written : Option (List ℕ)) (taken : List ℕ) (status : Sta
   pub wrote : Appends written after.written printed
   pub replied : RepliesToAll (state_of (outcome_at status after) taken printed after.state)
 
-with_rest : {written : Option (List ℕ)} {taken : List ℕ} {now : Standing} → (reached : Reaches written taken now) → IsUnended now.held → (IsBlank now.held → ⊥)
+with_rest : {written : Option (List ℕ)} {began : ℕ} {taken : List ℕ} {now : Standing} → (reached : Reaches written began taken now) → IsUnended now.held → (IsBlank now.held → ⊥)
     → EndsInRest taken (map chunk reached.chunks ++ rest ∷ [])
 with_rest {now = now} reached kept filled = record { chunks = reached.chunks; behind = now.held; cut = cut reached kept; filled = filled; listed = refl }
 
-all_replied : {written : Option (List ℕ)} {taken : List ℕ} {now after : Standing} (status : Status) → Reaches written taken now → IsUnended now.held → FinishesWhole now after
+all_replied : {written : Option (List ℕ)} {began : ℕ} {taken : List ℕ} {now after : Standing} (status : Status) → Reaches written began taken now → IsUnended now.held → FinishesWhole now after
     → AllReplied written taken status after
-all_replied {written} {taken} {now} {after} status reached kept (inl (blank, unmoved)) =
+all_replied {written} {began} {taken} {now} {after} status reached kept (inl (blank, unmoved, reads)) =
     let there = reaches_unmoved reached unmoved in
     record {
       printed = there.printed;
@@ -234,7 +236,7 @@ all_replied {written} {taken} {now} {after} status reached kept (inl (blank, unm
         replied = replies status taken there;
       };
     }
-all_replied {written} {taken} {now} {after} status reached kept (inr (filled, replied)) =
+all_replied {written} {began} {taken} {now} {after} status reached kept (inr (filled, replied)) =
     let bytes = reply_text after.state replied.reply in
     record {
       printed = reached.printed ++ (bytes ++ []);
@@ -258,33 +260,76 @@ took_all : (before : Outside) (left new_left : Option (List ℕ)) (taken : List 
 took_all before left new_left taken took none =
     subst (λ (l : List ℕ). Consumes before.left new_left l) (append-nil taken) (Consumes-then before.left left new_left taken [] took none)
 
-kept_limits : (before : Outside) (count : ℕ) (left : Option (List ℕ)) (now : Standing) → (so_far : RunsSoFar before count left now) → KeepsLimits so_far.taken
-kept_limits before count left now so_far =
+-- a script is finished so at any count of reads, since nothing is read
+module _ (held : List ℕ) (tally later : Tally) (written wrote : Option (List ℕ)) (db : State) (reads : ℕ) where
+  abbrev from_at : ℕ → Standing
+  from_at count = standing held tally written db count
+
+  abbrev to_at : ℕ → Standing
+  to_at count = standing held later wrote db count
+
+  replied_at : Replied (from_at 0) rest (to_at 0) → Replied (from_at reads) rest (to_at reads)
+  replied_at g = record {
+    reply = g.reply;
+    yielded = g.yielded;
+    read = (g.read.0, g.read.1, refl);
+    done = g.done;
+    refused = g.refused;
+    printed = g.printed;
+  }
+
+  broken_at : RepliedInPart (from_at 0) rest (to_at 0) → RepliedInPart (from_at reads) rest (to_at reads)
+  broken_at g = record {
+    reply = g.reply;
+    yielded = g.yielded;
+    read = (g.read.0, g.read.1, refl);
+    done = g.done;
+    refused = g.refused;
+    printed = g.printed;
+  }
+
+  whole_at : FinishesWhole (from_at 0) (to_at 0) → FinishesWhole (from_at reads) (to_at reads)
+  whole_at (inl (blank, unmoved, same)) =
+      inl (blank, record { tally = unmoved.tally; written = unmoved.written; state = unmoved.state }, refl)
+  whole_at (inr (filled, replied)) = inr (filled, replied_at replied)
+
+  pub finishes_at : (status : Status) → Finishes status (from_at 0) (to_at 0) → Finishes status (from_at reads) (to_at reads)
+  finishes_at Done finishes = (whole_at finishes.0, finishes.1)
+  finishes_at DoneRefused finishes = (whole_at finishes.0, finishes.1)
+  finishes_at WriteFault finishes = (finishes.0, broken_at finishes.1)
+  finishes_at Usage finishes = absurd finishes
+  finishes_at ReadFault finishes = absurd finishes
+  finishes_at StatementTooLong finishes = absurd finishes
+  finishes_at NoMemory finishes = absurd finishes
+  finishes_at ScriptTooLong finishes = absurd finishes
+
+kept_limits : (before : Outside) (began count : ℕ) (left : Option (List ℕ)) (now : Standing) → (so_far : RunsSoFar before began count left now) → KeepsLimits so_far.taken
+kept_limits before began count left now so_far =
     keeps_limits so_far.taken now.held so_far.advanced.chunks (record { whole = so_far.advanced.whole; each = so_far.advanced.each }) so_far.advanced.sized so_far.held.sized
     (omega (arith, so_far.counted, so_far.within))
 
-pub ends_finished : (status : Status) (before : Outside) (count : ℕ) (left new_left : Option (List ℕ)) (now after : Standing) → RunsSoFar before count left now
+pub ends_finished : (status : Status) (before : Outside) (began count : ℕ) (left new_left : Option (List ℕ)) (now after : Standing) → RunsSoFar before began count left now
     → Consumes left new_left [] → IsAtEnd new_left → Finishes status now after
     → RunEnds (outcome_at status after) after.state before (outside new_left after.written)
-ends_finished Done before count left new_left now after so_far none at_end finishes =
+ends_finished Done before began count left new_left now after so_far none at_end finishes =
     let all = all_replied Done so_far.advanced so_far.held finishes.0 in
     record {
       taken = so_far.taken;
       written = all.printed;
       took = took_all before left new_left so_far.taken so_far.took none;
       wrote = all.wrote;
-      ends = (all.replied, kept_limits before count left now so_far, at_end, finishes.1);
+      ends = (all.replied, kept_limits before began count left now so_far, at_end, finishes.1);
     }
-ends_finished DoneRefused before count left new_left now after so_far none at_end finishes =
+ends_finished DoneRefused before began count left new_left now after so_far none at_end finishes =
     let all = all_replied DoneRefused so_far.advanced so_far.held finishes.0 in
     record {
       taken = so_far.taken;
       written = all.printed;
       took = took_all before left new_left so_far.taken so_far.took none;
       wrote = all.wrote;
-      ends = (all.replied, kept_limits before count left now so_far, at_end, finishes.1);
+      ends = (all.replied, kept_limits before began count left now so_far, at_end, finishes.1);
     }
-ends_finished WriteFault before count left new_left now after so_far none at_end finishes =
+ends_finished WriteFault before began count left new_left now after so_far none at_end finishes =
     let (filled, replied) = finishes in
     let reached = so_far.advanced in
     let bytes = reply_text after.state replied.reply in
@@ -295,14 +340,14 @@ ends_finished WriteFault before count left new_left now after so_far none at_end
       wrote = Appends-then before.written now.written after.written reached.printed (take replied.printed.count bytes) reached.written replied.printed.written;
       ends = (
         fails_in_reply so_far.taken new_left rest [] reached replied (lit< tt) (inr (with_rest reached so_far.held filled, at_end, refl)),
-        kept_limits before count left now so_far,
+        kept_limits before began count left now so_far,
       );
     }
-ends_finished Usage before count left new_left now after so_far none at_end finishes = absurd finishes
-ends_finished ReadFault before count left new_left now after so_far none at_end finishes = absurd finishes
-ends_finished StatementTooLong before count left new_left now after so_far none at_end finishes = absurd finishes
-ends_finished NoMemory before count left new_left now after so_far none at_end finishes = absurd finishes
-ends_finished ScriptTooLong before count left new_left now after so_far none at_end finishes = absurd finishes
+ends_finished Usage before began count left new_left now after so_far none at_end finishes = absurd finishes
+ends_finished ReadFault before began count left new_left now after so_far none at_end finishes = absurd finishes
+ends_finished StatementTooLong before began count left new_left now after so_far none at_end finishes = absurd finishes
+ends_finished NoMemory before began count left new_left now after so_far none at_end finishes = absurd finishes
+ends_finished ScriptTooLong before began count left new_left now after so_far none at_end finishes = absurd finishes
 
 -- within the limits of the script a run ends well
 ends_well : (status : Status) (run : RunState) (left : Option (List ℕ)) (script back : List ℕ) (read_before read_now written_before written_now : ℕ) → Ends status run left
@@ -319,7 +364,8 @@ ends_well NoMemory run left script back read_before read_now written_before writ
 ends_well ScriptTooLong run left script back read_before read_now written_before written_now ends parts keeps source sink =
     absurd (omega (arith, keeps.bytes, ap length parts, length-append run.taken back, ap length ends.taken, length-append ends.before (ends.byte ∷ []), ends.full))
 
-told_front : (left new_left : Option (List ℕ)) (taken : List ℕ) (P : List ℕ → Type 0) → Consumes left new_left taken → ((script back : List ℕ) → script ≡ taken ++ back → P script) → IfSome left P
+-- what holds of each script that begins with what was taken holds of the one that was left
+pub told_front : (left new_left : Option (List ℕ)) (taken : List ℕ) (P : List ℕ → Type 0) → Consumes left new_left taken → ((script back : List ℕ) → script ≡ taken ++ back → P script) → IfSome left P
 told_front None new_left taken P took holds = tt
 told_front (Some script) None taken P took holds = absurd took
 told_front (Some script) (Some left) taken P took holds = holds script left took

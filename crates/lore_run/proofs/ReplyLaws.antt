@@ -12,8 +12,9 @@ use Rattle.statements.specs.Statements.{Counts}
 use Rattle.statements.specs.Statements as databases
 use Rattle.dump_text.specs.Dumps.{line_of, name_line, object_line, edge_line, spelled_edge}
 use Rattle.lore_db.specs.Changes.{AreChangeLines, change_line}
-use Rattle.lore_db.specs.States.{State, AnswersAt, TellsChanges, Does, Performs}
-use Rattle.lore_run.specs.Types.{Oid, Value, Refusal, Syntax, Unfinished, Reply, Changed, Rows, Past, PlanShown, Lines, Refused}
+use Rattle.view_laws.specs.Freshness.{query_in}
+use Rattle.lore_db.specs.States.{State, AnswersAt, AnswersNow, TellsChanges, Does, Performs}
+use Rattle.lore_run.specs.Types.{Oid, Value, Cell, Refusal, Syntax, Unfinished, Reply, Changed, Rows, Past, PlanShown, Lines, Refused}
 use Rattle.lore_run.specs.Replies.{row_line, kind_text, given_text, rendered, reply_text, shown_objects}
 use Rattle.lore_run.specs.Runs.{ScriptPart, chunk, rest, Yields}
 
@@ -56,10 +57,13 @@ counts-some after reply (sets, targets, same) =
 listed-some : (reply : Reply) (lines : List (List ℕ)) → reply ≡ Lines lines → 0 < length lines → IsSome reply
 listed-some reply lines same some = same-some reply (Lines lines) same (λ labels live. lines-some lines some)
 
-performs-some : (before : Database) (statement : StatementTree) (reply : Reply) (after : Database) → databases.Performs before statement reply after → IsSome reply
-performs-some before (select query) reply after (kept, (rows, same, answered)) =
+rows-some : (reply : Reply) (rows : List (List Cell)) → reply ≡ Rows rows → IsSome reply
+rows-some reply rows same =
     same-some reply (Rows rows) same
     (λ labels live. line-some (flat_map (row_line labels live) rows ++ codes "rows " ++ decimal (length rows)))
+
+performs-some : (before : Database) (statement : StatementTree) (reply : Reply) (after : Database) → databases.Performs before statement reply after → IsSome reply
+performs-some before (select query) reply after (kept, (rows, same, answered)) = rows-some reply rows same
 performs-some before (explain query) reply after (kept, shown) =
     same-some reply (PlanShown shown.kind shown.candidates shown.found) shown.is
     (λ labels live. line-some (codes "plan " ++ kind_text shown.kind ++ given_text shown.candidates ++ given_text shown.found))
@@ -86,8 +90,9 @@ performs-some before (generate seed count) reply after (led, counted) = counts-s
 performs-some before (t.history on) reply after performed = absurd performed
 performs-some before (t.select_at moment query) reply after performed = absurd performed
 performs-some before (t.changes first last) reply after performed = absurd performed
-performs-some before t.blocks reply after performed = absurd performed
-performs-some before (t.blocks_of query) reply after performed = absurd performed
+performs-some before t.blocks reply after (kept, (lines, same, shown)) =
+    listed-some reply lines same (last-some _ lines _ shown.are)
+performs-some before (t.blocks_of query) reply after (kept, (rows, same, answered)) = rows-some reply rows same
 performs-some before (t.watch name query) reply after performed = absurd performed
 performs-some before (t.unwatch name) reply after performed = absurd performed
 performs-some before (t.show name) reply after performed = absurd performed
@@ -105,11 +110,11 @@ told-some labels before after lines h =
     (behind-some (map (change_line (λ edge. edge_line (spelled_edge labels edge))) h.edges) last (omega arith))))
 
 -- ---- states
--- what is answered of moments is something where it is of each list of them
-of-some : (history : Option (List Moment)) (Answers : List Moment → Type 0) (reply : Reply) → ((moments : List Moment) → Answers moments → IsSome reply)
-    → MatchOption history ⊥ Answers → IsSome reply
+-- what is answered of what is kept, where it is, is something where it is of all that may be kept
+of-some : {X : Type 0} (kept : Option X) (Answers : X → Type 0) (reply : Reply) → ((own : X) → Answers own → IsSome reply)
+    → MatchOption kept ⊥ Answers → IsSome reply
 of-some None Answers reply some h = absurd h
-of-some (Some moments) Answers reply some h = some moments h
+of-some (Some own) Answers reply some h = some own h
 
 does-some : (before : State) (statement : StatementTree) (reply : Reply) (after : State) → Does before statement reply after → IsSome reply
 does-some before (t.history true) reply after done = counts-some before.db reply done.0
@@ -120,6 +125,10 @@ does-some before (t.select_at given query) reply after done =
 does-some before (t.changes first last) reply after done =
     of-some before.history (TellsChanges before.db first last reply) reply
     (λ moments h. listed-some reply h.lines h.replied (told-some before.db.labels h.two.before h.two.after h.lines h.are)) done.1
+does-some before (t.watch name query) reply after done = counts-some before.db reply done.0
+does-some before (t.unwatch name) reply after done = counts-some before.db reply done.0
+does-some before (t.show name) reply after done =
+    of-some (query_in before.views name) (AnswersNow before.db reply) reply (λ query h. rows-some reply h.0 h.1) done.1
 does-some before statement reply after (db, does, goes) = performs-some before.db statement reply db does
 
 state-some : (before : State) (statement : StatementTree) (reply : Reply) (after : State) → Performs before statement reply after → IsSome reply

@@ -12,6 +12,7 @@ use Rattle.lorel_lex.specs.Scan.{IsChunk}
 use Rattle.lore_run.specs.Types.{Reply, Changed, Rows, Past, PlanShown, Lines, Dump, Refused}
 use Rattle.lore_run.specs.Replies.{reply_text}
 use Rattle.lore_run.specs.Runs.{ScriptPart, chunk, Runs, refusals}
+use Rattle.lore_run.specs.Reads.{RunReads}
 use Rattle.lore_run.specs.Endings.{Outside, outside}
 use Rattle.lore_run.specs.inside.Turns.{Standing, beginning, IsUnended, Replied, RepliedInPart, Unmoved, Advances, RunsSoFar}
 use Rattle.lore_base.proofs.PutLaws.{Appends-none, Appends-then}
@@ -35,6 +36,13 @@ runs_then before (first ∷ parts) bytes count middle others more others_count a
   ap (λ l. l ++ more) ran.6 ∙ append_assoc (reply_text ran.1 ran.0) ran.2 more,
   omega (arith, ran.7),
 )
+
+pub reads_then : (before : State) (parts : List ScriptPart) (middle : State) (others : List ScriptPart) (after : State) (old count now : ℕ)
+    → RunReads before parts middle old count → RunReads middle others after count now → RunReads before (parts ++ others) after old now
+reads_then before [] middle others after old count now read then =
+    subst (λ (n : ℕ). RunReads before others after n now) read.1 (subst (λ (db : State). RunReads db others after count now) read.0 then)
+reads_then before (part ∷ parts) middle others after old count now read then =
+    (read.0, read.1, read.2, read.3, reads_then read.1 parts middle others after read.2 count now read.4 then)
 
 pub joined-append : (chunks others : List (List ℕ)) → joined_chunks (chunks ++ others) ≡ joined_chunks chunks ++ joined_chunks others
 joined-append chunks others = flat_map-append (λ l. l ++ 59 ∷ []) chunks others
@@ -72,6 +80,7 @@ advances_none now = record {
   each = All-nil IsChunk;
   sized = All-nil IsWithin;
   ran = (refl, refl, refl);
+  read = (refl, refl);
   done = omega arith;
   refused = omega arith;
   written = Appends-none now.written;
@@ -87,6 +96,7 @@ advances_held held bytes now is = record {
   each = All-nil IsChunk;
   sized = All-nil IsWithin;
   ran = (refl, refl, refl);
+  read = (refl, refl);
   done = omega arith;
   refused = omega arith;
   written = Appends-none now.written;
@@ -106,6 +116,7 @@ advances_chunk held front before after empty is sized replied =
       each = All-one IsChunk (held ++ front) is;
       sized = All-one IsWithin (held ++ front) sized;
       ran = (replied.reply, after.state, [], 0, replied.yielded, (refl, refl, refl), refl, refl);
+      read = (replied.reply, after.state, after.reads, replied.read, (refl, refl));
       done = replied.done;
       refused = omega (arith, replied.refused);
       written = subst (λ (l : List ℕ). Appends before.written after.written l) (sym (append-nil bytes)) replied.printed;
@@ -123,6 +134,8 @@ advances_then {a} {b} {c} {xs} {ys} g h = record {
   sized = All-append IsWithin g.chunks h.chunks g.sized h.sized;
   ran = subst (λ (parts : List ScriptPart). Runs a.state parts (g.printed ++ h.printed) (g.count + h.count) c.state) (sym (map-append chunk g.chunks h.chunks))
       (runs_then a.state (map chunk g.chunks) g.printed g.count b.state (map chunk h.chunks) h.printed h.count c.state g.ran h.ran);
+  read = subst (λ (parts : List ScriptPart). RunReads a.state parts c.state a.reads c.reads) (sym (map-append chunk g.chunks h.chunks))
+      (reads_then a.state (map chunk g.chunks) b.state (map chunk h.chunks) c.state a.reads b.reads c.reads g.read h.read);
   done = omega (arith, g.done, h.done, length-append g.chunks h.chunks);
   refused = omega (arith, g.refused, h.refused);
   written = Appends-then a.written b.written c.written g.printed h.printed g.written h.written;
@@ -148,20 +161,20 @@ refusals_le (Dump text) = omega arith
 refusals_le (Refused refusal) = omega arith
 
 -- a run at its beginning, and behind one more piece
-pub so_far_start : (left written : Option (List ℕ)) → RunsSoFar (outside left written) 0 left (beginning written)
-so_far_start left written = record {
+pub so_far_start : (left written : Option (List ℕ)) (began : ℕ) → RunsSoFar (outside left written) began 0 left (beginning written began)
+so_far_start left written began = record {
   taken = [];
   took = Consumes-none left;
   counted = refl;
   within = lit≤ tt;
   held = record { unended = tt; sized = lit≤ tt };
-  advanced = advances_none (beginning written);
+  advanced = advances_none (beginning written began);
 }
 
-pub so_far_more : (before : Outside) (count : ℕ) (left new_left : Option (List ℕ)) (now next : Standing) (piece : List ℕ)
-    → (so_far : RunsSoFar before count left now) → Consumes left new_left piece → count + length piece ≤ SCRIPT_BYTES → IsUnended next.held → Advances now piece next
-    → RunsSoFar before (count + length piece) new_left next
-so_far_more before count left new_left now next piece so_far took few held advanced = record {
+pub so_far_more : (before : Outside) (began count : ℕ) (left new_left : Option (List ℕ)) (now next : Standing) (piece : List ℕ)
+    → (so_far : RunsSoFar before began count left now) → Consumes left new_left piece → count + length piece ≤ SCRIPT_BYTES → IsUnended next.held → Advances now piece next
+    → RunsSoFar before began (count + length piece) new_left next
+so_far_more before began count left new_left now next piece so_far took few held advanced = record {
   taken = so_far.taken ++ piece;
   took = Consumes-then before.left left new_left so_far.taken piece so_far.took took;
   counted = omega (arith, so_far.counted, length-append so_far.taken piece);
@@ -173,7 +186,7 @@ so_far_more before count left new_left now next piece so_far took few held advan
 pub RepliedInPart-held : {before after : Standing} {part : ScriptPart} (held kept : List ℕ) → RepliedInPart before part after
     → RepliedInPart (record before { held = held }) part (record after { held = kept })
 RepliedInPart-held {before} {after} {part} held kept g =
-    record { reply = g.reply; yielded = g.yielded; done = g.done; refused = g.refused; printed = g.printed }
+    record { reply = g.reply; yielded = g.yielded; read = g.read; done = g.done; refused = g.refused; printed = g.printed }
 
 pub Unmoved-held : {before after : Standing} (held kept : List ℕ) → Unmoved before after → Unmoved (record before { held = held }) (record after { held = kept })
 Unmoved-held {before} {after} held kept g = record { tally = g.tally; written = g.written; state = g.state }

@@ -3,6 +3,7 @@ ghost use Rattle.std.specs.Io.KnownBytes.{Appends};
 ghost use Rattle.lore_base.specs.Outcomes.{HasCause};
 ghost use Rattle.lore_base.specs.declared.limits.TheConstants.{CHUNK_BYTES};
 ghost use Rattle.lore_run.specs.Runs.{chunk, rest, Yields, refusals};
+ghost use Rattle.lore_run.specs.Reads.{PartReads};
 ghost use Rattle.lore_run.specs.Endings.{IsCausedBySink};
 ghost use Rattle.lore_run.specs.Replies.{reply_text};
 ghost use Rattle.lore_run.specs.inside.Deliveries.{AppendsProperFront};
@@ -31,11 +32,12 @@ pub(crate) fn run_chunk<K: Sink, L: Ledger>(
 ) -> Result<(), Status>
     requires sized { length text.now ≤ CHUNK_BYTES }
     requires room { (tally.old.done + 1 < 2 ^ 64) × (tally.old.refused + 1 < 2 ^ 64) }
-    ensures ok { OnOk result (Replied (standing [] tally.old (K.written sink.old) session.old.state)
-        (chunk text.now) (standing [] tally.new (K.written sink.new) session.new.state)) }
+    ensures ok { OnOk result (Replied
+        (standing [] tally.old (K.written sink.old) session.old.state steps.old)
+        (chunk text.now) (standing [] tally.new (K.written sink.new) session.new.state steps.new)) }
     ensures stopped { IfErr result (λ status. StopsReplying status
-        (standing [] tally.old (K.written sink.old) session.old.state)
-        (chunk text.now) (standing [] tally.new (K.written sink.new) session.new.state)) }
+        (standing [] tally.old (K.written sink.old) session.old.state steps.old)
+        (chunk text.now) (standing [] tally.new (K.written sink.new) session.new.state steps.new)) }
     ensures faultless { OnOk result (K.faults sink.new ≡ K.faults sink.old) }
     ensures cause { IfErr result
         (λ status. IsCausedBySink status (K.faults sink.old) (K.faults sink.new)) }
@@ -49,18 +51,20 @@ pub(crate) fn run_chunk<K: Sink, L: Ledger>(
     responded
 }
 
-/// Refuses what stands behind the last chunk.
+/// Refuses what stands behind the last chunk. Nothing is read for it, so the count of reads, which it
+/// isn't given, is told as 0.
 pub(crate) fn run_rest<K: Sink>(
     session: &Session,
     sink: &mut K,
     tally: &mut Tally,
 ) -> Result<(), Status>
     requires room { (tally.old.done + 1 < 2 ^ 64) × (tally.old.refused + 1 < 2 ^ 64) }
-    ensures ok { OnOk result (Replied (standing [] tally.old (K.written sink.old) session.now.state)
-        rest (standing [] tally.new (K.written sink.new) session.now.state)) }
+    ensures ok { OnOk result (Replied
+        (standing [] tally.old (K.written sink.old) session.now.state 0)
+        rest (standing [] tally.new (K.written sink.new) session.now.state 0)) }
     ensures err { OnErr result (RepliedInPart
-        (standing [] tally.old (K.written sink.old) session.now.state)
-        rest (standing [] tally.new (K.written sink.new) session.now.state)) }
+        (standing [] tally.old (K.written sink.old) session.now.state 0)
+        rest (standing [] tally.new (K.written sink.new) session.now.state 0)) }
     ensures only { IfErr result (λ status. status ≡ Status.WriteFault) }
     ensures cause { HasCause (K.faults sink.old) (K.faults sink.new) result }
 {
@@ -78,6 +82,8 @@ fn answer<L: Ledger>(
     ensures ok { IfOk result (λ reply.
         Yields session.old.state (chunk text.now) reply session.new.state) }
     ensures err { OnErr result (session.new ≡ session.old) }
+    ensures read { let before = session.old.state in IfOk result (λ reply.
+        PartReads before (chunk text.now) reply session.new.state steps.old steps.new) }
 {
     let parsed = match tokens(alloc, text) {
         Ok(tokens) => parse(alloc, &tokens),

@@ -67,14 +67,14 @@ pub(crate) fn run_piece<K: Sink, L: Ledger>(
     requires room { tally.old.done + (length reader.old.held + length piece.now) + 1 < 2 ^ 64 }
     requires fewer { tally.old.refused ≤ tally.old.done }
     ensures ok { OnOk result (Advances
-        (standing reader.old.held tally.old (K.written sink.old) session.old.state)
-        piece.now (standing reader.new.held tally.new (K.written sink.new) session.new.state)) }
+        (standing reader.old.held tally.old (K.written sink.old) session.old.state steps.old) piece.now
+        (standing reader.new.held tally.new (K.written sink.new) session.new.state steps.new)) }
     ensures unfailed { OnOk result ((reader.new.whole ≡ false) × (reader.new.failed ≡ false)) }
     ensures held { OnOk result (IsUnended reader.new.held) }
     ensures fewer { OnOk result (tally.new.refused ≤ tally.new.done) }
     ensures stopped { IfErr result (λ status. StopsIn status
-        (standing reader.old.held tally.old (K.written sink.old) session.old.state)
-        piece.now (standing reader.new.held tally.new (K.written sink.new) session.new.state)) }
+        (standing reader.old.held tally.old (K.written sink.old) session.old.state steps.old) piece.now
+        (standing reader.new.held tally.new (K.written sink.new) session.new.state steps.new)) }
     ensures faultless { OnOk result (K.faults sink.new ≡ K.faults sink.old) }
     ensures cause { IfErr result
         (λ status. IsCausedBySink status (K.faults sink.old) (K.faults sink.new)) }

@@ -1,9 +1,10 @@
-ghost use Rattle.std.specs.Prelude.{◌≡◌, ℕ, ◌+◌, ◌<◌, ◌≤◌, ◌↔◌, ◌^◌, [], false, length, Some, None};
+ghost use Rattle.std.specs.Prelude.{◌≡◌, ◌+◌, ◌<◌, ◌≤◌, ◌↔◌, ◌^◌, [], false, length, Some, None};
 ghost use Rattle.std.specs.Prelude.{IfSome};
 ghost use Rattle.lore_base.specs.Causes.{Rose};
 ghost use Rattle.lore_db.specs.States.{new_state};
 ghost use Rattle.lore_run.specs.Endings.{KeepsLimits, outside, RunEnds, PrintsAll, IsDone};
 ghost use Rattle.lore_run.specs.Endings.{EndsWell, IsUntouched, IsCausedBySource, IsCausedBySink};
+ghost use Rattle.lore_run.specs.Reads.{HadMemory, ReadsInBounds};
 ghost use Rattle.lore_run.specs.inside.Turns.{standing, IsUnended, Finishes};
 ghost use Rattle.lore_run.specs.declared.pieces.TheConstants.{PIECE_BYTES};
 
@@ -53,6 +54,10 @@ pub fn run_lore<S: Source, K: Sink, L: Ledger>(
         (Rose (S.faults source.old) (S.faults source.new))
         (Rose (K.faults sink.old) (K.faults sink.new))) }
 
+    // What is read, where memory suffices: part by part no more than the bounds of its statement.
+    ensures bounded { HadMemory result.status → IfSome (S.left source.old)
+        (λ script. ReadsInBounds script result.done session.new.state steps.old steps.new) }
+
     // Words are the one cause of Usage, and then nothing is touched.
     ensures usage { (result.status ≡ Status.Usage) ↔ (0 < length words.now) }
     ensures untouched { 0 < length words.now → IsUntouched result session.new.state
@@ -83,6 +88,8 @@ fn run_script<S: Source, K: Sink, L: Ledger>(
     ensures ends { RunEnds result session.new.state
         (outside (S.left source.old) (K.written sink.old))
         (outside (S.left source.new) (K.written sink.new)) }
+    ensures bounded { HadMemory result.status → IfSome (S.left source.old)
+        (λ script. ReadsInBounds script result.done session.new.state steps.old steps.new) }
     ensures source_faults { IsCausedBySource result.status
         (S.faults source.old) (S.faults source.new) }
     ensures sink_faults { IsCausedBySink result.status (K.faults sink.old) (K.faults sink.new) }
@@ -107,6 +114,8 @@ fn run_pieces<S: Source, K: Sink, L: Ledger>(
     ensures ends { RunEnds result session.new.state
         (outside (S.left source.old) (K.written sink.old))
         (outside (S.left source.new) (K.written sink.new)) }
+    ensures bounded { HadMemory result.status → IfSome (S.left source.old)
+        (λ script. ReadsInBounds script result.done session.new.state steps.old steps.new) }
     ensures source_faults { IsCausedBySource result.status
         (S.faults source.old) (S.faults source.new) }
     ensures sink_faults { IsCausedBySink result.status (K.faults sink.old) (K.faults sink.new) }
@@ -142,7 +151,7 @@ fn run_pieces<S: Source, K: Sink, L: Ledger>(
 }
 
 // Ends a script that was read to its end: what stands behind its last chunk is refused, where it
-// isn't blank.
+// isn't blank. Nothing is read for it, so the count of reads, which it isn't given, is told as 0.
 fn end_script<K: Sink>(
     reader: &mut Chunks,
     session: &Session,
@@ -152,8 +161,8 @@ fn end_script<K: Sink>(
     requires unfailed { (reader.old.whole ≡ false) × (reader.old.failed ≡ false) }
     requires room { (tally.old.done + 1 < 2 ^ 64) × (tally.old.refused + 1 < 2 ^ 64) }
     ensures finished { Finishes result
-        (standing reader.old.held tally.old (K.written sink.old) session.now.state)
-        (standing reader.old.held tally.new (K.written sink.new) session.now.state) }
+        (standing reader.old.held tally.old (K.written sink.old) session.now.state 0)
+        (standing reader.old.held tally.new (K.written sink.new) session.now.state 0) }
     ensures cause { IsCausedBySink result (K.faults sink.old) (K.faults sink.new) }
 {
     if reader.finish() == Rest::Unfinished {

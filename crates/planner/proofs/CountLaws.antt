@@ -78,10 +78,6 @@ pub found_counted : (entries : List ValueEntry) (label : Label) (op : Op) (value
 found_counted entries label op value count told =
     let some = some_found entries label op value in (some.0, some.1, told some.0 some.1)
 
--- nothing is none
-pub none_counted : IsCount (λ (oid : Oid). ⊥) 0
-none_counted = ([], record { ascending = λ i j d low within. absurd (omega (arith, within)); exact = λ oid. (λ h. absurd (omega (arith, h.1)), λ none. absurd none) }, refl)
-
 -- ---- the leaves of the path along ranges
 joined_leaves : (ranges : List RangeTree) → leaves_of (trees_of (map (λ range. range.path) ranges)) ≡ sum_by (λ range. leaves range.path) ranges
 joined_leaves [] = refl

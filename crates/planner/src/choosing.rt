@@ -5,7 +5,7 @@ ghost use Rattle.lorel_bound.specs.Runnable.{IsRunnable};
 ghost use Rattle.lorel_bound.specs.Plans.{Probe as TheProbe, CanBeBottom, path_to, IsLabelOf};
 ghost use Rattle.lorel_bound.specs.Plans.{IsPlanOf, AreStepsOf, step_tree};
 ghost use Rattle.planner.specs.Types.{Oid as TheOid};
-ghost use Rattle.lorel_bound.specs.declared.plans.PlanKind.TheVariants.{Top as TheTop};
+ghost use Rattle.lorel_bound.specs.declared.plans.PlanKind.TheVariants.{Top as TheTop, Guided as TheGuided};
 ghost use Rattle.planner.specs.Choices.{AreCounts, kind_by};
 ghost use Rattle.planner.specs.inside.Probes.{probe_tree};
 
@@ -84,6 +84,20 @@ pub fn forward_plan(alloc: Global, bound: &Bound) -> Result<Plan, NoMemory>
         candidates: None,
         found: None,
         steps: steps_from_names(alloc, bound, false)?,
+    })
+}
+
+/// The plan that mode guided chooses: it takes what is told of the paths along each range in turn.
+pub fn guided_plan(alloc: Global, bound: &Bound) -> Result<Plan, NoMemory>
+    requires { IsRunnable (bound_tree bound.now) }
+    ensures kind { IfOk result (λ plan. plan.kind ≡ TheGuided) }
+    ensures steps { (texts : List (List ℕ)) → IfOk result (IsPlanOf texts (bound_tree bound.now)) }
+{
+    Ok(Plan {
+        kind: PlanKind::Guided,
+        candidates: None,
+        found: None,
+        steps: steps_from_names(alloc, bound, true)?,
     })
 }
 

@@ -5,7 +5,7 @@
 //! it, and goes by the mode. `forward_plan` counts nothing.
 #![tactic(auto)]
 
-pub use choosing::{choose, forward_plan};
+pub use choosing::{choose, forward_plan, guided_plan};
 
 mod beginnings;
 mod choosing;

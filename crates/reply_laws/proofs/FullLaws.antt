@@ -1,5 +1,5 @@
 -- Whether a history is full can be told.
-use Rattle.std.proofs.Common.{◌≡◌, ℕ, ◌+◌, ◌<◌, ◌≤◌, inl, inr, List, length, All, arith}
+use Rattle.std.proofs.Common.{ℕ, ◌+◌, ◌<◌, ◌≤◌, inl, inr, List, length, All, arith}
 use Rattle.std.proofs.lemmas.Bool.{cases_lt}
 use Rattle.lore_base.proofs.ToldLaws.{IsTold}
 use Rattle.doem_history.specs.Types.{MOMENTS, HISTORY_WEIGHT}

@@ -1,5 +1,5 @@
 -- What was a database at its time is one later on, with the labels and numbers of then: these only grow.
-use Rattle.std.proofs.Common.{◌≡◌, ℕ, ◌+◌, ◌<◌, ◌≤◌, List, [], ◌∷◌, ◌++◌, length, All, refl, ap, arith, length-append}
+use Rattle.std.proofs.Common.{◌≡◌, ◌≤◌, List, length, All, refl, ap, arith, length-append}
 use Rattle.lore_base.specs.Databases.{Database, IsValid, IsRestorable}
 use Rattle.lore_base.specs.ChangeSets.{IsAfter}
 use Rattle.lorel_trees.specs.Trees as t
@@ -43,8 +43,8 @@ grown before (t.restore text) reply after stays does = absurd (stays tt)
 grown before (t.history on) reply after stays does = absurd does
 grown before (t.select_at given query) reply after stays does = absurd does
 grown before (t.changes first last) reply after stays does = absurd does
-grown before t.blocks reply after stays does = absurd does
-grown before (t.blocks_of query) reply after stays does = absurd does
+grown before t.blocks reply after stays does = alike_grows before after before does.0 refl refl
+grown before (t.blocks_of query) reply after stays does = alike_grows before after before does.0 refl refl
 grown before (t.watch name query) reply after stays does = absurd does
 grown before (t.unwatch name) reply after stays does = absurd does
 grown before (t.show name) reply after stays does = absurd does

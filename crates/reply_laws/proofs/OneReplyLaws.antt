@@ -9,6 +9,7 @@ use Rattle.oem_changes.proofs.DeterminedLaws.{one_database_after}
 use Rattle.guide_query.proofs.OneListOfLines.{one_list_of_lines}
 use Rattle.guide_query.proofs.OnePathLines.{one_browsing, one_sample}
 use Rattle.guide_query.specs.PathLines.{AreSampleLines}
+use Rattle.block_lines.proofs.BlockLineLaws.{one_list_of_lines as one_list_of_block_lines}
 use Rattle.dump_text.proofs.RuleLaws.{one_database}
 use Rattle.lorel_trees.specs.declared.dump_trees.DumpTree.{DumpTree}
 use Rattle.lorel_trees.specs.Trees as t
@@ -17,8 +18,9 @@ use Rattle.lorel_trees.specs.Trees.{history, select_at, blocks, blocks_of, watch
 use Rattle.bind_laws.proofs.AnswerLaws.{has_one_answer}
 use Rattle.statements.specs.Types.{Oid, Cell, Mode, Refusal}
 use Rattle.lore_db.specs.Types.{Reply, Changed, Rows, Lines, Refused}
+use Rattle.statements.specs.Blocks.{named_graph}
 use Rattle.statements.specs.Effects.{effects}
-use Rattle.statements.specs.Statements.{Cause, cause_order, Counts, MakesItsChanges, Shows, Browses, Samples, Limits, ChoosesBy, Dumps, Restores, Performs, Refuses}
+use Rattle.statements.specs.Statements.{Cause, cause_order, Counts, MakesItsChanges, Shows, ShowsBlocks, Browses, Samples, Limits, ChoosesBy, Dumps, Restores, Performs, Refuses}
 use Rattle.reply_laws.specs.Laws.{ExecutesOnce}
 use Rattle.statements.proofs.CauseLaws.{one_rows}
 use Rattle.statements.proofs.ExplainLaws.{one_explained}
@@ -66,6 +68,12 @@ one_sampled before start labels count reply other after later (kept, (most, is, 
     (subst (λ (n : ℕ). AreSampleLines before.graph.names before.graph.objects before.graph.edges before.labels start labels n others) sizes were) in
     (shown ∙ ap (λ (all : List (List ℕ)). Lines all) same ∙ sym too, kept ∙ sym left)
 
+one_blocked : (before : Database) (reply other : Reply) (after later : Database) → ShowsBlocks before reply after
+    → ShowsBlocks before other later → (reply ≡ other) × (after ≡ later)
+one_blocked before reply other after later (kept, (lines, shown, are)) (left, (others, too, were)) =
+    let same = one_list_of_block_lines (named_graph before) lines others are were in
+    (shown ∙ ap (λ (all : List (List ℕ)). Lines all) same ∙ sym too, kept ∙ sym left)
+
 one_dumped : (before : Database) (reply other : Reply) (after later : Database) → Dumps before reply after
     → Dumps before other later → (reply ≡ other) × (after ≡ later)
 one_dumped before reply other after later h k = (h.1 ∙ sym k.1, h.0 ∙ sym k.0)
@@ -108,8 +116,10 @@ one_performed before (set_plan mode) reply other after later h k = one_chosen be
 one_performed before (history on) reply other after later h k = absurd h
 one_performed before (select_at moment query) reply other after later h k = absurd h
 one_performed before (t.changes first last) reply other after later h k = absurd h
-one_performed before blocks reply other after later h k = absurd h
-one_performed before (blocks_of query) reply other after later h k = absurd h
+one_performed before blocks reply other after later h k = one_blocked before reply other after later h k
+one_performed before (blocks_of query) reply other after later h k =
+    let same = has_one_answer before query h.1.0 k.1.0 h.1.2 k.1.2 in
+    (h.1.1 ∙ ap (λ (rows : List (List Cell)). Rows rows) same ∙ sym k.1.1, h.0 ∙ sym k.0)
 one_performed before (watch name query) reply other after later h k = absurd h
 one_performed before (unwatch name) reply other after later h k = absurd h
 one_performed before (show name) reply other after later h k = absurd h

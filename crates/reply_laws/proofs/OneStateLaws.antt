@@ -1,6 +1,6 @@
 -- In each state a statement has one reply, and leaves one state.
-use Rattle.std.proofs.Common.{◌≡◌, ◌↔◌, ℕ, ◌+◌, inl, inr, List, [], ◌∷◌, ◌++◌, length, map, Option, Some, None, Less, Equal, refl, sym, ap, subst, ◌∙◌}
-use Rattle.std.specs.Prelude.{ℤ, pos, true, false, MatchOption, Contains, codes, decimal}
+use Rattle.std.proofs.Common.{◌≡◌, ◌↔◌, ℕ, ◌+◌, inl, inr, List, [], ◌∷◌, ◌++◌, length, map, Option, Some, None, Less, Equal, sym, ap, subst, ◌∙◌}
+use Rattle.std.specs.Prelude.{ℤ, true, false, MatchOption, Contains, codes, decimal}
 use Rattle.std.specs.Cmp.{IsTotalOrder}
 use Rattle.std.specs.Ordering.{ordering_reverse}
 use Rattle.std.specs.declared.cmp.Ordering.{Ordering}
@@ -16,12 +16,12 @@ use Rattle.bind_laws.proofs.AnswerLaws.{has_one_answer}
 use Rattle.doem_history.specs.Facts.{name_order, object_order}
 use Rattle.doem_history.specs.inside.FactLaws.{name_total, object_total, edge_total}
 use Rattle.doem_history.specs.Moments.{Moment}
-use Rattle.statements.specs.Types.{Oid, Edge, Value, Cell, Refusal}
-use Rattle.lore_db.specs.Types.{Reply, Past, Lines, Refused}
-use Rattle.statements.specs.Forms.{MakesChanges}
-use Rattle.statements.specs.Statements as databases
+use Rattle.statements.specs.Types.{Cell, Refusal}
+use Rattle.lore_db.specs.Types.{Reply, Rows, Past, Lines, Refused}
 use Rattle.lore_db.specs.Changes.{Change, gone, come, Precedes, AreChanges, AreChangeLines, change_line}
-use Rattle.lore_db.specs.States.{State, present, AnswersAt, TellsChanges, database_at, StateCause, state_order, AppendsMoment, Does, Performs}
+use Rattle.view_laws.specs.Freshness.{NamedQuery, query_in}
+use Rattle.lore_db.specs.States.{AnswersNow}
+use Rattle.lore_db.specs.States.{State, AnswersAt, TellsChanges, database_at, StateCause, state_order, AppendsMoment, Does}
 use Rattle.lore_db.proofs.AskLaws.{one_moment}
 use Rattle.reply_laws.specs.Laws.{PerformsOnce}
 use Rattle.reply_laws.proofs.OneReplyLaws.{one_counted, one_performed}
@@ -33,14 +33,26 @@ one_of_moments : (history : Option (List Moment)) (Answers : Reply → List Mome
 one_of_moments None Answers one reply other h k = absurd h
 one_of_moments (Some moments) Answers one reply other h k = one moments reply other h k
 
+-- of a view that is kept, one answer
+one_of_view : (query : Option SelectTree) (Answers : Reply → SelectTree → Type 0)
+    → ((own : SelectTree) (reply other : Reply) → Answers reply own → Answers other own → reply ≡ other) → (reply other : Reply)
+    → MatchOption query ⊥ (Answers reply) → MatchOption query ⊥ (Answers other) → reply ≡ other
+one_of_view None Answers one reply other h k = absurd h
+one_of_view (Some own) Answers one reply other h k = one own reply other h k
+
+one_shown : (db : Database) (query : SelectTree) (reply other : Reply) → AnswersNow db reply query → AnswersNow db other query → reply ≡ other
+one_shown db query reply other h k =
+    h.1 ∙ ap (λ (rows : List (List Cell)). Rows rows) (has_one_answer db query h.0 k.0 h.2 k.2) ∙ sym k.1
+
 -- one way in which a history goes on
-one_gone : (db : Database) (history : Option (List Moment)) (statement : StatementTree) (then : Database) (after later : State)
-    → AppendsMoment (record { db = db; history = history }) statement then after → AppendsMoment (record { db = db; history = history }) statement then later → after ≡ later
-one_gone db None statement then after later h k = h ∙ sym k
-one_gone db (Some moments) statement then after later (inl h) (inl k) = h.1 ∙ sym k.1
-one_gone db (Some moments) statement then after later (inl h) (inr k) = absurd (k.0 h.0)
-one_gone db (Some moments) statement then after later (inr h) (inl k) = absurd (h.0 k.0)
-one_gone db (Some moments) statement then after later (inr h) (inr k) = h.1 ∙ sym k.1
+one_gone : (db : Database) (history : Option (List Moment)) (views : List NamedQuery) (statement : StatementTree) (then : Database) (after later : State)
+    → AppendsMoment (record { db = db; history = history; views = views }) statement then after
+    → AppendsMoment (record { db = db; history = history; views = views }) statement then later → after ≡ later
+one_gone db None views statement then after later h k = h ∙ sym k
+one_gone db (Some moments) views statement then after later (inl h) (inl k) = h.1 ∙ sym k.1
+one_gone db (Some moments) views statement then after later (inl h) (inr k) = absurd (k.0 h.0)
+one_gone db (Some moments) views statement then after later (inr h) (inl k) = absurd (h.0 k.0)
+one_gone db (Some moments) views statement then after later (inr h) (inr k) = h.1 ∙ sym k.1
 
 one_selected : (db : Database) (given : ℤ) (query : SelectTree) (moments : List Moment) (reply other : Reply) → AnswersAt db given query reply moments
     → AnswersAt db given query other moments → reply ≡ other
@@ -108,10 +120,16 @@ one_done before (t.changes first last) reply other after later h k = (
   one_of_moments before.history (TellsChanges before.db first last) (one_told before.db first last) reply other h.1 k.1,
   h.0 ∙ sym k.0,
 )
+one_done before (t.watch name query) reply other after later h k = (one_counted before.db reply other h.0 k.0, h.1 ∙ sym k.1)
+one_done before (t.unwatch name) reply other after later h k = (one_counted before.db reply other h.0 k.0, h.1 ∙ sym k.1)
+one_done before (t.show name) reply other after later h k = (
+  one_of_view (query_in before.views name) (AnswersNow before.db) (one_shown before.db) reply other h.1 k.1,
+  h.0 ∙ sym k.0,
+)
 one_done before statement reply other after later (db, does, goes) (left, did, went) =
     let same = one_performed before.db statement reply other db left does did in (
       same.0,
-      one_gone before.db before.history statement left after later
+      one_gone before.db before.history before.views statement left after later
           (subst (λ (d : Database). AppendsMoment before statement d after) same.1 goes) went,
     )
 

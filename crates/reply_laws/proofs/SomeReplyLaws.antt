@@ -20,6 +20,7 @@ use Rattle.guide_laws.proofs.FitLaws.{guides_fit_or_pass}
 use Rattle.guide_laws.proofs.LimitLaws.{fitting_passes_none, one_limit_is_passed}
 use Rattle.guide_query.proofs.SomeLines.{lines_exist}
 use Rattle.guide_query.proofs.SomePathLines.{browsing_exists, sample_exists}
+use Rattle.block_lines.proofs.BlockLineLaws.{lines_exist as block_lines_exist}
 use Rattle.dump_text.specs.Dumps.{printed_dump}
 use Rattle.lore_store.proofs.ModeLaws.{valid_in_mode}
 use Rattle.lore_store.proofs.LimitLaws.{valid_limited}
@@ -41,17 +42,18 @@ use Rattle.lorel_bound.specs.Answers.{row_labels, IsTooMuch}
 use Rattle.statements.specs.Types.{SAMPLE, Oid, Edge, Cell, Mode, Changes, Refusal, LABELS, NAMES, OBJECTS, EDGES, NEXT_NUMBER}
 use Rattle.lore_db.specs.Types.{Reply, Changed, Rows, Lines, Dump, Refused}
 use Rattle.statements.specs.Types.refusals
-use Rattle.statements.specs.Forms.{IsUnbuilt, IsOfHistory, reads, counted_rows, binds, makes, path_select, MakesChanges}
+use Rattle.statements.specs.Forms.{IsOfSession, reads, counted_rows, binds, makes, path_select, MakesChanges}
+use Rattle.statements.specs.Blocks.{named_graph}
 use Rattle.statements.specs.Effects.{object_cells, AreRowsOf, effects}
 use Rattle.statements.specs.Statements.{IsUnbound, HasTooManyRows, IsNotOne, IsOutOfRange, IsNotFresh, IsNoDump, ChangesCause}
 use Rattle.statements.specs.Statements.{OfBinds, OfCounted}
-use Rattle.statements.specs.Statements.{Cause, cause_order, MakesItsChanges, Performs, Executes}
-use Rattle.lorel_trees.specs.Sound.{IsSound}
+use Rattle.statements.specs.Statements.{Cause, cause_order, MakesItsChanges, Performs}
 use Rattle.reply_laws.specs.Laws.{ExecutesAlways}
 use Rattle.statements.specs.inside.Stages.{fit_order}
 use Rattle.reply_laws.proofs.TurnLaws.{AreTold, some_verdict, told_from_verdict, told_of_none, told_append}
 use Rattle.reply_laws.proofs.LocalToldLaws.{told_double, told_undefined}
 use Rattle.statements.proofs.LiveRowLaws.{starts_somewhere}
+use Rattle.statements.proofs.BlockLaws.{sound_graph}
 use Rattle.statements.proofs.EffectLaws.{effects_fit}
 use Rattle.reply_laws.proofs.SomePlanLaws.{some_plan}
 use Rattle.statements.proofs.ObjectRowLaws.{answer_objects, changing_shows}
@@ -81,14 +83,6 @@ limit_order =
     refusals.TooManyNames ∷ refusals.TooManyObjects ∷ refusals.TooManyEdges ∷ refusals.GuideNodes ∷ refusals.GuideCells ∷ late
 
 -- ---- what is told of the text
-told_unbuilt : (statement : StatementTree) → IsTold (IsUnbuilt statement)
-told_unbuilt blocks = inl tt
-told_unbuilt (blocks_of query) = inl tt
-told_unbuilt (watch name query) = inl tt
-told_unbuilt (unwatch name) = inl tt
-told_unbuilt (show name) = inl tt
-told_unbuilt statement = inr (λ h. h)
-
 told_unbound : (db : Database) (statement : StatementTree) → IsTold (IsUnbound db statement)
 told_unbound db (unname name) = told_not (told_paired told_bytes db.graph.names name)
 told_unbound db (browse start labels) = told_not (told_paired told_bytes db.graph.names start)
@@ -235,8 +229,8 @@ module _ (db : Database) (statement : StatementTree) where
   pub told_text : AreTold (Cause db statement) text_order
   told_text =
       let read = told_read db.graph.names (binds statement) in (
-        told_unbuilt statement,
-        λ built. (
+        inr (λ h. h),
+        λ formed. (
           told_either (told_unbound db statement) read.0,
           λ known. told_append (Cause db statement) bound_order local_order (read.1 (λ h. known (inr h)))
               (λ bound. (
@@ -405,7 +399,7 @@ some_changed db valid statement formed changing clear =
     (λ many. limits.1.1.1.1.0 (changing, (found.0, found.1, many)))
 
 pub some_performed : (db : Database) → IsValid db → (statement : StatementTree) → IsFormedStatement statement
-    → (IsOfHistory statement → ⊥) → IsClear (Cause db statement) cause_order
+    → (IsOfSession statement → ⊥) → IsClear (Cause db statement) cause_order
     → (reply : Reply) × (after : Database) × Performs db statement reply after × IsValid after
 some_performed db valid (select query) formed plain clear =
     let found = some_read db (select query) clear.1.0 clear.1.1.0 query refl in
@@ -449,11 +443,15 @@ some_performed db valid (restore text) formed plain clear =
 some_performed db valid (history on) formed plain clear = absurd (plain tt)
 some_performed db valid (select_at moment query) formed plain clear = absurd (plain tt)
 some_performed db valid (t.changes first last) formed plain clear = absurd (plain tt)
-some_performed db valid blocks formed plain clear = absurd (clear.0 tt)
-some_performed db valid (blocks_of query) formed plain clear = absurd (clear.0 tt)
-some_performed db valid (watch name query) formed plain clear = absurd (clear.0 tt)
-some_performed db valid (unwatch name) formed plain clear = absurd (clear.0 tt)
-some_performed db valid (show name) formed plain clear = absurd (clear.0 tt)
+some_performed db valid blocks formed plain clear =
+    let lines = block_lines_exist (named_graph db) (sound_graph db valid) in
+    (Lines lines.0, db, (refl, (lines.0, refl, lines.1)), valid)
+some_performed db valid (blocks_of query) formed plain clear =
+    let found = some_read db (blocks_of query) clear.1.0 clear.1.1.0 query refl in
+    (Rows found.0, db, (refl, (found.0, refl, found.1)), valid)
+some_performed db valid (watch name query) formed plain clear = absurd (plain tt)
+some_performed db valid (unwatch name) formed plain clear = absurd (plain tt)
+some_performed db valid (show name) formed plain clear = absurd (plain tt)
 
 pub executes_always : ExecutesAlways
 executes_always db statement valid sound plain =

@@ -1,7 +1,9 @@
 -- From each state that can stand a sound statement has a reply, and leaves one that can.
-use Rattle.std.proofs.Common.{◌≡◌, ◌⊎◌, ◌↔◌, ℕ, ◌+◌, ◌<◌, ◌≤◌, inl, inr, List, [], ◌∷◌, ◌++◌, length, All, Option, Some, None, get_or, refl, sym, ap, subst, ◌∙◌, arith}
+use Rattle.std.proofs.Common.{◌≡◌, ◌⊎◌, ◌↔◌, ℕ, ◌<◌, ◌≤◌, inl, inr, List, [], ◌∷◌, ◌++◌, length, All, Option, Some, None, get_or, refl, sym, ap, subst, ◌∙◌, arith}
 use Rattle.std.specs.Prelude.{ℤ, pos, negsuc, true, false, MatchOption, IfSome}
-use Rattle.std.specs.List.{slice_get}
+use Rattle.std.specs.Map.{remove_entry}
+use Rattle.std.specs.BTreeMap.{insert_entry, is_at}
+use Rattle.lore_base.specs.Bytes.{bytes_cmp}
 use Rattle.std.proofs.lemmas.Bool.{cases_lt}
 use Rattle.std.proofs.lemmas.List.{length_push}
 use Rattle.std.proofs.lemmas.List.Elements.{All-push, All-nil}
@@ -18,18 +20,21 @@ use Rattle.lorel_trees.proofs.FormLaws.{sound_statement}
 use Rattle.doem_history.specs.Moments.{Moment, moment_of, IsInOrder, IsFull}
 use Rattle.doem_history.proofs.HistoryLaws.{one_history_weight}
 use Rattle.doem_history.proofs.WeightLaws.{some_history_weight}
-use Rattle.statements.specs.Types.{Refusal}
-use Rattle.lore_db.specs.Types.{Reply, Changed, Past, Lines, Refused}
+use Rattle.statements.specs.Types.{Refusal, VIEWS}
+use Rattle.lore_db.specs.Types.{Reply, Changed, Rows, Past, Lines, Refused}
 use Rattle.statements.specs.Types.refusals
-use Rattle.statements.specs.Forms.{MakesChanges, IsChanging, IsOfHistory}
+use Rattle.statements.specs.Forms.{MakesChanges, IsChanging, IsOfSession}
 use Rattle.statements.specs.Made.{IsMade}
 use Rattle.statements.specs.Statements.{Cause, cause_order, Counts}
 use Rattle.statements.specs.inside.Stages.{fit_order}
 use Rattle.statements.proofs.CauseLaws.{sizes, late}
 use Rattle.statements.proofs.RangeLaws.{no_count, told_changing, in_range}
+use Rattle.view_laws.specs.Freshness.{query_in}
+use Rattle.lore_db.specs.States.{IsOneTooMany, LacksView, AnswersNow}
 use Rattle.lore_db.specs.States.{State, present, IsMoment, HasMoment, AreTwoMoments, database_at, OfKeptMoments, AsksHistory, AsksNoMoment, IsRestore, WouldBeFullAfter, WouldBeFull, CauseAtMoment, AnswersAt, TellsChanges}
-use Rattle.lore_db.specs.States.{HistoryCause, PlainCause, StateCause, state_order, AppendsMoment, Does, Performs}
-use Rattle.lore_db.proofs.StateLaws.{of_none, of_some, of_kept, plain_never, plain_cause}
+use Rattle.lore_db.specs.States.{HistoryCause, PlainCause, StateCause, state_order, AppendsMoment}
+use Rattle.lore_db.proofs.StateLaws.{of_none, of_some, of_kept, plain_never, plain_cause, last_order}
+use Rattle.lore_db.proofs.ViewingLaws.{show_cause, of_view}
 use Rattle.lore_db.proofs.PerformLaws.{plain_does, one_made, still_present}
 use Rattle.lore_db.proofs.AskLaws.{one_number, at_cause}
 use Rattle.lore_db.proofs.LineLaws.{some_lines}
@@ -202,9 +207,21 @@ module _ (state : State) (given : ℤ) (query : SelectTree) where
         none (found.0, found.1, found.2)) cause_order
   ]
 
+-- of a view what is told of its select
+shown_told : (state : State) (name : List ℕ) (query : Option SelectTree) → query_in state.views name ≡ query
+    → AreTold (PlainCause state (t.show name)) cause_order
+shown_told state name None none =
+    told_of_none (PlainCause state (t.show name))
+    (λ refusal h. subst (λ (o : Option SelectTree). MatchOption o ⊥ (λ own. Cause state.db (select own) refusal)) none h) cause_order
+shown_told state name (Some query) there =
+    told_as (Cause state.db (select query)) (PlainCause state (t.show name)) (show_cause state name query there) cause_order (select_told state.db query)
+
 told_plain : (state : State) (statement : StatementTree) → IsValid state.db → IsFormedStatement statement → AreTold (PlainCause state statement) cause_order
 told_plain state (t.history on) valid formed = told_of_none (PlainCause state (t.history on)) (λ refusal h. h) cause_order
 told_plain state (t.changes first last) valid formed = told_of_none (PlainCause state (t.changes first last)) (λ refusal h. h) cause_order
+told_plain state (t.watch name query) valid formed = select_told state.db query
+told_plain state (t.unwatch name) valid formed = told_of_none (PlainCause state (t.unwatch name)) (λ refusal h. h) cause_order
+told_plain state (t.show name) valid formed = shown_told state name (query_in state.views name) refl
 told_plain state (t.select_at given query) valid formed = past_told state given query state.history refl
 told_plain state statement valid formed = told_order state.db valid statement formed
 
@@ -224,13 +241,13 @@ told_full : (moments : List Moment) (db : Database) → All IsInOrder moments �
 told_full moments db ordered valid =
     full_told one_history_weight some_history_weight (moments ++ present db ∷ []) (more_ordered moments db ordered valid) (more_some moments (present db))
 
-known_clear : (state : State) (statement : StatementTree) → (IsOfHistory statement → ⊥) → IsClear (PlainCause state statement) cause_order
+known_clear : (state : State) (statement : StatementTree) → (IsOfSession statement → ⊥) → IsClear (PlainCause state statement) cause_order
     → IsClear (Cause state.db statement) cause_order
 known_clear state statement plain clear =
     clear_same (PlainCause state statement) (Cause state.db statement)
     (λ refusal. ((plain_cause state statement plain refusal).1, (plain_cause state statement plain refusal).0)) cause_order clear
 
-full_over : (state : State) (statement : StatementTree) → CanStand state → IsFormedStatement statement → (IsOfHistory statement → ⊥)
+full_over : (state : State) (statement : StatementTree) → CanStand state → IsFormedStatement statement → (IsOfSession statement → ⊥)
     → IsClear (PlainCause state statement) cause_order
     → IsTold (OfKeptMoments state (WouldBeFullAfter state.db statement))
 full_over state statement stands formed plain clear = elim (told_changing statement) [
@@ -262,7 +279,28 @@ told_full_then state (t.history true) stands formed clear = told_full [] state.d
 told_full_then state (t.history false) stands formed clear = no_full state (t.history false) (λ h. h)
 told_full_then state (t.select_at given query) stands formed clear = no_full state (t.select_at given query) (λ h. h)
 told_full_then state (t.changes first last) stands formed clear = no_full state (t.changes first last) (λ h. h)
+told_full_then state (t.watch name query) stands formed clear = no_full state (t.watch name query) (λ h. h)
+told_full_then state (t.unwatch name) stands formed clear = no_full state (t.unwatch name) (λ h. h)
+told_full_then state (t.show name) stands formed clear = no_full state (t.show name) (λ h. h)
 told_full_then state statement stands formed clear = full_over state statement stands formed (λ h. h) clear
+
+-- ---- what is told of views
+told_no_query : (query : Option SelectTree) → IsTold (query ≡ None)
+told_no_query None = inl refl
+told_no_query (Some query) = inr (λ same. cc)
+
+told_many : (state : State) (statement : StatementTree) → IsTold (IsOneTooMany state statement)
+told_many state (t.watch name query) =
+    told_both (told_no_query (query_in state.views name)) (elim (cases_lt (length state.views) VIEWS) [
+      | inl fewer ↦ inr (λ (many : VIEWS ≤ length state.views). absurd (omega (arith, fewer, many)))
+      | inr many ↦ inl many
+    ])
+told_many state statement = inr (λ h. h)
+
+told_lacking : (state : State) (statement : StatementTree) → IsTold (LacksView state statement)
+told_lacking state (t.unwatch name) = told_no_query (query_in state.views name)
+told_lacking state (t.show name) = told_no_query (query_in state.views name)
+told_lacking state statement = inr (λ h. h)
 
 -- ---- all causes in their order
 told_state : (state : State) (statement : StatementTree) → CanStand state → IsFormedStatement statement → AreTold (StateCause state statement) state_order
@@ -271,13 +309,19 @@ told_state state statement stands formed = (
   λ there. (
     told_either (told_of state.history (λ moments. AsksNoMoment moments statement) (λ moments. told_beyond moments statement))
         (inr (plain_never state statement refusals.MomentRange (λ db other h. h))),
-    λ within. told_append (StateCause state statement) cause_order (refusals.HistoryFull ∷ [])
+    λ within. told_append (StateCause state statement) cause_order last_order
         (told_more (HistoryCause state statement) (PlainCause state statement) cause_order (told_beside state statement)
         (told_plain state statement stands.valid formed))
         (λ clear. (
           told_either (told_full_then state statement stands formed (clear_less (HistoryCause state statement) (PlainCause state statement) cause_order clear))
               (inr (plain_never state statement refusals.HistoryFull (λ db other h. h))),
-          λ light. tt,
+          λ light. (
+            told_either (told_many state statement) (inr (plain_never state statement refusals.TooManyViews (λ db other h. h))),
+            λ few. (
+              told_either (told_lacking state statement) (inr (plain_never state statement refusals.UnknownView (λ db other h. h))),
+              λ there. tt,
+            ),
+          ),
         )),
   ),
 )
@@ -360,23 +404,40 @@ module _ (state : State) (stands : CanStand state) where
               })
         ]
 
+  -- a view that is shown
+  some_shown : (name : List ℕ) → IsClear (StateCause state (t.show name)) state_order → (query : Option SelectTree)
+      → query_in state.views name ≡ query → SomePerformance state (t.show name)
+  some_shown name clear None none =
+      let last = clear_right (StateCause state (t.show name)) cause_order last_order clear.1.1 in
+      absurd (last.1.1.0 (inl none))
+  some_shown name clear (Some query) there =
+      let same = show_cause state name query there in
+      let found = some_read state.db (select query) (λ h. clear.1.1.1.0 (inr ((same refusals.UnknownName).0 h)))
+      (λ h. clear.1.1.1.1.0 (inr ((same refusals.UnknownVariable).0 h))) query refl in
+      record {
+        reply = Rows found.0;
+        after = state;
+        performed = inl (clear, (refl, of_view state name query there (AnswersNow state.db (Rows found.0)) (found.0, refl, found.1)));
+        stands = stands;
+      }
+
   -- the history goes on; where no moment is appended, the last one is still the present one
   some_gone : (statement : StatementTree) (db : Database) → IsValid db → ((IsRestore statement → ⊥) → Grows state.db db)
       → ((MakesChanges statement → ⊥) → (IsRestore statement → ⊥) → present db ≡ present state.db) → (history : Option (List Moment))
       → (MatchOption history ⊥ (λ moments. IsRestore statement) → ⊥) → IfSome history (AreKeptOf state.db)
-      → (after : State) × AppendsMoment (record { db = state.db; history = history }) statement db after × CanStand after
+      → (after : State) × AppendsMoment (record { db = state.db; history = history; views = state.views }) statement db after × CanStand after
   some_gone statement db valid grows same None stays kept =
-      (record { db = db; history = None }, refl, record { valid = valid; moments = tt })
+      (record { db = db; history = None; views = state.views }, refl, record { valid = valid; moments = tt })
   some_gone statement db valid grows same (Some moments) stays kept =
       let each = all_later state.db db moments (grows stays) valid kept.each in
       elim (told_changing statement) [
         | inl changing ↦ (
-          record { db = db; history = Some (moments ++ present db ∷ []) },
+          record { db = db; history = Some (moments ++ present db ∷ []); views = state.views },
           inl (changing, refl),
           record { valid = valid; moments = kept_more db valid moments each },
         )
         | inr still ↦ (
-          record { db = db; history = Some moments },
+          record { db = db; history = Some moments; views = state.views },
           inr (still, refl),
           record {
             valid = valid;
@@ -389,10 +450,10 @@ module _ (state : State) (stands : CanStand state) where
         )
       ]
 
-  some_plain : (statement : StatementTree) → IsFormedStatement statement → (IsOfHistory statement → ⊥) → IsClear (StateCause state statement) state_order
+  some_plain : (statement : StatementTree) → IsFormedStatement statement → (IsOfSession statement → ⊥) → IsClear (StateCause state statement) state_order
       → SomePerformance state statement
   some_plain statement formed plain clear =
-      let front = clear_left (StateCause state statement) cause_order (refusals.HistoryFull ∷ []) clear.1.1 in
+      let front = clear_left (StateCause state statement) cause_order last_order clear.1.1 in
       let known = known_clear state statement plain (clear_less (HistoryCause state statement) (PlainCause state statement) cause_order front) in
       let done = some_performed state.db stands.valid statement formed plain known in
       let same : (MakesChanges statement → ⊥) → (IsRestore statement → ⊥) → present done.1 ≡ present state.db = λ still stays.
@@ -425,6 +486,19 @@ module _ (state : State) (stands : CanStand state) where
   }
   some_done (t.select_at given query) formed clear = some_past given query clear
   some_done (t.changes first last) formed clear = some_differing first last clear
+  some_done (t.watch name query) formed clear = let counts = some_counts state.db in record {
+    reply = counts.0;
+    after = record state { views = insert_entry bytes_cmp state.views name query };
+    performed = inl (clear, (counts.1, refl));
+    stands = record { valid = stands.valid; moments = stands.moments };
+  }
+  some_done (t.unwatch name) formed clear = let counts = some_counts state.db in record {
+    reply = counts.0;
+    after = record state { views = remove_entry (is_at (bytes_cmp name)) state.views };
+    performed = inl (clear, (counts.1, refl));
+    stands = record { valid = stands.valid; moments = stands.moments };
+  }
+  some_done (t.show name) formed clear = some_shown name clear (query_in state.views name) refl
   some_done statement formed clear = some_plain statement formed (λ h. h) clear
 
 pub performs_always : PerformsAlways

@@ -8,7 +8,7 @@ use Rattle.lorel_trees.specs.Sound.{IsSound}
 use Rattle.updates.specs.Effects.{changes_by}
 use Rattle.doem_history.specs.Moments.{Moment}
 use Rattle.lore_db.specs.Types.{Reply}
-use Rattle.statements.specs.Forms.{IsOfHistory}
+use Rattle.statements.specs.Forms.{IsOfSession}
 use Rattle.statements.specs.Statements.{Executes}
 use Rattle.lore_db.specs.States.{State, new_state, present, database_at, Performs}
 
@@ -31,10 +31,10 @@ pub record SomeReply (before : Database) (statement : StatementTree) : Type 0 wh
   pub executed : Executes before statement reply after
   pub valid : IsValid after
 
--- from a valid database each sound statement has a reply, but those that keep a history or ask one
+-- from a valid database each sound statement has a reply, but those that keep or ask a history or views
 abbrev pub ExecutesAlways : Type 0
 ExecutesAlways = (before : Database) (statement : StatementTree) → IsValid before → IsSound statement
-    → ¬ IsOfHistory statement → SomeReply before statement
+    → ¬ IsOfSession statement → SomeReply before statement
 
 -- the new database is valid
 abbrev pub BeginsValid : Type 0

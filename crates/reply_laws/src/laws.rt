@@ -8,13 +8,14 @@ pub fn one_reply()
     ensures { ExecutesOnce }
 {}
 
-/// In a state a statement has one reply, and leaves one state: what a history answers is determined.
+/// In a state a statement has one reply, and leaves one state: what a history and views answer is
+/// determined.
 pub fn one_state()
     ensures { PerformsOnce }
 {}
 
 /// The new database is valid. From each valid database a sound statement that keeps and asks no
-/// history has a reply, and leaves a valid one.
+/// history and no views has a reply, and leaves a valid one.
 pub fn some_reply()
     ensures begun { BeginsValid }
     ensures always { ExecutesAlways }

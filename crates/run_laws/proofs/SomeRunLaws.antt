@@ -14,7 +14,7 @@ use Rattle.lore_run.specs.Types.{Refusal, BadToken, RealRefused, NumberRange, Te
 use Rattle.lorel_trees.specs.Trees.{StatementTree}
 use Rattle.lorel_trees.specs.Sound.{IsSound}
 use Rattle.lorel_trees.specs.Tokens.{HasTokens}
-use Rattle.lore_db.specs.States.{State, Performs}
+use Rattle.lore_db.specs.States.{State}
 use Rattle.reply_laws.specs.Laws.{CanStand, PerformsAlways}
 use Rattle.lore_run.specs.Replies.{reply_text}
 use Rattle.lore_run.specs.Runs.{ScriptPart, chunk, rest, Yields, refusals}

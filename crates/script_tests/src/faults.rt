@@ -96,7 +96,8 @@ fn a_read_fault_ends_a_run_behind_the_replies_to_what_was_read(
     Ok(())
 }
 
-// Runs a script with a write that fails, behind the bytes that are to be written.
+// Runs a script to a sink with room for 1,024 bytes and a write that fails, behind the bytes that
+// are to be written.
 fn check_write(
     alloc: Global,
     script: &[u8],
@@ -106,6 +107,7 @@ fn check_write(
 ) -> Result<(), Fail> {
     let outside = Outside {
         failing_write,
+        room: 1_024,
         ..sound(13, write_piece)
     };
     check_run(alloc, script, outside, outcome, written)

@@ -1,12 +1,12 @@
-use crate::runs::{Outside, check_run, ends, sound};
-use lore_base::NoMemory;
+use crate::runs::{Outside, check_run, ends, run, sink, sound};
+use lore_base::{NoMemory, OemText, SureSink, SureSource};
 use lore_run::{Outcome, Status};
 use std::alloc::Global;
 use std::test::Fail;
 
 // A script that has each form of statement once and one that is refused, in chunks up to their
 // `;`, each with its reply.
-const FORMS: [(&[u8], &[u8]); 23] = [
+const FORMS: [(&[u8], &[u8]); 28] = [
     (
         b"restore oem 2 next 1 nodes 4096 plan auto end;",
         b"ok objects 0 edges 0 nodes 0\n",
@@ -40,6 +40,17 @@ const FORMS: [(&[u8], &[u8]); 23] = [
     (b"at 0 select B.d.e;", b"&6 true\nrows 1\n"),
     (b"changes 0 1;", b"- name B &3\nchanges 1\n"),
     (b"history off;", b"ok objects 6 edges 5 nodes 6\n"),
+    (
+        b"blocks;",
+        b"block &1 1\nblock &2 1\nblock &3 1\nblock &4 1\nblock &5 1\nblock &6 1\nblocks 6\n",
+    ),
+    (b"blocks select A.c.d.e;", b"&6 true\nrows 1\n"),
+    (
+        b"watch V := select A.c where A.b < 3;",
+        b"ok objects 6 edges 5 nodes 6\n",
+    ),
+    (b"show V;", b"&3 {}\nrows 1\n"),
+    (b"unwatch V;", b"ok objects 6 edges 5 nodes 6\n"),
     (b"dump;", DUMPED),
     (b"generate 1 20;", b"ok objects 197 edges 245 nodes 140\n"),
 ];
@@ -184,6 +195,31 @@ fn each_write_may_fail_of_a_script_of_all_forms(rt: HostRuntime) -> Result<(), F
     let script = script(rt.alloc())?;
     for piece in [1, 5, 4_096] {
         check_writes(rt.alloc(), script.as_slice(), piece)?;
+    }
+    Ok(())
+}
+
+// Runs the script from a source that never fails, to a sink that keeps what it is written, and to
+// one that never fails.
+fn check_sure(alloc: Global, script: &[u8], piece: u32) -> Result<(), Fail> {
+    let due = due_to_write(alloc, 4_096, 10_000)?;
+    let mut source = SureSource::new(OemText::from_bytes(alloc, script)?, piece.max(1));
+    let mut kept = sink(alloc, sound(piece, piece))?;
+    let told = run(alloc, &[], &mut source, &mut kept)?;
+    let mut source = SureSource::new(OemText::from_bytes(alloc, script)?, piece.max(1));
+    let mut sink = SureSink::new(piece.max(1));
+    let untold = run(alloc, &[], &mut source, &mut sink)?;
+    if told == due.outcome && untold == due.outcome && kept.bytes() == due.written.as_slice() {
+        return Ok(());
+    }
+    Err(Fail::new("a run ends otherwise, or writes other bytes"))
+}
+
+#[test]
+fn a_script_of_all_forms_runs_where_nothing_can_fail(rt: HostRuntime) -> Result<(), Fail> {
+    let script = script(rt.alloc())?;
+    for piece in [1, 5, 13, 65_536] {
+        check_sure(rt.alloc(), script.as_slice(), piece)?;
     }
     Ok(())
 }

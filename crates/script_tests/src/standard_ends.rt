@@ -1,4 +1,4 @@
-use crate::runs::{LOADED, LOADS, SELECTED, SELECTS, ends, run, sink, sound, source};
+use crate::runs::{LOADED, LOADS, SELECTED, SELECTS, ends, run, sink, sound};
 use lore_base::{NoMemory, OemText, Source, StdSink, StdSource, SureSink, SureSource};
 use lore_run::{Outcome, Status};
 use std::alloc::Global;
@@ -88,10 +88,10 @@ fn run_from_sure(alloc: Global, piece: u32) -> Result<(Outcome, usize, bool), No
     Ok((outcome, behind, sink.bytes() == LOADED))
 }
 
-// Runs the loads to a sink that never fails, and gives how the run ends and what a read finds
-// behind it.
+// Runs the loads from a source to a sink that never fail, and gives how the run ends and what a
+// read finds behind it.
 fn run_to_sure(alloc: Global, piece: u32) -> Result<(Outcome, usize), NoMemory> {
-    let mut source = source(alloc, LOADS, sound(piece, piece))?;
+    let mut source = SureSource::new(OemText::from_bytes(alloc, LOADS)?, piece.max(1));
     let mut sink = SureSink::new(piece.max(1));
     let outcome = run(alloc, &[], &mut source, &mut sink)?;
     Ok((outcome, source.read(&mut [0]).unwrap_or(99)))

@@ -1,18 +1,20 @@
 ghost use Rattle.std.specs.Prelude.{◌≡◌, ◌<◌, ◌≤◌};
 
 use lore_base::limits::CHUNK_BYTES;
-use lore_base::{NoMemory, OemText, Oid, Steps, Value};
+use lore_base::{Label, NoMemory, OemText, Oid, Steps, Value};
 use lore_db::{Db, Reply};
 use lorel_lex::tokens;
 use lorel_parse::parse;
+use one_index::Blocks;
 use std::alloc::Global;
 use std::marker::Brand;
 use std::sync::ledger::{Blank, Ledger};
 use std::test::Fail;
 
 // Statements that are all accepted, of each form that changes a database, with a ring in it, and
-// some that ask. A history is kept of the last changes.
-const STATEMENTS: [&[u8]; 21] = [
+// some that ask. A view is kept, and a history of the last changes, which concern the view; blocks are
+// asked for before a change and behind the last one.
+const STATEMENTS: [&[u8]; 26] = [
     b"restore oem 2 next 1 nodes 4096 plan auto end",
     b"load A := &1 { b 1, c &2 { back &1, b \"x\" }, c { b 2 } }",
     b"name B := A.c.back",
@@ -24,23 +26,28 @@ const STATEMENTS: [&[u8]; 21] = [
     b"update A.c.f -= A",
     b"explain select A.c.d.e",
     b"guide",
+    b"blocks select A.c.d.e",
     b"generate 1 20",
     b"update People.club.member -= People.person",
     b"set nodes 1000",
     b"unname People",
     b"set plan top",
+    b"watch V := select A.b where A.b < 9",
     b"history on",
     b"update A.b := 4",
     b"update A.g += \"new\"",
     b"at 1 select A.b, A.c.f",
     b"changes 0 2",
+    b"blocks",
+    b"blocks select A.#.back",
+    b"show V",
 ];
 
 // What differs between the first moment of a history and the last one, where it has so many more.
 const CHANGES: [&[u8]; 3] = [b"changes 0 0", b"changes 0 1", b"changes 0 2"];
 
 // The dump behind them: both members of `A` have a copy with a ring, and all persons vanished. Behind
-// it stands what the history tells.
+// it stands what the history tells, that blocks are kept, and whether the view is fresh.
 const DUMPED: &[u8] = b"oem 2
 next 203
 nodes 1000
@@ -94,7 +101,12 @@ end
 + object &202 \"new\"
 + edge &1 g &202
 changes 4
+blocks are kept
+V is fresh
 ";
+
+// How many blocks there are then: both members are alike, and so is what they lead to.
+const BLOCKS: u32 = 7;
 
 // A drop that is written out is proved once; else it is proved in each function, at length.
 
@@ -167,6 +179,16 @@ fn telling(db: &Db) -> Option<&'static [u8]> {
     }
 }
 
+// Whether the view has its rows.
+fn put_view(alloc: Global, db: &Db, dump: &mut Vec<u8>) -> Result<(), NoMemory> {
+    let name = OemText::from_bytes(alloc, b"V")?;
+    match db.views().rows(&name) {
+        Some(_) => dump.extend_from_slice(b"V is fresh\n")?,
+        None => dump.extend_from_slice(b"V isn't fresh\n")?,
+    }
+    Ok(())
+}
+
 fn dumped_once<L: Ledger>(
     alloc: Global,
     db: &mut Db,
@@ -177,11 +199,15 @@ fn dumped_once<L: Ledger>(
     if let Some(text) = telling(db) {
         execute(alloc, text, db, steps, &mut dump)?;
     }
+    if db.blocks().is_some() {
+        dump.extend_from_slice(b"blocks are kept\n")?;
+    }
+    put_view(alloc, db, &mut dump)?;
     Ok(dump)
 }
 
-// The dump of the database and what its history tells, in a second try where memory was refused in the
-// first.
+// The dump of the database, what its history tells, whether blocks are kept, and whether the view is
+// fresh, in a second try where memory was refused in the first.
 fn dumped<L: Ledger>(
     alloc: Global,
     db: &mut Db,
@@ -193,8 +219,8 @@ fn dumped<L: Ledger>(
     }
 }
 
-// Executes a statement. Where memory was refused, the database has to be what it was; then the
-// statement is executed again.
+// Executes a statement. Where memory was refused, the database and what is kept of it have to be
+// what they were; then the statement is executed again.
 fn executed<L: Ledger>(
     alloc: Global,
     text: &[u8],
@@ -232,6 +258,24 @@ fn tells_values(db: &Db) -> bool {
         && db.past_value(3, Oid(2)).is_none()
 }
 
+// Whether the third block has both members of `A`, and its second edge leads back to their parent.
+fn tells_members(blocks: &Blocks) -> bool {
+    matches!(blocks.block_of(Oid(5)), Some(2))
+        && blocks.block_of(Oid(11)).is_none()
+        && blocks.members(2).is_some()
+        && blocks.members(BLOCKS).is_none()
+        && matches!(blocks.out(2, 1), Some((Label(2), 0)))
+        && blocks.out(2, 3).is_none()
+}
+
+// Whether so many blocks are kept, and tell this.
+fn tells_blocks(db: &Db) -> bool {
+    match db.blocks() {
+        Some(blocks) => blocks.len() == BLOCKS && tells_members(blocks),
+        None => false,
+    }
+}
+
 // Executes all statements, and gives the dump behind them.
 fn all_executed<L: Ledger>(
     alloc: Global,
@@ -243,6 +287,9 @@ fn all_executed<L: Ledger>(
     }
     if !tells_values(db) {
         return Err(Fail::new("the history tells other values"));
+    }
+    if !tells_blocks(db) {
+        return Err(Fail::new("there are other blocks"));
     }
     Ok(dumped(alloc, db, steps)?)
 }

@@ -82,14 +82,6 @@ module _ (db : Database) (statement : StatementTree) where
   module _ (old now : ℕ) where
     -- ---- a stop that is handed on, from the database that is kept
     module _ (kept : Database) (is : kept ≡ db) where
-      pub stops_again : {T : Type 0} (result : Result T Stop) (first : Stop) → IsErrAnd result (λ stop. stop ≡ first)
-          → IfSome (told first) (λ refusal. ListsUnread statement → ReadsToRefuse kept statement refusal old now)
-          → IfErr result (λ stop. IfSome (told stop) (λ refusal. ListsUnread statement → ReadsToRefuse db statement refusal old now))
-      stops_again (Ok value) first given h = tt
-      stops_again (Err ended) first given h =
-          let other = subst (λ (d : Database). IfSome (told first) (λ refusal. ListsUnread statement → ReadsToRefuse d statement refusal old now)) is h in
-          subst (λ (s : Stop). IfSome (told s) (λ refusal. ListsUnread statement → ReadsToRefuse db statement refusal old now)) (sym given) other
-
       pub counted_within : (after : Database) (reply : Reply) → Counts after reply → (ListsUnread statement → ReadsWithinEffects kept statement old now)
           → ListsUnread statement → ReadsToReply db statement reply old now
       counted_within after reply counts reads unread =

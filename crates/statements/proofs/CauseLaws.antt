@@ -21,7 +21,7 @@ use Rattle.updates.specs.Effects.{Pair, changes_by}
 use Rattle.updates.specs.Causes.{IsUpdate}
 use Rattle.statements.specs.Types.{Oid, Edge, Value, Cell, Changes, Refusal, LABELS, NEXT_NUMBER}
 use Rattle.statements.specs.Types.refusals
-use Rattle.statements.specs.Forms.{IsUnbuilt, reads, path_select, MakesChanges}
+use Rattle.statements.specs.Forms.{reads, path_select, MakesChanges}
 use Rattle.statements.specs.Effects.{object_cells, pair_of, AreRowsOf, loading, naming, effects}
 use Rattle.statements.specs.Statements.{IsUnbound, IsOutOfRange, IsNotFresh, IsNoDump, ChangesCause, Cause, cause_order}
 use Rattle.statements.specs.inside.Stages.{bound_order, found_order, fit_order}
@@ -98,18 +98,6 @@ module _ (db : Database) (statement : StatementTree) (rows : List (List Oid)) (a
         (clear_both (Cause db statement) sizes late (clear_alike (DatabaseCause db changes) (Cause db statement) sizes sizes_alike h) within)
 
 -- ---- statements that make changes
--- they are built
-pub changing_built : (statement : StatementTree) → MakesChanges statement → IsUnbuilt statement → ⊥
-changing_built (t.history on) changing unbuilt = changing
-changing_built (t.select_at moment query) changing unbuilt = changing
-changing_built (t.changes first last) changing unbuilt = changing
-changing_built t.blocks changing unbuilt = changing
-changing_built (t.blocks_of query) changing unbuilt = changing
-changing_built (t.watch name query) changing unbuilt = changing
-changing_built (t.unwatch name) changing unbuilt = changing
-changing_built (t.show name) changing unbuilt = changing
-changing_built _ changing unbuilt = unbuilt
-
 -- they have no number out of range, and restore nothing
 changing_within : (db : Database) (statement : StatementTree) → MakesChanges statement → IsOutOfRange db statement → ⊥
 changing_within db (t.set_nodes nodes) changing outside = changing
@@ -261,9 +249,6 @@ update_changes (t.add_new target label literal tail) update = tt
 update_changes (t.add_link target label right tail) update = tt
 update_changes (t.remove target label right tail) update = tt
 update_changes _ update = absurd (update refl)
-
-pub update_built : (statement : StatementTree) → IsUpdate statement → IsUnbuilt statement → ⊥
-update_built statement update unbuilt = changing_built statement (update_changes statement update) unbuilt
 
 -- an update needs no name of its own
 pub update_names : (db : Database) (statement : StatementTree) → IsUpdate statement → IsUnbound db statement → ⊥

@@ -38,7 +38,7 @@ crowded_no_dump text db dumped sound passed other too valid =
 module _ (db : Database) where
   pub dump_clear : IsClear (Cause db t.dump) cause_order
   dump_clear =
-      clear_both (Cause db t.dump) (fit_order ++ sizes) late (nothing_before db t.dump (λ h. h) (λ h. h) (λ h. h) refl refl)
+      clear_both (Cause db t.dump) (fit_order ++ sizes) late (nothing_before db t.dump (λ h. h) (λ h. h) refl refl)
       (λ h. h, (λ h. h, (λ h. h, tt)))
 
   pub dumped : (done : Result Reply Stop) → IfOk done (λ reply. Dumps db reply db) → IfOk done (λ reply. Executes db t.dump reply db)
@@ -52,7 +52,7 @@ module _ (db : Database) where
 
   module _ (text : DumpTree) where
     restore_before : IsClear (Cause db (t.restore text)) (fit_order ++ sizes)
-    restore_before = nothing_before db (t.restore text) (λ h. h) (λ h. h) (λ h. h) refl refl
+    restore_before = nothing_before db (t.restore text) (λ h. h) (λ h. h) refl refl
 
     pub restore_clear : db ≡ new_database → (IsNoDump (t.restore text) → ⊥) → IsClear (Cause db (t.restore text)) cause_order
     restore_clear new dumped =

@@ -12,9 +12,9 @@ use Rattle.lorel_trees.specs.Trees as t
 use Rattle.lorel_trees.specs.Trees.{SelectTree, StatementTree}
 use Rattle.lorel_trees.specs.Formed.{IsFormedStatement}
 use Rattle.lorel_bind.specs.Answers.{IsAnswer}
-use Rattle.statements.specs.Types.{Cell, Changes, Refusal, Reply, Rows, Refused}
+use Rattle.statements.specs.Types.{Cell, Changes, Refusal, Reply, Rows}
 use Rattle.statements.specs.Types.refusals
-use Rattle.statements.specs.Forms.{IsUnbuilt, MakesChanges, IsChanging}
+use Rattle.statements.specs.Forms.{MakesChanges, IsChanging}
 use Rattle.statements.specs.Effects.{effects}
 use Rattle.statements.specs.Statements.{Cause, cause_order, Counts, MakesItsChanges, Performs, Executes}
 use Rattle.statements.specs.Made.{IsMade}
@@ -42,14 +42,35 @@ module _ (db : Database) (query : SelectTree) where
   select_performs rows clear answer =
       inl (
         clear_both (Cause db (t.select query)) found_order change_order
-            (read_clear db (t.select query) query refl (λ h. h) (λ h. h) refl (no_locals db (t.select query) (λ h. h)) clear) select_behind,
+            (read_clear db (t.select query) query refl (λ h. h) refl (no_locals db (t.select query) (λ h. h)) clear) select_behind,
         (refl, (rows, refl, answer)),
       )
 
   pub select_told : (told : Option Refusal) → IsToldBy (ReadCause db query) read_order told → IsToldBy (Cause db (t.select query)) cause_order told
   select_told told h =
       told_left (Cause db (t.select query)) found_order change_order told
-      (read_found db (t.select query) query refl (λ h. h) (λ h. h) refl (no_locals db (t.select query) (λ h. h)) told h)
+      (read_found db (t.select query) query refl (λ h. h) refl (no_locals db (t.select query) (λ h. h)) told h)
+
+-- and selects by blocks
+module _ (db : Database) (query : SelectTree) where
+  blocks_behind : IsClear (Cause db (t.blocks_of query)) change_order
+  blocks_behind =
+      clear_both (Cause db (t.blocks_of query)) (refusals.NotOne ∷ (early ++ sizes)) late
+      (no_changes db (t.blocks_of query) (λ h. h)) (λ h. h, (λ h. h, (λ h. h, tt)))
+
+  pub blocks_performs : (rows : List (List Cell)) → IsClear (ReadCause db query) read_order → IsAnswer db query rows
+      → Executes db (t.blocks_of query) (Rows rows) db
+  blocks_performs rows clear answer =
+      inl (
+        clear_both (Cause db (t.blocks_of query)) found_order change_order
+            (read_clear db (t.blocks_of query) query refl (λ h. h) refl (no_locals db (t.blocks_of query) (λ h. h)) clear) blocks_behind,
+        (refl, (rows, refl, answer)),
+      )
+
+  pub blocks_told : (told : Option Refusal) → IsToldBy (ReadCause db query) read_order told → IsToldBy (Cause db (t.blocks_of query)) cause_order told
+  blocks_told told h =
+      told_left (Cause db (t.blocks_of query)) found_order change_order told
+      (read_found db (t.blocks_of query) query refl (λ h. h) refl (no_locals db (t.blocks_of query) (λ h. h)) told h)
 
 -- ---- changes
 -- changes that are equal list the same
@@ -123,11 +144,6 @@ uncounted_change db (t.unwatch name) form quiet changing = form
 uncounted_change db (t.show name) form quiet changing = form
 uncounted_change db _ form quiet changing = quiet
 
--- ---- forms that aren't built
--- they are refused, and change nothing
-pub unbuilt_refused : (db : Database) (statement : StatementTree) → IsUnbuilt statement → Executes db statement (Refused refusals.Syntax) db
-unbuilt_refused db statement unbuilt = inr (refusals.Syntax, inl (unbuilt, refl), (refl, refl))
-
 -- ---- replies
 -- what stays is the same, whatever the answer
 pub unchanged : {T : Type 0} (done : Result T Stop) (db : Database) → OnErr done (db ≡ db)
@@ -156,8 +172,3 @@ pub replied_on : (done : Result Reply Stop) (result : Result Reply NoMemory) →
 replied_on (Ok reply) result is Holds h = subst (λ (r : Result Reply NoMemory). OnOk r Holds) (sym is) h
 replied_on (Err (stop.Refused refusal)) result is Holds h = subst (λ (r : Result Reply NoMemory). OnOk r Holds) (sym is) h
 replied_on (Err stop.NoMemory) result is Holds h = subst (λ (r : Result Reply NoMemory). OnOk r Holds) (sym is.1) tt
-
--- what holds in each case holds where there is a reply
-pub on_any : {T E : Type 0} (result : Result T E) (Holds : Type 0) → Holds → OnOk result Holds
-on_any (Ok value) Holds h = h
-on_any (Err error) Holds h = tt

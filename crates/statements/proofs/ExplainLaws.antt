@@ -31,7 +31,7 @@ module _ (db : Database) (query : SelectTree) where
 
   explain_clear : IsClear (ReadCause db query) bind_order → IsClear (Cause db tree) cause_order
   explain_clear clear =
-      clear_both (Cause db tree) bound_order (behind ++ late) (read_bound db tree query refl (λ h. h) (λ h. h) clear)
+      clear_both (Cause db tree) bound_order (behind ++ late) (read_bound db tree query refl (λ h. h) clear)
       (clear_both (Cause db tree) behind late (behind_binding db tree (λ h. h) refl) (λ h. h, (λ h. h, (λ h. h, tt))))
 
   pub explained : (reply : Reply) → IsClear (ReadCause db query) bind_order → ShowsPlan db query reply → Executes db tree reply db

@@ -24,11 +24,11 @@ use Rattle.statements.proofs.QuietLaws.{nothing_before}
 -- ---- what refuses them
 module _ (db : Database) where
   pub guide_clear : IsClear (Cause db t.guide) cause_order
-  guide_clear = clear_both (Cause db t.guide) (fit_order ++ sizes) late (nothing_before db t.guide (λ h. h) (λ h. h) (λ h. h) refl refl) (λ h. h, (λ h. h, (λ h. h, tt)))
+  guide_clear = clear_both (Cause db t.guide) (fit_order ++ sizes) late (nothing_before db t.guide (λ h. h) (λ h. h) refl refl) (λ h. h, (λ h. h, (λ h. h, tt)))
 
 module _ (db : Database) (nodes : ℤ) where
   nodes_before : IsClear (Cause db (t.set_nodes nodes)) (fit_order ++ sizes)
-  nodes_before = nothing_before db (t.set_nodes nodes) (λ h. h) (λ h. h) (λ h. h) refl refl
+  nodes_before = nothing_before db (t.set_nodes nodes) (λ h. h) (λ h. h) refl refl
 
   pub nodes_clear : (IsNoLimit db nodes → ⊥) → IsClear (Cause db (t.set_nodes nodes)) cause_order
   nodes_clear limit = clear_both (Cause db (t.set_nodes nodes)) (fit_order ++ sizes) late nodes_before (limit, (λ h. h, (λ h. h, tt)))

@@ -3,7 +3,6 @@
 use Rattle.std.proofs.Common.{◌≡◌, ◌≢◌, inl, inr, ℕ, ◌+◌, ◌<◌, Bool, true, false, if◌then◌else◌, List, [], ◌∷◌, ◌++◌, length, All, AllPairs, Contains, refl, ap, arith}
 use Rattle.std.specs.Str.{bytes_eq}
 use Rattle.std.proofs.lemmas.List.Elements.{Contains-append_right}
-use Rattle.std.proofs.lemmas.Slice.Eq.{bytes_eq-Decides}
 use Rattle.lore_base.specs.Names.{IsLabel}
 use Rattle.lore_base.proofs.MemberLaws.{Contains-none, Contains-cases}
 use Rattle.lore_base.proofs.ListLaws.{AllPairs-head, AllPairs-tail}
@@ -40,6 +39,3 @@ place_from true first texts text is later =
 place_from false first texts text is later =
     let behind : place_in (first ∷ texts) text ≡ 1 + place_in texts text = ap (λ b. if b then 0 else (1 + place_in texts text)) is in
     omega (arith, behind, later refl)
-
-apart_tests : (first text : List ℕ) → bytes_eq first text ≡ false → first ≡ text → ⊥
-apart_tests first text is same = let passes : bytes_eq first text ≡ true = (bytes_eq-Decides first text).1 same in cc

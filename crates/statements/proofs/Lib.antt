@@ -32,4 +32,5 @@ pub mod ExplainLaws
 pub mod QuietPlanLaws
 pub mod ViewLaws
 pub mod ForwardLaws
+pub mod BlockLaws
 pub mod BoundLaws

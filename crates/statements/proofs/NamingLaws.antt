@@ -80,7 +80,7 @@ module _ (db : Database) (valid : IsValid db) (name : List ℕ) (path : RootedTr
       (is.2.at place, shown_objects db is.0 is.2.at (place ∷ []) row is.2.shown))
 
   found_clear : IsClear (ReadCause db query) bind_order → IsClear (Cause db naming_tree) found_order
-  found_clear clear = uncounted_clear db naming_tree query refl (λ unbuilt. unbuilt) (λ unbound. unbound) refl (name_locals db valid name path) clear
+  found_clear clear = uncounted_clear db naming_tree query refl (λ unbound. unbound) refl (name_locals db valid name path) clear
 
   -- too many rows are not one: without words they have no labels, and so they are more than an answer may have
   flooded : (rows : List (List Cell)) → IsAnswer db query rows → IsTooMuch rows → length rows ≢ 1
@@ -91,7 +91,7 @@ module _ (db : Database) (valid : IsValid db) (name : List ℕ) (path : RootedTr
   binding_stops : (told : Option Refusal) → IsToldBy (ReadCause db query) bind_order told → IsToldBy (Cause db naming_tree) cause_order told
   binding_stops told h =
       told_left (Cause db naming_tree) bound_order (locals ++ (refusals.TooManyRows ∷ change_order)) told
-      (read_binds db naming_tree query refl (λ unbuilt. unbuilt) (λ unbound. unbound) told h)
+      (read_binds db naming_tree query refl (λ unbound. unbound) told h)
 
   -- what refuses the select refuses the statement, but too many rows are not one
   pub path_stops : (told : Option Refusal) → IsToldBy (ReadCause db query) read_order told → IsToldBy (Cause db naming_tree) cause_order (not_one told)

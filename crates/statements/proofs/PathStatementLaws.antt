@@ -25,7 +25,7 @@ module _ (db : Database) (start : List ℕ) (labels : List (List ℕ)) where
   pub browse_clear : IsBound db.graph.names start → IsClear (Cause db (t.browse start labels)) cause_order
   browse_clear bound =
       clear_both (Cause db (t.browse start labels)) (fit_order ++ sizes) late
-      (nothing_before db (t.browse start labels) (λ h. h) (λ h. h) (λ unbound. unbound bound) refl refl) (λ h. h, (λ h. h, (λ h. h, tt)))
+      (nothing_before db (t.browse start labels) (λ h. h) (λ unbound. unbound bound) refl refl) (λ h. h, (λ h. h, (λ h. h, tt)))
 
   pub browse_told : (IsBound db.graph.names start → ⊥) → IsToldBy (Cause db (t.browse start labels)) cause_order (Some refusals.UnknownName)
   browse_told unbound = inr (λ h. h, inl (inl unbound, refl))
@@ -33,7 +33,7 @@ module _ (db : Database) (start : List ℕ) (labels : List (List ℕ)) where
   -- ---- its first objects
   module _ (count : ℤ) where
     sample_before : IsBound db.graph.names start → IsClear (Cause db (t.sample start labels count)) (fit_order ++ sizes)
-    sample_before bound = nothing_before db (t.sample start labels count) (λ h. h) (λ h. h) (λ unbound. unbound bound) refl refl
+    sample_before bound = nothing_before db (t.sample start labels count) (λ h. h) (λ unbound. unbound bound) refl refl
 
     pub sample_clear : IsBound db.graph.names start → IsBetween 1 SAMPLE count → IsClear (Cause db (t.sample start labels count)) cause_order
     sample_clear bound within =

@@ -9,7 +9,7 @@ use Rattle.lorel_bind.specs.Refusals as binding
 use Rattle.oem_text.specs.Literals.{HasDouble, HasUndefined}
 use Rattle.statements.specs.Types.{Refusal}
 use Rattle.statements.specs.Types.refusals
-use Rattle.statements.specs.Forms.{IsUnbuilt, reads, binds, MakesChanges}
+use Rattle.statements.specs.Forms.{reads, binds, MakesChanges}
 use Rattle.statements.specs.Statements.{IsUnbound, HasTooManyRows, IsNotOne, ChangesCause, OfBinds, OfCounted, OfMakes, Cause}
 use Rattle.statements.specs.inside.Stages.{fit_order}
 use Rattle.statements.proofs.CauseLaws.{locals, early, sizes}
@@ -78,7 +78,7 @@ module _ (db : Database) (statement : StatementTree) (quiet : MakesChanges state
     behind_binding = (no_locals.0, (no_locals.1.0, (unread, no_changes)))
 
   -- what binds nothing either is refused for no cause before its own
-  module _ (built : IsUnbuilt statement → ⊥) (named : IsUnbound db statement → ⊥) (unbound_select : binds statement ≡ None)
+  module _ (named : IsUnbound db statement → ⊥) (unbound_select : binds statement ≡ None)
       (reading : reads statement ≡ None) where
     unbound : (Has : SelectTree → Type 0) → OfBinds statement Has → ⊥
     unbound Has h = subst (λ (o : Option SelectTree). MatchOption o ⊥ Has) unbound_select h
@@ -99,4 +99,4 @@ module _ (db : Database) (statement : StatementTree) (quiet : MakesChanges state
     )
 
     pub nothing_before : IsClear (Cause db statement) (fit_order ++ sizes)
-    nothing_before = (built, (nameless, behind_name))
+    nothing_before = (λ h. h, (nameless, behind_name))

@@ -27,7 +27,7 @@ use Rattle.statements.specs.Types.{Oid, Label, Value, Start, ValueEntry, PlanKin
 use Rattle.statements.specs.Types.starts
 use Rattle.statements.specs.Types.plan_kinds
 use Rattle.statements.specs.Plans.{AreCountsOver, IsKindOver}
-use Rattle.statements.specs.Uncounted.{IsQuietPlan, IsQuietBound, IsQuietSelect}
+use Rattle.statements.specs.Uncounted.{IsPlain, IsPlainSelect, IsQuietPlan, IsQuietBound, IsQuietSelect}
 use Rattle.statements.specs.inside.Views.{ReadsNone}
 use Rattle.statements.proofs.ExplainLaws.{one_counts, one_kind}
 
@@ -143,6 +143,20 @@ module _ (db : Database) (bound : BoundTree) (runnable : IsRunnable bound) (over
         steps_quiet plan.kind plan.candidates plan.found (steps_of plan) counts own planned,
         cells_quiet plan.kind plan.candidates plan.found (steps_of plan) counts own labelled planned agrees,
       )
+
+-- a plan that takes what is told of paths reads no edge for a plain select
+pub plain_reads : (labels : List (List ℕ)) (bound : BoundTree) → IsRunnable bound → (over : StepsOver) (plan : Plan) → plan.kind ≡ plan_kinds.Guided
+    → IsPlanOf labels bound plan → IsPlain bound → ReadsNone over bound (steps_of plan)
+plain_reads labels bound runnable over plan kind planned plain =
+    let are = subst (λ (k : PlanKind). AreStepsOf labels bound k (steps_of plan)) kind planned in (
+      inl (subst (All IsGuided) (sym are) (guided_steps bound.ranges bound.cond plain.0 plain.1 runnable.in_order)),
+      inl plain.2,
+    )
+
+-- what is plain as a select is plain as it is bound
+pub bound_plain : (db : Database) (query : SelectTree) (bound : BoundTree) → IsBinding db.graph.names query bound → IsPlainSelect db query → IsPlain bound
+bound_plain db query bound binding plain =
+    subst IsPlain (has_one_binding db.graph.names query plain.0 bound plain.1 binding) plain.2
 
 -- what is quiet as a select is quiet as it is bound, since it is bound in one way
 pub bound_quiet : (db : Database) (query : SelectTree) (bound : BoundTree) → IsBinding db.graph.names query bound → IsQuietSelect db query

@@ -15,7 +15,7 @@ use Rattle.bind_laws.proofs.SomeAnswerLaws.{has_some_answer}
 use Rattle.lorel_bound.specs.Answers.{row_labels, IsTooMuch}
 use Rattle.statements.specs.Types.{Cell, Refusal}
 use Rattle.statements.specs.Types.refusals
-use Rattle.statements.specs.Forms.{IsUnbuilt, counted_rows, binds}
+use Rattle.statements.specs.Forms.{counted_rows, binds}
 use Rattle.statements.specs.Statements.{IsUnbound, OfBinds, HasTooManyRows, Cause}
 use Rattle.statements.specs.inside.Stages.{ReadCause, bind_order, bound_order, read_order, found_order}
 use Rattle.statements.proofs.OrderLaws.{AreAlike, told_right, told_between, clear_between, clear_alike, told_alike}
@@ -50,7 +50,7 @@ accepted_from db query clear = clear
 
 -- ---- the statement
 module _ (db : Database) (statement : StatementTree) (query : SelectTree)
-    (bound_select : binds statement ≡ Some query) (built : IsUnbuilt statement → ⊥) (named : IsUnbound db statement → ⊥) where
+    (bound_select : binds statement ≡ Some query) (named : IsUnbound db statement → ⊥) where
   of_binds : (Has : SelectTree → Type 0) → Has query ↔ OfBinds statement Has
   of_binds Has = (
     λ h. subst (λ (o : Option SelectTree). MatchOption o ⊥ Has) (sym bound_select) h,
@@ -76,11 +76,11 @@ module _ (db : Database) (statement : StatementTree) (query : SelectTree)
 
   pub read_binds : (told : Option Refusal) → IsToldBy (ReadCause db query) bind_order told → IsToldBy (Cause db statement) bound_order told
   read_binds told h =
-      told_right (Cause db statement) (refusals.Syntax ∷ []) bind_order told (built, tt)
+      told_right (Cause db statement) (refusals.Syntax ∷ []) bind_order told (λ h. h, tt)
       (told_alike (ReadCause db query) (Cause db statement) bind_order told bind_alike h)
 
   pub read_bound : IsClear (ReadCause db query) bind_order → IsClear (Cause db statement) bound_order
-  read_bound clear = (built, clear_alike (ReadCause db query) (Cause db statement) bind_order bind_alike clear)
+  read_bound clear = (λ h. h, clear_alike (ReadCause db query) (Cause db statement) bind_order bind_alike clear)
 
   -- where no local is wrong, and its rows are counted
   module _ (counting : counted_rows statement ≡ Some query)
@@ -99,13 +99,13 @@ module _ (db : Database) (statement : StatementTree) (query : SelectTree)
     pub read_found : (told : Option Refusal) → IsToldBy (ReadCause db query) read_order told → IsToldBy (Cause db statement) found_order told
     read_found told h =
         told_right (Cause db statement) (refusals.Syntax ∷ []) (bind_order ++ refusals.DuplicateLocal ∷ refusals.UndefinedLocal ∷ refusals.TooManyRows ∷ [])
-        told (built, tt)
+        told (λ h. h, tt)
         (told_between (Cause db statement) bind_order (refusals.DuplicateLocal ∷ refusals.UndefinedLocal ∷ []) (refusals.TooManyRows ∷ []) told locals
         (told_alike (ReadCause db query) (Cause db statement) read_order told read_alike h))
 
     pub read_clear : IsClear (ReadCause db query) read_order → IsClear (Cause db statement) found_order
     read_clear clear = (
-      built,
+      λ h. h,
       clear_between (Cause db statement) bind_order (refusals.DuplicateLocal ∷ refusals.UndefinedLocal ∷ []) (refusals.TooManyRows ∷ []) locals
           (clear_alike (ReadCause db query) (Cause db statement) read_order read_alike clear),
     )

@@ -1,5 +1,5 @@
 -- A sound select is shallow, and so is that of a sound update: each quantifier of its condition nests in its derivation.
-use Rattle.std.proofs.Common.{◌≡◌, ℕ, ◌≤◌, max, Some, None, refl, sym, ap, ◌∙◌, subst, arith}
+use Rattle.std.proofs.Common.{◌≡◌, ◌≢◌, List, [], ◌∷◌, ℕ, ◌≤◌, max, Option, Some, None, refl, sym, ap, ◌∙◌, subst, arith}
 use Rattle.std.specs.Prelude.{ℤ}
 use Rattle.std.proofs.Math.Nat.{le_trans, le-max_left, le-max_right, max-le}
 use Rattle.lorel_trees.specs.Types.{NESTING}
@@ -10,6 +10,7 @@ use Rattle.lorel_trees.specs.Literals.{nest_literal}
 use Rattle.lorel_trees.specs.Repetitions.{nest_each}
 use Rattle.lorel_trees.specs.Paths.{tree_path, nest_path}
 use Rattle.lorel_trees.specs.Selects.{tree_tail, nest_tail, tree_select, nest_select, nest_item, nest_range}
+use Rattle.lorel_trees.specs.Selects.{select_of_paths, tree_paths, nest_paths}
 use Rattle.lorel_trees.specs.Statements.{tree_statement, nest_statement}
 use Rattle.lorel_trees.specs.Sound.{IsSound}
 use Rattle.lorel_trees.specs.UpdateRows.{target_select, pair_select, rows_of}
@@ -60,8 +61,20 @@ select_shallow (g.query first others (g.tail ranges (Some cond))) deep =
     let inner = le-max_right (nest_each nest_range ranges) (nest_cond cond) in
     omega (arith, cond_shallow cond, inner, tail, deep)
 
--- the derivation of a select
-derived_shallow : (by : g.Statement) (query : t.SelectTree) → tree_statement by ≡ t.select query → nest_statement by ≤ NESTING → IsShallow query
+-- the select that a statement is made of
+abbrev select_in : t.StatementTree → Option t.SelectTree
+select_in (t.select query) = Some query
+select_in (t.explain query) = Some query
+select_in (t.select_at moment query) = Some query
+select_in (t.blocks_of query) = Some query
+select_in statement = None
+
+inner_shallow : (inner : g.Select) (query : t.SelectTree) → Some (tree_select inner) ≡ Some query → nest_select inner ≤ NESTING → IsShallow query
+inner_shallow inner query is deep = let same : tree_select inner ≡ query = cc in subst IsShallow same (select_shallow inner deep)
+
+-- its derivation
+derived_shallow : (by : g.Statement) (query : t.SelectTree) → select_in (tree_statement by) ≡ Some query → nest_statement by ≤ NESTING
+    → IsShallow query
 derived_shallow (g.load name literal) query is deep = cc
 derived_shallow (g.bind name path) query is deep = cc
 derived_shallow (g.unname name) query is deep = cc
@@ -69,8 +82,8 @@ derived_shallow (g.assign target value end) query is deep = cc
 derived_shallow (g.add target name (g.fresh literal) end) query is deep = cc
 derived_shallow (g.add target name (g.link path) end) query is deep = cc
 derived_shallow (g.remove target name right end) query is deep = cc
-derived_shallow (g.select inner) query is deep = let same : tree_select inner ≡ query = cc in subst IsShallow same (select_shallow inner deep)
-derived_shallow (g.explain inner) query is deep = cc
+derived_shallow (g.select inner) query is deep = inner_shallow inner query is deep
+derived_shallow (g.explain inner) query is deep = inner_shallow inner query is deep
 derived_shallow g.guide query is deep = cc
 derived_shallow (g.browse (g.walked name labels)) query is deep = cc
 derived_shallow (g.sample (g.walked name labels) count) query is deep = cc
@@ -80,78 +93,66 @@ derived_shallow g.dump query is deep = cc
 derived_shallow (g.restore text) query is deep = cc
 derived_shallow (g.generate seed count) query is deep = cc
 derived_shallow (g.history on) query is deep = cc
-derived_shallow (g.select_at moment inner) query is deep = cc
+derived_shallow (g.select_at moment inner) query is deep = inner_shallow inner query is deep
 derived_shallow (g.changes first last) query is deep = cc
 derived_shallow g.blocks query is deep = cc
-derived_shallow (g.blocks_of inner) query is deep = cc
+derived_shallow (g.blocks_of inner) query is deep = inner_shallow inner query is deep
 derived_shallow (g.watch name inner) query is deep = cc
 derived_shallow (g.unwatch name) query is deep = cc
 derived_shallow (g.show name) query is deep = cc
 
 pub sound_shallow : (query : t.SelectTree) → IsSound (t.select query) → IsShallow query
-sound_shallow query sound = derived_shallow sound.spelled.by query sound.spelled.tree sound.spelled.deep
-
--- the derivation of an explain
-derived_plan : (by : g.Statement) (query : t.SelectTree) → tree_statement by ≡ t.explain query → nest_statement by ≤ NESTING → IsShallow query
-derived_plan (g.load name literal) query is deep = cc
-derived_plan (g.bind name path) query is deep = cc
-derived_plan (g.unname name) query is deep = cc
-derived_plan (g.assign target value end) query is deep = cc
-derived_plan (g.add target name (g.fresh literal) end) query is deep = cc
-derived_plan (g.add target name (g.link path) end) query is deep = cc
-derived_plan (g.remove target name right end) query is deep = cc
-derived_plan (g.select inner) query is deep = cc
-derived_plan (g.explain inner) query is deep = let same : tree_select inner ≡ query = cc in subst IsShallow same (select_shallow inner deep)
-derived_plan g.guide query is deep = cc
-derived_plan (g.browse (g.walked name labels)) query is deep = cc
-derived_plan (g.sample (g.walked name labels) count) query is deep = cc
-derived_plan (g.set_nodes nodes) query is deep = cc
-derived_plan (g.set_plan mode) query is deep = cc
-derived_plan g.dump query is deep = cc
-derived_plan (g.restore text) query is deep = cc
-derived_plan (g.generate seed count) query is deep = cc
-derived_plan (g.history on) query is deep = cc
-derived_plan (g.select_at moment inner) query is deep = cc
-derived_plan (g.changes first last) query is deep = cc
-derived_plan g.blocks query is deep = cc
-derived_plan (g.blocks_of inner) query is deep = cc
-derived_plan (g.watch name inner) query is deep = cc
-derived_plan (g.unwatch name) query is deep = cc
-derived_plan (g.show name) query is deep = cc
+sound_shallow query sound = derived_shallow sound.spelled.by query (ap select_in sound.spelled.tree) sound.spelled.deep
 
 pub explain_shallow : (query : t.SelectTree) → IsSound (t.explain query) → IsShallow query
-explain_shallow query sound = derived_plan sound.spelled.by query sound.spelled.tree sound.spelled.deep
-
--- the derivation of a select at a moment
-derived_at : (by : g.Statement) (moment : ℤ) (query : t.SelectTree) → tree_statement by ≡ t.select_at moment query → nest_statement by ≤ NESTING → IsShallow query
-derived_at (g.load name literal) at query is deep = cc
-derived_at (g.bind name path) at query is deep = cc
-derived_at (g.unname name) at query is deep = cc
-derived_at (g.assign target value end) at query is deep = cc
-derived_at (g.add target name (g.fresh literal) end) at query is deep = cc
-derived_at (g.add target name (g.link path) end) at query is deep = cc
-derived_at (g.remove target name right end) at query is deep = cc
-derived_at (g.select inner) at query is deep = cc
-derived_at (g.explain inner) at query is deep = cc
-derived_at g.guide at query is deep = cc
-derived_at (g.browse (g.walked name labels)) at query is deep = cc
-derived_at (g.sample (g.walked name labels) count) at query is deep = cc
-derived_at (g.set_nodes nodes) at query is deep = cc
-derived_at (g.set_plan mode) at query is deep = cc
-derived_at g.dump at query is deep = cc
-derived_at (g.restore text) at query is deep = cc
-derived_at (g.generate seed count) at query is deep = cc
-derived_at (g.history on) at query is deep = cc
-derived_at (g.select_at moment inner) at query is deep = let same : tree_select inner ≡ query = cc in subst IsShallow same (select_shallow inner deep)
-derived_at (g.changes first last) at query is deep = cc
-derived_at g.blocks at query is deep = cc
-derived_at (g.blocks_of inner) at query is deep = cc
-derived_at (g.watch name inner) at query is deep = cc
-derived_at (g.unwatch name) at query is deep = cc
-derived_at (g.show name) at query is deep = cc
+explain_shallow query sound = derived_shallow sound.spelled.by query (ap select_in sound.spelled.tree) sound.spelled.deep
 
 pub at_shallow : (moment : ℤ) (query : t.SelectTree) → IsSound (t.select_at moment query) → IsShallow query
-at_shallow moment query sound = derived_at sound.spelled.by moment query sound.spelled.tree sound.spelled.deep
+at_shallow moment query sound = derived_shallow sound.spelled.by query (ap select_in sound.spelled.tree) sound.spelled.deep
+
+pub blocks_shallow : (query : t.SelectTree) → IsSound (t.blocks_of query) → IsShallow query
+blocks_shallow query sound = derived_shallow sound.spelled.by query (ap select_in sound.spelled.tree) sound.spelled.deep
+
+-- ---- the select of a view
+some_items : {X : Type 0} (first : X) (others : List X) → first ∷ others ≢ []
+some_items first others is = cc
+
+paths_listed : (inner : g.Paths) → nest_paths inner ≤ NESTING → IsShallow (tree_paths inner) × ((tree_paths inner).items ≢ [])
+paths_listed (g.paths first others end) deep =
+    (select_shallow (select_of_paths (g.paths first others end)) deep, some_items _ _)
+
+-- the derivation of a watch: its select has an item, and is shallow
+derived_view : (by : g.Statement) (name : List ℕ) (query : t.SelectTree) → tree_statement by ≡ t.watch name query → nest_statement by ≤ NESTING
+    → IsShallow query × (query.items ≢ [])
+derived_view (g.load own literal) name query is deep = cc
+derived_view (g.bind own path) name query is deep = cc
+derived_view (g.unname own) name query is deep = cc
+derived_view (g.assign target value end) name query is deep = cc
+derived_view (g.add target own (g.fresh literal) end) name query is deep = cc
+derived_view (g.add target own (g.link path) end) name query is deep = cc
+derived_view (g.remove target own right end) name query is deep = cc
+derived_view (g.select inner) name query is deep = cc
+derived_view (g.explain inner) name query is deep = cc
+derived_view g.guide name query is deep = cc
+derived_view (g.browse (g.walked own labels)) name query is deep = cc
+derived_view (g.sample (g.walked own labels) count) name query is deep = cc
+derived_view (g.set_nodes nodes) name query is deep = cc
+derived_view (g.set_plan mode) name query is deep = cc
+derived_view g.dump name query is deep = cc
+derived_view (g.restore text) name query is deep = cc
+derived_view (g.generate seed count) name query is deep = cc
+derived_view (g.history on) name query is deep = cc
+derived_view (g.select_at moment inner) name query is deep = cc
+derived_view (g.changes first last) name query is deep = cc
+derived_view g.blocks name query is deep = cc
+derived_view (g.blocks_of inner) name query is deep = cc
+derived_view (g.watch own inner) name query is deep =
+    let same : tree_paths inner ≡ query = cc in subst (λ (q : t.SelectTree). IsShallow q × (q.items ≢ [])) same (paths_listed inner deep)
+derived_view (g.unwatch own) name query is deep = cc
+derived_view (g.show own) name query is deep = cc
+
+pub watch_listed : (name : List ℕ) (query : t.SelectTree) → IsSound (t.watch name query) → IsShallow query × (query.items ≢ [])
+watch_listed name query sound = derived_view sound.spelled.by name query sound.spelled.tree sound.spelled.deep
 
 -- ---- the select of an update
 tail_shallow : (target : t.RootedTree) (end : g.Tail) → nest_tail end ≤ NESTING → IsShallow (target_select target (tree_tail end))

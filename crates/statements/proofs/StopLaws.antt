@@ -18,8 +18,14 @@ module _ (Applies : Refusal → Type 0) (order : List Refusal) where
   told_again (Ok value) first given h = tt
   told_again (Err stop) first given h = subst (λ (s : Stop). IsToldBy Applies order (told s)) (sym given) h
 
+-- what held where it was told first holds where it is handed on
+pub reply_again : {T : Type 0} (result : Result T Stop) (first : Stop) → IsErrAnd result (λ stop. stop ≡ first) → (Holds : Type 0)
+    → IfSome (told first) (λ refusal. Holds) → OnReply result Holds
+reply_again (Ok value) first given Holds h = absurd given
+reply_again (Err stop) first given Holds h = subst (λ (s : Stop). IfSome (told s) (λ refusal. Holds)) (sym given) h
+
 -- ---- where there is a reply
-told_weaker : (told : Option Refusal) (Holds Follows : Type 0) → (Holds → Follows) → IfSome told (λ refusal. Holds) → IfSome told (λ refusal. Follows)
+pub told_weaker : (told : Option Refusal) (Holds Follows : Type 0) → (Holds → Follows) → IfSome told (λ refusal. Holds) → IfSome told (λ refusal. Follows)
 told_weaker None Holds Follows gives h = tt
 told_weaker (Some refusal) Holds Follows gives h = gives h
 

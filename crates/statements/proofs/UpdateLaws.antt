@@ -27,7 +27,7 @@ use Rattle.statements.proofs.OrderLaws.{AreAlike, told_left, told_right, told_be
 use Rattle.statements.proofs.ChangedCauseLaws.{few_names}
 use Rattle.statements.proofs.ReadLaws.{read_binds, read_bound, read_found, read_clear}
 use Rattle.statements.proofs.SelectLaws.{rows_clear, rows_told}
-use Rattle.statements.proofs.CauseLaws.{locals, sizes, late, early, over_rows, update_changes, update_built, update_names, update_single, update_effects, update_named}
+use Rattle.statements.proofs.CauseLaws.{locals, sizes, late, early, over_rows, update_changes, update_names, update_single, update_effects, update_named}
 
 -- ---- the select
 pub update_form : (statement : StatementTree) → IsUpdate statement → reads statement ≡ rows_of statement
@@ -80,14 +80,14 @@ module _ (db : Database) (statement : StatementTree) (update : IsUpdate statemen
   pub bind_stops : (told : Option Refusal) → IsToldBy (ReadCause db query) bind_order told → IsToldBy (Cause db statement) found_order told
   bind_stops told h =
       told_left (Cause db statement) bound_order (locals ++ refusals.TooManyRows ∷ []) told
-      (read_binds db statement query bound_select (update_built statement update) (update_names db statement update) told h)
+      (read_binds db statement query bound_select (update_names db statement update) told h)
 
   module _ (clear : IsClear (ReadCause db query) bind_order) where
     pub literal_stops : (told : Option Refusal) → IsToldBy (λ refusal. MatchOption (makes statement) ⊥ (λ tree. LocalCause tree refusal)) local_order told
         → IsToldBy (Cause db statement) found_order told
     literal_stops told h =
         told_right (Cause db statement) bound_order (locals ++ refusals.TooManyRows ∷ []) told
-        (read_bound db statement query bound_select (update_built statement update) (update_names db statement update) clear)
+        (read_bound db statement query bound_select (update_names db statement update) clear)
         (told_left (Cause db statement) locals (refusals.TooManyRows ∷ []) told (literal_told db statement told h))
 
     module _ (bound : BoundTree) (binds : IsBinding db.graph.names query bound)
@@ -95,12 +95,12 @@ module _ (db : Database) (statement : StatementTree) (update : IsUpdate statemen
       pub rows_stop : (told : Option Refusal)
           → IfSome told (λ refusal. (refusal ≡ refusals.TooManyRows) × AreTooMany (IsSlotRow db bound)) → IsToldBy (Cause db statement) found_order told
       rows_stop told h =
-          read_found db statement query bound_select (update_built statement update) (update_names db statement update) counting
+          read_found db statement query bound_select (update_names db statement update) counting
           (literal_clear db statement sound) told (rows_told db query bound binds clear told h)
 
       pub rows_go : (rows : List (List Cell)) → AreRows (IsSlotRow db bound) rows → IsClear (Cause db statement) found_order
       rows_go rows all =
-          read_clear db statement query bound_select (update_built statement update) (update_names db statement update) counting
+          read_clear db statement query bound_select (update_names db statement update) counting
           (literal_clear db statement sound) (rows_clear db query bound binds clear rows all)
 
 -- ---- the changes

@@ -1,13 +1,12 @@
--- The view of a database: what its guide and indexes tell is what is in its graph, so that what is found in the view are rows
+-- The view of a database: what its indexes and its paths tell is what is in its graph, so that what is found in the view are rows
 -- of the database, without an edge read where its plan is quiet.
-use Rattle.std.proofs.Common.{◌≡◌, ◌↔◌, ℕ, List, Option, Some, None, refl, sym, subst, ◌∙◌}
+use Rattle.std.proofs.Common.{◌≡◌, ◌↔◌, ℕ, List, Option, Some, None, refl, sym, subst}
 use Rattle.std.specs.Prelude.{IfSome}
 use Rattle.std.specs.List.{Contains}
 use Rattle.std.proofs.lemmas.List.Elements.{All-contains}
 use Rattle.lore_base.specs.Databases.{OemGraph, Database}
 use Rattle.lore_base.specs.Paths.{PathTree, Reaches}
 use Rattle.index_traits.specs.Entries.{AreLinks, AreValueEntries}
-use Rattle.guide_query.specs.GuideReaches.{GuideOver, TellsReached, TellsOf}
 use Rattle.lorel_bound.specs.Bound.{BoundTree}
 use Rattle.lorel_bound.specs.Runnable.{IsRunnable}
 use Rattle.lorel_bound.specs.Plans.{steps_of, IsPlanOf}
@@ -19,10 +18,12 @@ use Rattle.answers.proofs.FoundLaws.{asked_rows, too_many_asked}
 use Rattle.statements.specs.Types.{Oid, Edge, ValueEntry, Cell, Refusal}
 use Rattle.statements.specs.Types.refusals
 use Rattle.statements.specs.Plans.{AreCountsOver, IsKindOver}
-use Rattle.statements.specs.Uncounted.{IsQuietBound}
+use Rattle.statements.specs.Types.plan_kinds
+use Rattle.statements.specs.Blocks.{TellsPaths}
+use Rattle.statements.specs.Uncounted.{IsPlain, IsQuietBound}
 use Rattle.statements.specs.inside.Starts.{IsNamedStart, HasNamedStarts}
 use Rattle.statements.specs.inside.Views.{view_over, IsRowOf, ReadsNone}
-use Rattle.statements.proofs.QuietPlanLaws.{quiet_reads}
+use Rattle.statements.proofs.QuietPlanLaws.{plain_reads, quiet_reads}
 
 -- what a range starts at has a name
 start_has_name : (names : List (List ℕ × Oid)) (bound : BoundTree) → HasNamedStarts names bound → (named : Oid) → IsStartOf bound named
@@ -37,6 +38,14 @@ slot_row db bound row = (
   λ h. record { slots = h.slots; filled = h.filled; holds = h.holds; shown = h.shown },
   λ h. record { slots = h.slots; filled = h.filled; holds = h.holds; shown = h.shown },
 )
+
+-- what is told over labels that are the database's is told of it
+pub paths_told : (db : Database) (told : PathTree → Oid → Oid → Type 0) (read : List (List ℕ)) → read ≡ db.labels
+    → ((name : List ℕ) (named : Oid) → Contains db.graph.names (name, named) → (path : PathTree) (oid : Oid)
+    → told path named oid ↔ Reaches read db.graph.edges path named oid)
+    → TellsPaths told db
+paths_told db told read texts tells name named is path oid =
+    subst (λ (l : List (List ℕ)). told path named oid ↔ Reaches l db.graph.edges path named oid) texts (tells name named is path oid)
 
 -- ---- over labels and a graph that are the database's
 module _ (db : Database) (bound : BoundTree) (labels : List (List ℕ)) (graph : OemGraph) (texts : labels ≡ db.labels) (drawn : graph ≡ db.graph) where
@@ -66,19 +75,18 @@ module _ (db : Database) (bound : BoundTree) (labels : List (List ℕ)) (graph :
   its_stop None h = tt
   its_stop (Some refusal) h = (h.0, its_flood h.1)
 
-  -- with its links, its values and its guide
+  -- with its links, its values, and what tells its paths
   module _ (starts_named : HasNamedStarts db.graph.names bound) (links : List Edge) (are_links : AreLinks db.graph.edges links)
       (entries : List ValueEntry) (are_entries : AreValueEntries db.graph.objects db.graph.edges entries)
-      (told : GuideOver) (read : told.labels ≡ labels) (tells : TellsOf told db.graph.names db.graph.edges) where
+      (told : PathTree → Oid → Oid → Type 0) (tells : TellsPaths told db) where
     abbrev view : List (List ℕ) → OemGraph → StepsOver
-    view l g = view_over l g.edges g.objects links entries (TellsReached told) bound
+    view l g = view_over l g.edges g.objects links entries told bound
 
     told_alike : (named : Oid) → IsStartOf bound named → (path : PathTree) (oid : Oid)
-        → TellsReached told path named oid ↔ Reaches db.labels db.graph.edges path named oid
+        → told path named oid ↔ Reaches db.labels db.graph.edges path named oid
     told_alike named start path oid =
         let name = start_has_name db.graph.names bound starts_named named start in
-        subst (λ (l : List (List ℕ)). TellsReached told path named oid ↔ Reaches l db.graph.edges path named oid) (read ∙ texts)
-        (tells name.0 named name.1 path oid)
+        tells name.0 named name.1 path oid
 
     agrees : Agrees (view db.labels db.graph) db.graph.objects bound
     agrees = record {
@@ -97,3 +105,9 @@ module _ (db : Database) (bound : BoundTree) (labels : List (List ℕ)) (graph :
     its_quiet runnable plan counts kind_is planned quiet =
         back (λ l g. ReadsNone (view l g) bound (steps_of plan))
         (quiet_reads db bound runnable (view db.labels db.graph) are_entries agrees plan counts kind_is planned refl quiet)
+
+    pub its_plain : IsRunnable bound → (plan : Plan) → plan.kind ≡ plan_kinds.Guided → IsPlanOf db.labels bound plan → IsPlain bound
+        → ReadsNone (view labels graph) bound (steps_of plan)
+    its_plain runnable plan kind planned plain =
+        back (λ l g. ReadsNone (view l g) bound (steps_of plan))
+        (plain_reads db.labels bound runnable (view db.labels db.graph) plan kind planned plain)

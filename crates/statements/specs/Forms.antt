@@ -1,5 +1,5 @@
--- The forms of statement: which are none on a database alone, which aren't built, what the others bind and read, what they
--- make, and which of them list changes of the graph.
+-- The forms of statement: which are none on a database alone, what the others bind and read, what they make, and which of
+-- them list changes of the graph.
 use Rattle.std.specs.Prelude.{◌≡◌, ℕ, ℤ, pos, ◌≤◌, [], Option, Some, None}
 use Rattle.statements.specs.Types.{SEED, FEWEST_PERSONS, MOST_PERSONS}
 use Rattle.lorel_trees.specs.Trees.{LiteralTree, RootedTree}
@@ -8,21 +8,21 @@ use Rattle.lorel_trees.specs.Trees.{history, select_at, changes, blocks, blocks_
 use Rattle.lorel_trees.specs.Trees.{load, bind, unname, assign, add_new, add_link, remove, select, explain, generate}
 use Rattle.lorel_trees.specs.UpdateRows.{target_select, rows_of}
 
--- a statement of this form keeps a history, or asks one: what it does isn't told of a database alone
-abbrev pub IsOfHistory : StatementTree → Type 0
-IsOfHistory (history on) = Unit {0}
-IsOfHistory (select_at moment query) = Unit {0}
-IsOfHistory (changes first last) = Unit {0}
-IsOfHistory statement = ⊥
+-- a statement of this form keeps a history or views, or asks them: what it does isn't told of a database alone
+abbrev pub IsOfSession : StatementTree → Type 0
+IsOfSession (history on) = Unit {0}
+IsOfSession (select_at moment query) = Unit {0}
+IsOfSession (changes first last) = Unit {0}
+IsOfSession (watch name query) = Unit {0}
+IsOfSession (unwatch name) = Unit {0}
+IsOfSession (show name) = Unit {0}
+IsOfSession statement = ⊥
 
--- a statement of this form isn't built: it is no statement yet
-abbrev pub IsUnbuilt : StatementTree → Type 0
-IsUnbuilt blocks = Unit {0}
-IsUnbuilt (blocks_of query) = Unit {0}
-IsUnbuilt (watch name query) = Unit {0}
-IsUnbuilt (unwatch name) = Unit {0}
-IsUnbuilt (show name) = Unit {0}
-IsUnbuilt statement = ⊥
+-- a statement of this form asks the blocks of the database, which are kept beside it
+abbrev pub IsOfBlocks : StatementTree → Type 0
+IsOfBlocks blocks = Unit {0}
+IsOfBlocks (blocks_of query) = Unit {0}
+IsOfBlocks statement = ⊥
 
 -- the select of one path
 abbrev pub path_select : RootedTree → SelectTree
@@ -32,6 +32,7 @@ path_select path = target_select path (record { ranges = []; cond = None })
 abbrev pub reads : StatementTree → Option SelectTree
 reads (bind name path) = Some (path_select path)
 reads (select query) = Some query
+reads (blocks_of query) = Some query
 reads statement = rows_of statement
 
 -- the select whose rows are counted: of a path to name any number of objects but one is refused

@@ -1,5 +1,6 @@
 pub mod Types
 pub mod Forms
+pub mod Blocks
 pub mod Effects
 pub mod Plans
 pub mod Statements

@@ -20,8 +20,10 @@ use Rattle.dump_text.specs.Dumps.{printed_dump}
 use Rattle.dump_text.specs.Restores.{IsDumpOf}
 use Rattle.guide_query.specs.GuideLines.{AreGuideLines}
 use Rattle.guide_query.specs.PathLines.{AreBrowseLines, AreSampleLines}
+use Rattle.block_lines.specs.BlockLines.{AreBlockLines}
 use Rattle.lore_store.specs.Stores.{IsLimit}
-use Rattle.statements.specs.Forms.{IsUnbuilt, counted_rows, binds, makes, path_select}
+use Rattle.statements.specs.Blocks.{named_graph}
+use Rattle.statements.specs.Forms.{counted_rows, binds, makes, path_select}
 use Rattle.statements.specs.Forms.{MakesChanges, IsBetween, AreGenerable}
 use Rattle.statements.specs.Effects.{AreRowsOf, effects}
 use Rattle.statements.specs.Plans.{ShowsPlan}
@@ -87,7 +89,6 @@ OfMakes statement Has = MatchOption (makes statement) ⊥ Has
 
 -- the cause of each refusal of a statement; no other refusal has one
 abbrev pub Cause : Database → StatementTree → Refusal → Type 0
-Cause db statement refusals.Syntax = IsUnbuilt statement
 Cause db statement refusals.UnknownName =
     IsUnbound db statement
     ⊎ OfBinds statement (λ query. binding.Cause db.graph.names query refusals.UnknownName)
@@ -115,7 +116,8 @@ Cause db statement refusals.NotFresh = IsNotFresh db statement
 Cause db statement refusals.BadRestore = IsNoDump statement
 Cause db statement _ = ⊥
 
--- the order in which causes are tried: that of their numbers, but GuideCells right behind GuideNodes
+-- the order in which causes are tried: that of their numbers, but GuideCells right behind GuideNodes. Syntax has no cause in
+-- a statement: it is said of a text that is none
 abbrev pub cause_order : List Refusal
 cause_order =
     refusals.Syntax ∷ refusals.UnknownName ∷ refusals.UnknownVariable ∷ refusals.DuplicateVariable
@@ -144,6 +146,11 @@ abbrev pub Shows : Database → Reply → Database → Type 0
 Shows before reply after =
     (after ≡ before) × ((lines : List (List ℕ)) × (reply ≡ Lines lines)
     × AreGuideLines before.graph.names before.graph.edges before.labels lines)
+
+-- the lines of the blocks, and nothing changes
+abbrev pub ShowsBlocks : Database → Reply → Database → Type 0
+ShowsBlocks before reply after =
+    (after ≡ before) × ((lines : List (List ℕ)) × (reply ≡ Lines lines) × AreBlockLines (named_graph before) lines)
 
 -- the lines that show where a label path leads, and nothing changes
 abbrev pub Browses : Database → List ℕ → List (List ℕ) → Reply → Database → Type 0
@@ -196,8 +203,8 @@ Performs before (restore text) reply after = Restores text reply after
 Performs before (history on) reply after = ⊥
 Performs before (select_at moment query) reply after = ⊥
 Performs before (changes first last) reply after = ⊥
-Performs before blocks reply after = ⊥
-Performs before (blocks_of query) reply after = ⊥
+Performs before blocks reply after = ShowsBlocks before reply after
+Performs before (blocks_of query) reply after = Answers before query reply after
 Performs before (watch name query) reply after = ⊥
 Performs before (unwatch name) reply after = ⊥
 Performs before (show name) reply after = ⊥

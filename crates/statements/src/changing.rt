@@ -1,4 +1,4 @@
-ghost use Rattle.std.specs.Prelude.{◌≡◌, ◌↔◌, IfSome, IfOk, IfErr, OnOk, IsTrue};
+ghost use Rattle.std.specs.Prelude.{◌≡◌, ◌++◌, ◌↔◌, IfSome, IfOk, IfErr, OnOk, IsTrue};
 ghost use Rattle.lore_base.specs.Deltas.{IsDelta};
 ghost use Rattle.lore_base.specs.Verdicts.{IsToldBy};
 ghost use Rattle.lore_store.specs.Stores.{LeadsOn, database_then};
@@ -14,7 +14,7 @@ ghost use Rattle.statements.specs.Uncounted.{ReadsNoEdge};
 use crate::listing::listed;
 use crate::replies::Reply;
 use crate::stops::Stop;
-use lore_base::Steps;
+use lore_base::{Changes, Steps, TextList};
 use lore_store::{Prepared, Store};
 use lorel_trees::Statement;
 use std::alloc::Global;
@@ -37,6 +37,14 @@ pub fn is_changing(statement: &Statement) -> bool
     )
 }
 
+/// What a statement makes of the database by the changes that it lists: all that is to be put in
+/// place, and of that the texts of the labels that are new.
+#[derive(Drop)]
+pub struct PlannedChange {
+    pub prepared: Prepared,
+    pub new_labels: TextList,
+}
+
 /// Works out what a statement that lists changes makes of the database, which stays as it is: its
 /// changes are made, and what no name walks to then vanishes. Refused is what a statement is refused for
 /// (`Cause`). No step is counted for numbers out of range by which objects were to be generated. For a
@@ -47,14 +55,16 @@ pub fn planned<L: Ledger>(
     store: &Store,
     statement: &Statement,
     steps: &mut Steps<L>,
-) -> Result<Prepared, Stop>
+) -> Result<PlannedChange, Stop>
     requires sound { IsSound (statement_tree statement.now) }
     requires changing { IsChanging (statement_tree statement.now) }
-    ensures leads { IfOk result (λ plan. LeadsOn store.now.db store.now.guide plan) }
+    ensures leads { IfOk result (λ plan. LeadsOn store.now.db store.now.guide plan.prepared) }
     ensures delta { IfOk result (λ plan. IsDelta store.now.db.graph
-        (database_then store.now.db plan).graph plan.graph.delta) }
-    ensures made { IfOk result (λ plan.
-        IsMade store.now.db (statement_tree statement.now) (database_then store.now.db plan)) }
+        (database_then store.now.db plan.prepared).graph plan.prepared.graph.delta) }
+    ensures labels { IfOk result (λ plan. (database_then store.now.db plan.prepared).labels
+        ≡ store.now.db.labels ++ plan.new_labels) }
+    ensures made { IfOk result (λ plan. IsMade store.now.db (statement_tree statement.now)
+        (database_then store.now.db plan.prepared)) }
     ensures refused { IfErr result (λ stop.
         IsToldBy (Cause store.now.db (statement_tree statement.now)) cause_order (told stop)) }
     ensures uncounted { ReadsNoEdge store.now.db (statement_tree statement.now)
@@ -69,7 +79,15 @@ pub fn planned<L: Ledger>(
     // That the database is valid is known where its graph is looked at.
     let _graph = store.graph();
     let changes = listed(alloc, store, statement, steps)?;
-    Ok(store.prepare(alloc, &changes, steps)?)
+    let prepared = store.prepare(alloc, &changes, steps)?;
+    let Changes {
+        labels: new_labels,
+        ..
+    } = changes;
+    Ok(PlannedChange {
+        prepared,
+        new_labels,
+    })
 }
 
 /// The reply that counts what the database holds.

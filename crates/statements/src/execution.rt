@@ -1,7 +1,7 @@
 ghost use Rattle.std.specs.Prelude.{◌≡◌, IfOk, OnOk, OnErr};
 ghost use Rattle.lorel_trees.specs.Trees.{statement_tree};
 ghost use Rattle.lorel_trees.specs.Sound.{IsSound};
-ghost use Rattle.statements.specs.Forms.{IsChanging, IsOfHistory};
+ghost use Rattle.statements.specs.Forms.{IsChanging, IsOfSession, IsOfBlocks};
 ghost use Rattle.statements.specs.Statements.{Executes};
 ghost use Rattle.statements.specs.Uncounted.{ReadsNoEdge};
 
@@ -13,18 +13,17 @@ use crate::path_lines::{browsed, sampled};
 use crate::replies::Reply;
 use crate::selects::select;
 use crate::stops::reply_of;
-use crate::unbuilt::unbuilt;
 use lore_base::{NoMemory, Steps};
 use lore_store::Store;
 use lorel_trees::Statement;
 use std::alloc::Global;
 use std::sync::ledger::Ledger;
 
-/// Executes a statement that lists no changes, and isn't one of a history. A refusal, and want of
-/// memory, leave the database as it was. A form that isn't built is refused (`Syntax`). No step is
-/// counted for such a one, for a statement that shows a plan, the guide, or where a label path leads,
-/// or sets something, and for a select for which no edge is read: where the guide tells all and no
-/// cell shows a word, or no value is found to begin with.
+/// Executes a statement that lists no changes, and keeps and asks none of a history, views and blocks.
+/// A refusal, and want of memory, leave the database as it was. No step is counted for a statement that
+/// shows a plan, the guide, or where a label path leads, or sets something, and for a select for which
+/// no edge is read: where the guide tells all and no cell shows a word, or no value is found to begin
+/// with.
 pub fn execute<L: Ledger>(
     alloc: Global,
     store: &mut Store,
@@ -33,7 +32,8 @@ pub fn execute<L: Ledger>(
 ) -> Result<Reply, NoMemory>
     requires sound { IsSound (statement_tree statement.now) }
     requires unchanging { ¬ IsChanging (statement_tree statement.now) }
-    requires plain { ¬ IsOfHistory (statement_tree statement.now) }
+    requires plain { ¬ IsOfSession (statement_tree statement.now) }
+    requires unblocked { ¬ IsOfBlocks (statement_tree statement.now) }
     ensures ok { IfOk result (λ reply.
         Executes store.old.db (statement_tree statement.now) reply store.new.db) }
     ensures err { OnErr result (store.new.db ≡ store.old.db) }
@@ -60,7 +60,11 @@ pub fn execute<L: Ledger>(
         | Statement::Generate(..)
         | Statement::History(_)
         | Statement::At(..)
-        | Statement::ChangesList(..) => unreachable!(),
-        other => Ok(unbuilt(other)),
+        | Statement::ChangesList(..)
+        | Statement::Blocks
+        | Statement::BlocksSelect(_)
+        | Statement::Watch { .. }
+        | Statement::Unwatch(_)
+        | Statement::Show(_) => unreachable!(),
     }
 }

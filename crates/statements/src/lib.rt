@@ -8,16 +8,16 @@
 //! statements are executed at once (`execution`). The guide is shown, and its limit set, by `guides`;
 //! where a label path leads is shown by `path_lines`; the plan of a select is shown by `explain` (over
 //! `planner`), and the plan mode set by `modes`. The whole database is dumped and restored by `dumps`.
-//! A statement of a form that isn't built is refused by `unbuilt`. What ends the work early is a `Stop`
-//! (`stops`). What a statement answers is a `Reply` (`replies`), with the rows of a select among them.
+//! What ends the work early is a `Stop` (`stops`). What a statement answers is a `Reply` (`replies`),
+//! with the rows of a select among them.
 #![tactic(auto)]
 
-pub use changing::{counts, is_changing, planned};
+pub use changing::{PlannedChange, counts, is_changing, planned};
 pub use dumps::all_edges;
 pub use execution::execute;
 pub use lorel_bound::{Answer, AnswerRow, Cell};
 pub use replies::Reply;
-pub use selects::select_over;
+pub use selects::{select_by, select_over, selected};
 pub use stops::{Stop, reply_of};
 
 mod changing;
@@ -35,5 +35,4 @@ mod replies;
 mod rows;
 mod selects;
 mod stops;
-mod unbuilt;
 mod updating;

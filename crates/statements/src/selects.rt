@@ -1,5 +1,5 @@
 ghost use Rattle.std.specs.Prelude.{◌≡◌, IfSome, IfOk, IfErr, OnOk};
-ghost use Rattle.lorel_trees.specs.Trees.{select_tree, select};
+ghost use Rattle.lorel_trees.specs.Trees.{select_tree, select, blocks_of};
 ghost use Rattle.lorel_bound.specs.Bound.{bound_tree};
 ghost use Rattle.lore_base.specs.Verdicts.{IsClear, IsToldBy};
 ghost use Rattle.lorel_bind.specs.Answers.{IsAnswer};
@@ -10,10 +10,12 @@ ghost use Rattle.lorel_ranges.specs.Texts.{IsShallow};
 ghost use Rattle.lorel_bound.specs.SlotRows.{IsSlotRow};
 ghost use Rattle.statements.specs.Types.{Rows as TheRows};
 ghost use Rattle.statements.specs.Types.refusals;
+ghost use Rattle.statements.specs.Blocks.{TellsPaths};
 ghost use Rattle.statements.specs.Pasts.{database_over};
 ghost use Rattle.statements.specs.Plans.{AreCountsOver, IsKindOver};
 ghost use Rattle.statements.specs.Statements.{Cause, cause_order, Executes};
 ghost use Rattle.statements.specs.Uncounted.{IsQuietBound, IsQuietSelect};
+ghost use Rattle.statements.specs.Uncounted.{IsPlain, IsPlainSelect};
 ghost use Rattle.statements.specs.inside.Starts.{HasNamedStarts};
 ghost use Rattle.statements.specs.inside.Views.{IsRowOf};
 ghost use Rattle.statements.specs.Stops.{told, OnReply};
@@ -24,13 +26,13 @@ use crate::replies::Reply;
 use crate::rows::{View, rows_over};
 use crate::stops::Stop;
 use guide_query::GuidePaths;
-use index_traits::{Adjacent, ValueOf};
+use index_traits::{Adjacent, Paths, ValueOf};
 use lore_base::{Names, NoMemory, Steps};
 use lore_store::Store;
 use lorel_bind::bind;
 use lorel_bound::{Answer, Bound, Plan};
 use lorel_trees::Select;
-use planner::{choose, forward_plan};
+use planner::{choose, forward_plan, guided_plan};
 use std::alloc::Global;
 use std::sync::ledger::Ledger;
 
@@ -50,7 +52,27 @@ pub(crate) fn select<L: Ledger>(
     ensures quiet { OnReply result (IsQuietSelect store.now.db (select_tree query.now)
         → steps.new ≡ steps.old) }
 {
-    Ok(Reply::Rows(rows_of(alloc, store, query, steps)?))
+    Ok(Reply::Rows(selected(alloc, store, query, steps)?))
+}
+
+/// The rows that a select answers. No step is counted where the guide tells all and no cell shows a
+/// word, or where no value is found to begin with.
+pub fn selected<L: Ledger>(
+    alloc: Global,
+    store: &Store,
+    query: &Select,
+    steps: &mut Steps<L>,
+) -> Result<Answer, Stop>
+    requires { IsShallow (select_tree query.now) }
+    ensures ok { IfOk result (λ answer. Executes store.now.db (select (select_tree query.now))
+        (TheRows answer) store.now.db) }
+    ensures refused { let tree = select (select_tree query.now) in
+        IfErr result (λ stop. IsToldBy (Cause store.now.db tree) cause_order (told stop)) }
+    ensures quiet { OnReply result (IsQuietSelect store.now.db (select_tree query.now)
+        → steps.new ≡ steps.old) }
+{
+    let answer = rows_of(alloc, store, query, steps)?;
+    Ok(answer)
 }
 
 /// The rows of a select. Refused are one that can't be bound (`UnknownName`, `UnknownVariable`,
@@ -166,7 +188,8 @@ pub fn select_over<G: Adjacent + ValueOf, L: Ledger>(
     found
 }
 
-// The rows of a bound select over the graph.
+// The rows of a bound select over the graph. The store's links, values and paths are of the present: a
+// plan from names asks nothing of them.
 fn found_over<G: Adjacent + ValueOf, L: Ledger>(
     alloc: Global,
     store: &Store,
@@ -191,6 +214,61 @@ fn found_over<G: Adjacent + ValueOf, L: Ledger>(
         links: store.links(),
         values: store.values(),
         paths: &paths,
+    };
+    rows_over(alloc, &view, bound, &plan, steps)
+}
+
+/// The rows of a select by the plan that mode guided chooses, where what paths reach is told by these
+/// in place of the guide. Refused is what a select is refused for. No step is counted where there is at
+/// most one range, no condition, and no cell that shows a word.
+pub fn select_by<P: Paths, L: Ledger>(
+    alloc: Global,
+    store: &Store,
+    paths: &P,
+    query: &Select,
+    steps: &mut Steps<L>,
+) -> Result<Answer, Stop>
+    requires shallow { IsShallow (select_tree query.now) }
+    requires tells { TellsPaths (P.reaches paths.now) store.now.db }
+    ensures ok { let db = store.now.db in IfOk result (λ answer.
+        Executes db (blocks_of (select_tree query.now)) (TheRows answer) db) }
+    ensures refused { let tree = blocks_of (select_tree query.now) in
+        IfErr result (λ stop. IsToldBy (Cause store.now.db tree) cause_order (told stop)) }
+    ensures quiet { OnReply result (IsPlainSelect store.now.db (select_tree query.now)
+        → steps.new ≡ steps.old) }
+{
+    let bound = bound(alloc, store, query)?;
+    let found = found_by(alloc, store, paths, &bound, steps);
+    // A drop that is written out is proved once; else it is proved in this function, at length.
+    drop(bound);
+    found
+}
+
+// The rows of a bound select, where these tell what paths reach.
+fn found_by<P: Paths, L: Ledger>(
+    alloc: Global,
+    store: &Store,
+    paths: &P,
+    bound: &Bound,
+    steps: &mut Steps<L>,
+) -> Result<Answer, Stop>
+    requires runnable { IsRunnable (bound_tree bound.now) }
+    requires named { HasNamedStarts store.now.db.graph.names (bound_tree bound.now) }
+    requires tells { TellsPaths (P.reaches paths.now) store.now.db }
+    ensures rows { IfOk result (AreRows (IsSlotRow store.now.db (bound_tree bound.now))) }
+    ensures refused { let asked = IsSlotRow store.now.db (bound_tree bound.now) in
+        IfErr result (λ stop. IfSome (told stop) (λ refusal.
+        (refusal ≡ refusals.TooManyRows) × AreTooMany asked)) }
+    ensures quiet { OnReply result (IsPlain (bound_tree bound.now) → steps.new ≡ steps.old) }
+{
+    let plan = guided_plan(alloc, bound)?;
+    let (graph, labels) = (store.graph(), store.labels());
+    let view = View {
+        graph,
+        labels,
+        links: store.links(),
+        values: store.values(),
+        paths,
     };
     rows_over(alloc, &view, bound, &plan, steps)
 }

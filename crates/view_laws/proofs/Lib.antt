@@ -6,3 +6,5 @@ pub mod PieceLaws
 pub mod HoldLaws
 pub mod CarryLaws
 pub mod UnconcernedLaws
+pub mod KeptViewLaws
+pub mod FreshLaws

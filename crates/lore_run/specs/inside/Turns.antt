@@ -10,6 +10,7 @@ use Rattle.lorel_lex.specs.Gaps.{IsBlank}
 use Rattle.lore_run.specs.Types.{Refusal, Reply, Refused}
 use Rattle.lore_run.specs.Replies.{reply_text}
 use Rattle.lore_run.specs.Runs.{ScriptPart, chunk, rest, Yields, Runs, refusals}
+use Rattle.lore_run.specs.Reads.{PartReads, RunReads}
 use Rattle.lore_run.specs.Endings.{Outside}
 use Rattle.lore_run.specs.declared.status.Outcome.{Outcome}
 use Rattle.lore_run.specs.declared.status.Status.{Status}
@@ -19,16 +20,17 @@ use Rattle.lore_run.specs.declared.tally.Tally.{Tally}
 use Rattle.lore_run.specs.inside.Deliveries.{AppendsProperFront}
 
 -- where a run stands: the bytes held of the chunk at hand, the counts, the bytes written, where the sink
--- tells them, and the state
+-- tells them, the state, and the count of reads
 pub record Standing : Type 0 where
   pub held : List ℕ
   pub tally : Tally
   pub written : Option (List ℕ)
   pub state : State
+  pub reads : ℕ
 
-abbrev pub standing : List ℕ → Tally → Option (List ℕ) → State → Standing
-standing held tally written state =
-    record { held = held; tally = tally; written = written; state = state }
+abbrev pub standing : List ℕ → Tally → Option (List ℕ) → State → ℕ → Standing
+standing held tally written state reads =
+    record { held = held; tally = tally; written = written; state = state; reads = reads }
 
 -- bytes that no `;` ends, within the limit of a chunk
 pub record IsUnended (held : List ℕ) : Type 0 where
@@ -39,6 +41,7 @@ pub record IsUnended (held : List ℕ) : Type 0 where
 pub record Replied (before : Standing) (part : ScriptPart) (after : Standing) : Type 0 where
   pub reply : Reply
   pub yielded : Yields before.state part reply after.state
+  pub read : PartReads before.state part reply after.state before.reads after.reads
   pub done : after.tally.done ≡ before.tally.done + 1
   pub refused : after.tally.refused ≡ before.tally.refused + refusals reply
   pub printed : Appends before.written after.written (reply_text after.state reply)
@@ -47,11 +50,12 @@ pub record Replied (before : Standing) (part : ScriptPart) (after : Standing) : 
 pub record RepliedInPart (before : Standing) (part : ScriptPart) (after : Standing) : Type 0 where
   pub reply : Reply
   pub yielded : Yields before.state part reply after.state
+  pub read : PartReads before.state part reply after.state before.reads after.reads
   pub done : after.tally.done ≡ before.tally.done + 1
   pub refused : after.tally.refused ≡ before.tally.refused + refusals reply
   pub printed : AppendsProperFront before.written after.written (reply_text after.state reply)
 
--- nothing was executed, counted or written
+-- nothing was executed, replied to or written
 pub record Unmoved (before after : Standing) : Type 0 where
   pub tally : after.tally ≡ before.tally
   pub written : after.written ≡ before.written
@@ -67,6 +71,7 @@ pub record Advances (before : Standing) (bytes : List ℕ) (after : Standing) : 
   pub each : All IsChunk chunks
   pub sized : All (λ text. length text ≤ CHUNK_BYTES) chunks
   pub ran : Runs before.state (map chunk chunks) printed count after.state
+  pub read : RunReads before.state (map chunk chunks) after.state before.reads after.reads
   pub done : after.tally.done ≡ before.tally.done + length chunks
   pub refused : after.tally.refused ≡ before.tally.refused + count
   pub written : Appends before.written after.written printed
@@ -84,7 +89,8 @@ pub record FailsAtChunk (before : Standing) (bytes : List ℕ) (after : Standing
 -- what stops a run at these bytes, behind those held
 abbrev pub StopsAt : Status → Standing → List ℕ → Standing → Type 0
 StopsAt WriteFault before bytes after = FailsAtChunk before bytes after
-StopsAt StatementTooLong before bytes after = IsTooLong before.held bytes × Unmoved before after
+StopsAt StatementTooLong before bytes after =
+    IsTooLong before.held bytes × Unmoved before after × (after.reads ≡ before.reads)
 StopsAt NoMemory before bytes after = Unmoved before after
 StopsAt _ before bytes after = ⊥
 
@@ -108,7 +114,8 @@ StopsReplying _ before part after = ⊥
 -- to
 abbrev pub FinishesWhole : Standing → Standing → Type 0
 FinishesWhole before after =
-    (IsBlank before.held × Unmoved before after) ⊎ ((IsBlank before.held → ⊥) × Replied before rest after)
+    (IsBlank before.held × Unmoved before after × (after.reads ≡ before.reads))
+    ⊎ ((IsBlank before.held → ⊥) × Replied before rest after)
 
 -- how a run ends that took its whole script
 abbrev pub Finishes : Status → Standing → Standing → Type 0
@@ -118,18 +125,18 @@ Finishes WriteFault before after = (IsBlank before.held → ⊥) × RepliedInPar
 Finishes _ before after = ⊥
 
 -- where each run begins
-abbrev pub beginning : Option (List ℕ) → Standing
-beginning written = standing [] (record { done = 0; refused = 0 }) written new_state
+abbrev pub beginning : Option (List ℕ) → ℕ → Standing
+beginning written reads = standing [] (record { done = 0; refused = 0 }) written new_state reads
 
--- a run so far, from the new state on: it took so many bytes, within the limit of a script, and holds a
--- rest
-pub record RunsSoFar (before : Outside) (count : ℕ) (left : Option (List ℕ)) (now : Standing) : Type 0 where
+-- a run so far, from the new state and this count of reads on: it took so many bytes, within the limit of a script,
+-- and holds a rest
+pub record RunsSoFar (before : Outside) (began count : ℕ) (left : Option (List ℕ)) (now : Standing) : Type 0 where
   pub taken : List ℕ
   pub took : Consumes before.left left taken
   pub counted : count ≡ length taken
   pub within : count ≤ SCRIPT_BYTES
   pub held : IsUnended now.held
-  pub advanced : Advances (beginning before.written) taken now
+  pub advanced : Advances (beginning before.written began) taken now
 
 -- the outcome of a run that ends here
 abbrev pub outcome_at : Status → Standing → Outcome

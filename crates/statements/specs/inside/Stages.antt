@@ -23,7 +23,7 @@ bind_order = binding.order
 abbrev pub read_order : List Refusal
 read_order = bind_order ++ refusals.TooManyRows ∷ []
 
--- what a statement is refused for before its rows are found: its form isn't built, or its select isn't bound
+-- what a statement is refused for before its rows are found: the front of the order of causes
 abbrev pub bound_order : List Refusal
 bound_order = refusals.Syntax ∷ bind_order
 

@@ -1,4 +1,4 @@
-use Rattle.std.proofs.Common.{◌≡◌, ◌≤◌, ◌<◌, length, true≢false, sym, ◌∙◌, arith}
+use Rattle.std.proofs.Common.{true≢false, sym, ◌∙◌, arith}
 use Rattle.lore_db.proofs.LineLaws.{put-start, put-gone, put-come, put-whole}
 use Rattle.lore_db.proofs.change_lines.put_changes.Goals as goal
 

@@ -1,8 +1,8 @@
-use Rattle.std.proofs.Common.{◌≡◌, ◌++◌, ◌∷◌, [], Option, Some, sym, subst, ◌∙◌}
+use Rattle.std.proofs.Common.{Option, Some, sym, subst, ◌∙◌}
 use Rattle.lore_base.specs.Deltas.{IsDelta}
 use Rattle.lore_store.specs.Stores.{database_then}
 use Rattle.doem_history.specs.Types.{Delta}
-use Rattle.doem_history.specs.Histories.{KeptHistory, last_moment}
+use Rattle.doem_history.specs.Histories.{KeptHistory}
 use Rattle.statements.specs.Stops.{told}
 use Rattle.lore_db.specs.States.{present}
 use Rattle.lore_db.specs.inside.Kept.{IsLast, AppendsTo, IsFullWith}

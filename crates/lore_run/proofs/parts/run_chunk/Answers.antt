@@ -12,13 +12,13 @@ respond-responded-requires-clause-some g c =
 pub returns-clause-ok : goal.returns-clause-ok
 returns-clause-ok g c =
     let written = g.K.Sink.written in
-    replied_whole c.respond-responded.result (standing [] c.args.tally.now (written c.args.sink.now) c.args.session.now.state)
-    (standing [] c.respond-responded.new.tally (written c.respond-responded.new.sink) c.answer.new.session.state) (chunk c.args.text.now) c.in-Ok.reply
-    c.in-Ok.ensures.ok c.respond-responded.ensures.done c.respond-responded.ensures.refused c.respond-responded.ensures.ok
+    replied_whole c.respond-responded.result (standing [] c.args.tally.now (written c.args.sink.now) c.args.session.now.state c.args.steps.now)
+    (standing [] c.respond-responded.new.tally (written c.respond-responded.new.sink) c.answer.new.session.state c.answer.new.steps) (chunk c.args.text.now) c.in-Ok.reply
+    c.in-Ok.ensures.ok c.in-Ok.ensures.read c.respond-responded.ensures.done c.respond-responded.ensures.refused c.respond-responded.ensures.ok
 
 pub returns-clause-stopped : goal.returns-clause-stopped
 returns-clause-stopped g c =
     let written = g.K.Sink.written in
-    replied_in_part c.respond-responded.result (standing [] c.args.tally.now (written c.args.sink.now) c.args.session.now.state)
-    (standing [] c.respond-responded.new.tally (written c.respond-responded.new.sink) c.answer.new.session.state) (chunk c.args.text.now) c.in-Ok.reply
-    c.in-Ok.ensures.ok c.respond-responded.ensures.done c.respond-responded.ensures.refused c.respond-responded.ensures.err c.respond-responded.ensures.only
+    replied_in_part c.respond-responded.result (standing [] c.args.tally.now (written c.args.sink.now) c.args.session.now.state c.args.steps.now)
+    (standing [] c.respond-responded.new.tally (written c.respond-responded.new.sink) c.answer.new.session.state c.answer.new.steps) (chunk c.args.text.now) c.in-Ok.reply
+    c.in-Ok.ensures.ok c.in-Ok.ensures.read c.respond-responded.ensures.done c.respond-responded.ensures.refused c.respond-responded.ensures.err c.respond-responded.ensures.only

@@ -11,8 +11,8 @@ invariant-chunks g l = record {
   whole : l.reader.whole ≡ false;
   failed : l.reader.failed ≡ false;
   held : IsUnended l.reader.held;
-  advanced : Advances (standing l.fn.reader.held l.fn.tally (g.K.Sink.written l.fn.sink) l.fn.session.state) (take l.at l.piece)
-      (standing l.reader.held l.tally (g.K.Sink.written l.sink) l.session.state);
+  advanced : Advances (standing l.fn.reader.held l.fn.tally (g.K.Sink.written l.fn.sink) l.fn.session.state l.fn.steps) (take l.at l.piece)
+      (standing l.reader.held l.tally (g.K.Sink.written l.sink) l.session.state l.steps);
   fewer : l.tally.refused ≤ l.tally.done;
   faults : g.K.Sink.faults l.sink ≡ g.K.Sink.faults l.fn.sink;
 }

@@ -11,8 +11,8 @@ abbrev pub invariant-pieces : goal.invariant-pieces
 invariant-pieces g l = record {
   whole : l.reader.whole ≡ false;
   failed : l.reader.failed ≡ false;
-  so_far : RunsSoFar (outside (g.S.Source.left l.fn.source) (g.K.Sink.written l.fn.sink)) l.taken (g.S.Source.left l.source)
-      (standing l.reader.held l.tally (g.K.Sink.written l.sink) l.session.state);
+  so_far : RunsSoFar (outside (g.S.Source.left l.fn.source) (g.K.Sink.written l.fn.sink)) l.fn.steps l.taken (g.S.Source.left l.source)
+      (standing l.reader.held l.tally (g.K.Sink.written l.sink) l.session.state l.steps);
   fewer : l.tally.refused ≤ l.tally.done;
   source_faults : g.S.Source.faults l.source ≡ g.S.Source.faults l.fn.source;
   sink_faults : g.K.Sink.faults l.sink ≡ g.K.Sink.faults l.fn.sink;

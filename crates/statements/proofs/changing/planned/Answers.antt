@@ -34,32 +34,35 @@ prepare-requires g c =
           (sound_statement tree c.requires.sound);
     }
 
-pub returns-in_err-prepare-clause-refused : goal.returns-in_err-prepare-clause-refused
-returns-in_err-prepare-clause-refused g c =
+pub returns-in_err-prepared-clause-refused : goal.returns-in_err-prepared-clause-refused
+returns-in_err-prepared-clause-refused g c =
     let db = c.args.store.now.db in
     let tree = statement_tree c.args.statement.now in
-    let fault = c.in_err-prepare.field-0.0 in
-    told_on (Cause db tree) cause_order c.from_residual-in_err-prepare.result (refusal_of fault) c.from_residual-in_err-prepare.ensures.1
-    (changes_told db tree c.in_ok-changes.changes c.in_ok-changes.ensures.lists (refusal_of fault) c.in_err-prepare.ensures.err)
+    let fault = c.in_err-prepared.field-0.0 in
+    told_on (Cause db tree) cause_order c.from_residual-in_err-prepared.result (refusal_of fault) c.from_residual-in_err-prepared.ensures.1
+    (changes_told db tree c.in_ok-changes.changes c.in_ok-changes.ensures.lists (refusal_of fault) c.in_err-prepared.ensures.err)
 
-pub returns-in_err-prepare-clause-uncounted : goal.returns-in_err-prepare-clause-uncounted
-returns-in_err-prepare-clause-uncounted g c = λ quiet.
+pub returns-in_err-prepared-clause-uncounted : goal.returns-in_err-prepared-clause-uncounted
+returns-in_err-prepared-clause-uncounted g c = λ quiet.
     let tree = statement_tree c.args.statement.now in
     absurd (uncounted_change c.args.store.now.db tree c.requires.changing quiet c.in_ok-changes.ensures.lists.changing)
 
-pub returns-in_err-prepare-clause-stopped : goal.returns-in_err-prepare-clause-stopped
-returns-in_err-prepare-clause-stopped g c =
+pub returns-in_err-prepared-clause-stopped : goal.returns-in_err-prepared-clause-stopped
+returns-in_err-prepared-clause-stopped g c =
     let db = c.args.store.now.db in
     let changes = c.in_ok-changes.changes in
     stops_within db (statement_tree c.args.statement.now) changes c.in_ok-changes.ensures.lists _ _ _ c.in_ok-changes.ensures.unread
-    (DatabaseCause db changes) c.in_err-prepare.field-0.0 c.in_err-prepare.ensures.refused
-    c.from_residual-in_err-prepare.result c.from_residual-in_err-prepare.ensures.1 c.in_err-prepare.ensures.err
+    (DatabaseCause db changes) c.in_err-prepared.field-0.0 c.in_err-prepared.ensures.refused
+    c.from_residual-in_err-prepared.result c.from_residual-in_err-prepared.ensures.1 c.in_err-prepared.ensures.err
+
+pub returns-clause-labels : goal.returns-clause-labels
+returns-clause-labels g c = c.in_ok-prepared.ensures.after.labels
 
 pub returns-clause-made : goal.returns-clause-made
 returns-clause-made g c =
     let tree = statement_tree c.args.statement.now in
-    changes_made c.args.store.now.db tree c.in_ok-changes.changes c.in_ok-changes.ensures.lists _ c.in_ok-prepare.ensures.ok
-    c.in_ok-prepare.ensures.after
+    changes_made c.args.store.now.db tree c.in_ok-changes.changes c.in_ok-changes.ensures.lists _ c.in_ok-prepared.ensures.ok
+    c.in_ok-prepared.ensures.after
 
 pub returns-clause-uncounted : goal.returns-clause-uncounted
 returns-clause-uncounted g c = λ quiet.
@@ -69,4 +72,4 @@ returns-clause-uncounted g c = λ quiet.
 pub returns-clause-bounded : goal.returns-clause-bounded
 returns-clause-bounded g c =
     effects_within c.args.store.now.db (statement_tree c.args.statement.now) c.in_ok-changes.changes c.in_ok-changes.ensures.lists _ _ _
-    c.in_ok-changes.ensures.unread c.in_ok-prepare.ensures.reads
+    c.in_ok-changes.ensures.unread c.in_ok-prepared.ensures.reads

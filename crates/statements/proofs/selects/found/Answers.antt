@@ -13,7 +13,7 @@ use Rattle.statements.specs.Stops.{told}
 use Rattle.statements.specs.inside.Views.{view_over, IsRowOf, ReadsNone}
 use Rattle.statements.proofs.PlanLaws.{guide_tells}
 use Rattle.statements.proofs.StopLaws.{on_reply_weaker}
-use Rattle.statements.proofs.ViewLaws.{its_plan, its_rows, its_stop, its_view, its_quiet}
+use Rattle.statements.proofs.ViewLaws.{paths_told, its_plan, its_rows, its_stop, its_view, its_quiet}
 use Rattle.statements.proofs.selects.found.Goals as goal
 
 pub rows_over-requires-clause-planned : goal.rows_over-requires-clause-planned
@@ -29,7 +29,8 @@ rows_over-requires-clause-fits g c =
     c.new-paths.ensures.tells in
     inr (its_view db (bound_tree c.args.bound.now) c.labels-labels.result.now c.graph-graph.result.now.graph
     c.labels-labels.ensures c.graph-graph.ensures.graph c.requires.named c.links.result.now.links c.links.ensures
-    c.values.result.now.entries c.values.ensures c.new-paths.result c.new-paths.ensures.labels tells)
+    c.values.result.now.entries c.values.ensures (TellsReached c.new-paths.result)
+    (paths_told db (TellsReached c.new-paths.result) c.new-paths.result.labels (c.new-paths.ensures.labels ∙ c.labels-labels.ensures) tells))
 
 pub returns-clause-rows : goal.returns-clause-rows
 returns-clause-rows g c =
@@ -69,5 +70,6 @@ returns-clause-quiet g c =
     → c.rows_over.new.steps ≡ c.args.steps.now)
     (IsQuietBound db tree → c.rows_over.new.steps ≡ c.args.steps.now)
     (λ same quiet. same (its_quiet db tree labels graph c.labels-labels.ensures c.graph-graph.ensures.graph c.requires.named links c.links.ensures
-    entries c.values.ensures c.new-paths.result c.new-paths.ensures.labels tells c.requires.runnable plan c.in_ok-plan.ensures.counts
+    entries c.values.ensures (TellsReached c.new-paths.result)
+    (paths_told db (TellsReached c.new-paths.result) c.new-paths.result.labels (c.new-paths.ensures.labels ∙ c.labels-labels.ensures) tells) c.requires.runnable plan c.in_ok-plan.ensures.counts
     c.in_ok-plan.ensures.kind c.in_ok-plan.ensures.steps quiet)) c.rows_over.ensures.quiet

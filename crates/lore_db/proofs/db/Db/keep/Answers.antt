@@ -4,6 +4,7 @@ use Rattle.lore_base.specs.Verdicts.{IsToldBy}
 use Rattle.lorel_trees.specs.Trees.{history}
 use Rattle.statements.specs.Stops.{told}
 use Rattle.lore_db.specs.States.{Performs, StateCause, state_order}
+use Rattle.lore_db.specs.Freshness.{KeepsFresh}
 use Rattle.lore_db.proofs.PerformLaws.{on_reply_any}
 use Rattle.lore_db.proofs.db.Db.keep.Goals as goal
 
@@ -23,4 +24,13 @@ returns-then-on-clause-uncounted g c =
 
 pub returns-else-on-clause-ok : goal.returns-else-on-clause-ok
 returns-else-on-clause-ok g c =
-    subst (λ (b : Bool). Performs c.args.self.now.state (history b) c.end.result c.end.new.self.state) (sym c.if-on.false) c.end.ensures
+    subst (λ (b : Bool). Performs c.args.self.now.state (history b) c.end.result c.end.new.self.state) (sym c.if-on.false) c.end.ensures.ok
+
+pub returns-then-on-clause-fresh : goal.returns-then-on-clause-fresh
+returns-then-on-clause-fresh g c =
+    subst (λ (b : Bool). IfOk c.begin.result (λ reply. KeepsFresh c.args.self.now (history b) reply c.begin.new.self)) (sym c.if-on.true)
+    c.begin.ensures.fresh
+
+pub returns-else-on-clause-fresh : goal.returns-else-on-clause-fresh
+returns-else-on-clause-fresh g c =
+    subst (λ (b : Bool). KeepsFresh c.args.self.now (history b) c.end.result c.end.new.self) (sym c.if-on.false) c.end.ensures.fresh

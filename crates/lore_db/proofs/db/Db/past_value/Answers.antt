@@ -1,4 +1,4 @@
-use Rattle.std.proofs.Common.{◌≡◌, ◌≤◌, ℕ, List, Option, sym, ap, subst, ◌∙◌, arith}
+use Rattle.std.proofs.Common.{◌≡◌, ◌≤◌, List, Option, sym, ap, subst, ◌∙◌, arith}
 use Rattle.std.specs.Prelude.{Contains, IfSome, IfNone}
 use Rattle.lore_base.specs.Databases.{IsLive}
 use Rattle.doem_history.specs.Moments.{Moment}

@@ -26,12 +26,12 @@ returns-in_default-clause-refused g c =
 pub returns-in_err-history-clause-uncounted : goal.returns-in_err-history-clause-uncounted
 returns-in_err-history-clause-uncounted g c =
     on_reply_any c.from_residual.result
-    (CountsNoStep c.args.self.now.state (select_at c.args.moment (select_tree c.args.query.now)) → c.args.steps.now ≡ c.args.steps.now) (λ quiet. refl)
+    (CountsNoStep c.args.self.now (select_at c.args.moment (select_tree c.args.query.now)) → c.args.steps.now ≡ c.args.steps.now) (λ quiet. refl)
 
 pub returns-in_err-names-clause-uncounted : goal.returns-in_err-names-clause-uncounted
 returns-in_err-names-clause-uncounted g c =
     on_reply_any c.from_residual-in_err-names.result
-    (CountsNoStep c.args.self.now.state (select_at c.args.moment (select_tree c.args.query.now)) → c.args.steps.now ≡ c.args.steps.now) (λ quiet. refl)
+    (CountsNoStep c.args.self.now (select_at c.args.moment (select_tree c.args.query.now)) → c.args.steps.now ≡ c.args.steps.now) (λ quiet. refl)
 
 pub returns-in_err-answer-clause-refused : goal.returns-in_err-answer-clause-refused
 returns-in_err-answer-clause-refused g c =
@@ -74,8 +74,8 @@ returns-in_err-answer-clause-uncounted g c =
     let some = c.in-Some.ensures.some in
     let is = is_moment h c.args.moment number (sym same ∙ some.0) some.1 in
     on_reply_any c.from_residual-in_err-answer.result
-    (CountsNoStep c.args.self.now.state (select_at c.args.moment query) → c.select_over.new.steps ≡ c.args.steps.now)
-    (λ quiet. absurd (at_counts c.args.self.now.state (moments_of h) c.in_ok-history.ensures.ok c.args.moment query number (moment_at h number) is quiet))
+    (CountsNoStep c.args.self.now (select_at c.args.moment query) → c.select_over.new.steps ≡ c.args.steps.now)
+    (λ quiet. absurd (at_counts c.args.self.now.state (moments_of h) c.in_ok-history.ensures.ok c.args.moment query number (moment_at h number) is c.args.self.now.blocked c.args.self.now.fresh quiet))
 
 pub returns-clause-uncounted : goal.returns-clause-uncounted
 returns-clause-uncounted g c = λ quiet.
@@ -85,4 +85,4 @@ returns-clause-uncounted g c = λ quiet.
     let number = c.in-Some.moment in
     let some = c.in-Some.ensures.some in
     let is = is_moment h c.args.moment number (sym same ∙ some.0) some.1 in
-    absurd (at_counts c.args.self.now.state (moments_of h) c.in_ok-history.ensures.ok c.args.moment query number (moment_at h number) is quiet)
+    absurd (at_counts c.args.self.now.state (moments_of h) c.in_ok-history.ensures.ok c.args.moment query number (moment_at h number) is c.args.self.now.blocked c.args.self.now.fresh quiet)

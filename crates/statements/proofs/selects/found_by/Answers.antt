@@ -1,0 +1,62 @@
+use Rattle.std.proofs.Common.{◌≡◌, inr}
+use Rattle.std.specs.Prelude.{IfSome}
+use Rattle.std.proofs.lemmas.Result.{IfOk-weaker, IfErr-weaker}
+use Rattle.lorel_bound.specs.Bound.{bound_tree}
+use Rattle.lorel_bound.specs.Plans.{steps_of}
+use Rattle.lorel_bound.specs.SlotRows.{IsSlotRow}
+use Rattle.answers.specs.Asked.{AreRows, AreTooMany}
+use Rattle.statements.specs.Types.refusals
+use Rattle.statements.specs.Uncounted.{IsPlain}
+use Rattle.statements.specs.Stops.{told}
+use Rattle.statements.specs.inside.Views.{view_over, IsRowOf, ReadsNone}
+use Rattle.statements.proofs.StopLaws.{on_reply_weaker}
+use Rattle.statements.proofs.ViewLaws.{its_rows, its_stop, its_view, its_plain}
+use Rattle.statements.proofs.selects.found_by.Goals as goal
+
+pub rows_over-requires-clause-planned : goal.rows_over-requires-clause-planned
+rows_over-requires-clause-planned g c = c.in_ok-plan.ensures.steps c.labels-labels.result.now
+
+pub rows_over-requires-clause-fits : goal.rows_over-requires-clause-fits
+rows_over-requires-clause-fits g c =
+    inr (its_view c.args.store.now.db (bound_tree c.args.bound.now) c.labels-labels.result.now c.graph-graph.result.now.graph
+    c.labels-labels.ensures c.graph-graph.ensures.graph c.requires.named c.links.result.now.links c.links.ensures
+    c.values.result.now.entries c.values.ensures (g.P.Paths.reaches c.args.paths.now) c.requires.tells)
+
+pub returns-clause-rows : goal.returns-clause-rows
+returns-clause-rows g c =
+    let db = c.args.store.now.db in
+    let tree = bound_tree c.args.bound.now in
+    let labels = c.labels-labels.result.now in
+    let graph = c.graph-graph.result.now.graph in
+    IfOk-weaker c.rows_over.result (AreRows (IsRowOf labels graph.edges graph.objects tree)) (AreRows (IsSlotRow db tree))
+    (its_rows db tree labels graph c.labels-labels.ensures c.graph-graph.ensures.graph) c.rows_over.ensures.rows
+
+pub returns-clause-refused : goal.returns-clause-refused
+returns-clause-refused g c =
+    let db = c.args.store.now.db in
+    let tree = bound_tree c.args.bound.now in
+    let labels = c.labels-labels.result.now in
+    let graph = c.graph-graph.result.now.graph in
+    IfErr-weaker c.rows_over.result
+    (λ stop. IfSome (told stop) (λ refusal. (refusal ≡ refusals.TooManyRows) × AreTooMany (IsRowOf labels graph.edges graph.objects tree)))
+    (λ stop. IfSome (told stop) (λ refusal. (refusal ≡ refusals.TooManyRows) × AreTooMany (IsSlotRow db tree)))
+    (λ stop h. its_stop db tree labels graph c.labels-labels.ensures c.graph-graph.ensures.graph (told stop) h)
+    c.rows_over.ensures.refused
+
+pub returns-clause-quiet : goal.returns-clause-quiet
+returns-clause-quiet g c =
+    let db = c.args.store.now.db in
+    let tree = bound_tree c.args.bound.now in
+    let labels = c.labels-labels.result.now in
+    let graph = c.graph-graph.result.now.graph in
+    let plan = c.in_ok-plan.plan in
+    let links = c.links.result.now.links in
+    let entries = c.values.result.now.entries in
+    let reaches = g.P.Paths.reaches c.args.paths.now in
+    on_reply_weaker c.rows_over.result
+    (ReadsNone (view_over labels graph.edges graph.objects links entries reaches tree) tree (steps_of plan)
+    → c.rows_over.new.steps ≡ c.args.steps.now)
+    (IsPlain tree → c.rows_over.new.steps ≡ c.args.steps.now)
+    (λ same plain. same (its_plain db tree labels graph c.labels-labels.ensures c.graph-graph.ensures.graph c.requires.named links c.links.ensures
+    entries c.values.ensures reaches c.requires.tells c.requires.runnable plan c.in_ok-plan.ensures.kind (c.in_ok-plan.ensures.steps db.labels) plain))
+    c.rows_over.ensures.quiet
