@@ -1,6 +1,6 @@
 """Cases of generated objects, for `large.py`: each object and edge of them is worked out here, from what docs/LANGUAGE.md says
 of `generate`, and the sets that label paths lead to are counted by a search of its own."""
-from large_scripts import LABELS, LAST_SEED, Case, head, labelled, ok, refused
+from large_scripts import LABELS, LAST_SEED, Case, head, labelled, ok, refused, rows
 
 WORDS = ["person", "id", "name", "age", "boss", "club", "member", "leader", "ring", "next"]
 
@@ -81,6 +81,13 @@ def generated_cases():
     labels = ["next", "age", *(word for word in WORDS if word not in ("next", "age"))]
     yield Case("a dump of persons beside other objects", ["load A := { next 1, age 2 }; generate 7 23; dump;"], 0,
                ok(3, 2, 3) + dump_of(labels, {"A": 1, "People": 4}, values, edges))
+    values, edges = people(1, 20, 5)
+    objects, links, sets = 4 + len(values), 2 + len(edges), 4 + set_count([5], edges)
+    watches = "load A := { b 1 }; watch V := select A.#; watch W := select A.b;"
+    shows = "load B := { b 2 }; show W; generate 1 20; show V; load A := { b 3 }; show V; show W;"
+    yield Case("views that a load, generated objects, and another load concern", [watches, shows], 0,
+               ok(2, 1, 2) * 3 + ok(4, 2, 4) + rows(["&2 1"]) + ok(objects, links, sets) + rows(["&1 {}", "&2 1"])
+               + ok(objects, links, sets) + rows([f"&{objects + 1} {{}}", f"&{objects + 2} 3"]) + rows([f"&{objects + 2} 3"]))
     room = LABELS - len(WORDS)
     values, edges = people(7, 20, 4)
     objects, links, sets = len(values), len(edges), set_count([4], edges)

@@ -5,7 +5,8 @@
 
 The prover can't refuse a program that gives up with want of memory, nor one whose limits are other numbers than the documents
 name; these cases do. What the program has to write is worked out here. Each run may take 4 GiB and a minute of a processor, far
-more than any needs: so one that keeps what it need not, or does for each row what is done once, fails too.
+more than any needs: so one that keeps what it need not, or does for each row what is done once, fails too. (`large_joins.py` has
+the cases of joins and conditions that are made for this.)
 
 Statuses: 0 all is as it has to be, 1 a case failed, 2 the program can't be run, or the words are wrong.
 """
@@ -20,6 +21,7 @@ from math import ceil, isqrt, lcm
 
 sys.dont_write_bytecode = True
 from generated_people import generated_cases
+from large_joins import join_cases
 from large_scripts import (EDGES, FACT_WEIGHT, HISTORY_WEIGHT, ITEMS, LABELS, LABEL_BYTES, LAST_MOMENT, LAST_NUMBER, LAST_SEED,
                            LEAVES, LEVELS, MANY, MEMBERS, NAMES,
                            NODES, OBJECTS, PERSONS, ROWS, SAMPLES, SCRIPT_BYTES, START_NODES, STATEMENT_BYTES, TEXT_BYTES,
@@ -75,6 +77,9 @@ def row_cases():
                 f"select X, Y from N.a X, N.a Y where X <= 24 and Y < {count};",
                 "select X, Y from N.a X, N.a Y where X <= 25;"], 1,
                ok(count + 1, count, 2) + refused("TooManyRows") + rows(pairs) + refused("TooManyRows"))
+    yield Case("a row too many at a moment, and by blocks",
+               [braces("N", (f"a {i}" for i in range(count))), "history on; at 0 select Y, X from N.a X, N.a Y;",
+                "blocks select Y, X from N.a X, N.a Y;"], 1, ok(count + 1, count, 2) * 2 + refused("TooManyRows") * 2)
     cells = [" | ".join([f"&{i} {{}}", f"&{j} 0"] * (ITEMS // 2)) for i in range(2, 27) for j in range(27, count + 27)]
     yield Case("as many rows as there may be, with as many cells",
                [braces("N", ["a {}"] * 25 + ["b 0"] * count),
@@ -128,6 +133,8 @@ def label_cases():
                "update L.last += 1; update L.x += 1; load M := { x 1 }; update L.y += L; update L.l0 += L;"], 1,
                ok(2, last, 2) + refused("AtomicParent") + refused("UndefinedLocal") + refused("TooManyLabels") + ok(2, last, 2)
                + ok(3, LABELS, 3) + refused("TooManyLabels") * 3 + ok(3, LABELS + 1, 4))
+    yield Case("many atoms gone beside many labels", [labelled("L", last), numbered(ROWS), "unname A;"], 0,
+               ok(2, last, 2) + ok(ROWS + 3, last + ROWS, 4) + ok(2, last, 2))
     yield Case("as many labels as there are, browsed", [labelled("L", LABELS), "browse L;"], 0,
                ok(2, LABELS, 2) + "".join(["at L 1\n", *(f".l{i} 1\n" for i in range(LABELS)), f"labels {LABELS}\n"]))
     asked = ("select L.%; select L.l%; select L.%9; select L.#; select L.%.%;"
@@ -194,6 +201,9 @@ def update_cases():
                [numbered(some), f'update A.a := "{text}"; sample A.a 1; update A.a := 1; sample A.a 1;'], 0,
                ok(some + 1, some, 2) * 2 + f'&2 "{text}"\nsample 1 of {some}\n' + ok(some + 1, some, 2)
                + f"&2 1\nsample 1 of {some}\n")
+    yield Case("many objects given values before as many others, four times",
+               [braces("A", ["a {}"] * ROWS), braces("B", (f"b {i}" for i in range(ROWS))), "update A.a := 7;"] * 4, 0,
+               ok(ROWS + 1, ROWS, 2) + ok(2 * ROWS + 2, 2 * ROWS, 4) * 11)
     parents = min(MEMBERS // 3, ROWS)
     yield Case("as many copies as fit, cut off again, and their parents linked and cut off",
                [braces("B", ["m {}"] * parents), f'update B.m.c += {{ v "copy" }}; sample B.m.c.v {SAMPLES};',
@@ -529,7 +539,7 @@ def cases():
     """All cases, one after another, since each may hold many megabytes."""
     for group in [row_cases, statement_cases, label_cases, name_cases, size_cases, update_cases, condition_cases, node_cases,
                   cell_cases, word_cases, path_cases, text_cases, long_label_cases, dump_cases, made_cases, generated_cases,
-                   history_cases, block_cases, view_cases, script_cases]:
+                   history_cases, block_cases, view_cases, join_cases, script_cases]:
         yield from group()
 
 

@@ -1,7 +1,7 @@
 """The questions of plain Python, as a process of its own: dictionaries.py FILE QUESTION ID TIMES
 
-Reads the JSON and keeps the persons in dictionaries by their id and by that of their boss and the links in one by their place, answers the question so many
-times, and prints one line for each row.
+Reads the JSON and keeps the persons in dictionaries by their id and by that of their boss, and the links in one by their
+place, as well as the products by their id where the document has any, answers the question so many times, and prints one line for each row.
 """
 import json
 import sys
@@ -14,6 +14,7 @@ class People:
             self.document = json.load(source)
         self.persons = {person["id"]: person for person in self.document["persons"]}
         self.links = {link["place"]: link for link in self.document["links"]}
+        self.products = {product["id"]: product for product in self.document.get("products", ())}
         self.under = defaultdict(list)
         for person in self.document["persons"]:
             self.under[person.get("boss")].append(person["id"])
@@ -59,6 +60,16 @@ def aged(people, one, turn):
     return [person["name"] for person in people.persons.values() if int(person["age"]) == 30]
 
 
+def parts(people, one, turn):
+    persons = people.persons
+    found = (person for person in persons.values() if int(person["age"]) == 30 and "boss" in person)
+    return [f"{person['name']}\t{persons[person['boss']]['name']}" for person in found]
+
+
+def none(people, one, turn):
+    return [sum(int(person["age"]) == 99 for person in people.persons.values())]
+
+
 def one(people, one, turn):
     return [people.persons[one]["name"]]
 
@@ -66,6 +77,28 @@ def one(people, one, turn):
 def bosses(people, one, turn):
     persons = people.persons
     return [f"{person['name']}\t{persons[person['boss']]['name']}" for person in persons.values() if "boss" in person]
+
+
+def hops(people, one, turn):
+    persons = people.persons
+    found = ((person, persons[person["boss"]]) for person in persons.values() if "boss" in person)
+    return [f"{person['name']}\t{persons[above['boss']]['name']}" for person, above in found if "boss" in above]
+
+
+def buyers(people, one, turn):
+    return [f"{people.persons[order['buyer']]['name']}\t{order['id']}" for order in people.document["orders"]]
+
+
+def bought(people, one, turn):
+    persons, products = people.persons, people.products
+    return [
+        f"{order['id']}\t{persons[order['buyer']]['name']}\t{products[order['product']]['title']}"
+        for order in people.document["orders"]
+    ]
+
+
+def optional(people, one, turn):
+    return [f"{order['id']}\t{order.get('note', '')}" for order in people.document["orders"]]
 
 
 def chain(people, one, turn):
@@ -102,8 +135,10 @@ def dump(people, one, turn):
     return [json.dumps(people.document)]
 
 
-restore = names
-QUESTIONS = (load, names, ring, ages, aged, one, bosses, chain, below, value, edge, dump)
+shop, restore = load, names
+QUESTIONS = (
+    load, names, ring, ages, aged, parts, none, one, bosses, hops, chain, below, buyers, bought, optional, value, edge, dump,
+)
 
 
 def main():

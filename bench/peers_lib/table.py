@@ -6,7 +6,7 @@ import time
 
 from peers_lib.data import make
 from peers_lib.measure import LIMIT, PASSES, RUNS, Tally, apart, own_peak
-from peers_lib.questions import DUMP, LOAD, NAMES, RESTORE
+from peers_lib.questions import BEGUN, DUMP, IDLE, LOAD, SHOP
 
 # The milliseconds that a question has to cost at least, so that its time can be told.
 ENOUGH = 50
@@ -39,8 +39,9 @@ def person_of(size):
 
 
 def plain_rows(tool, work):
+    """The lines of an answer, sorted. A last part that is missing may leave an empty cell or none."""
     with open(f"{work.name}-{tool.name}", encoding="utf-8") as source:
-        return sorted(tool.rows(source.read()))
+        return sorted(row.rstrip("\t") for row in tool.rows(work, source.read()))
 
 
 def compare(tools, work, size):
@@ -71,7 +72,7 @@ def is_answered(tool, work, person):
 def prepare(tools, size):
     """Makes the data, and of each tool what its other questions need: gives the tools that keep the limit there."""
     apart(make, size)
-    return [tool for tool in tools if all(is_answered(tool, work, person_of(size)) for work in (LOAD, DUMP))]
+    return [tool for tool in tools if all(is_answered(tool, work, person_of(size)) for work in (LOAD, SHOP, DUMP))]
 
 
 def shown(milliseconds):
@@ -101,7 +102,8 @@ class Measuring:
         """One pass over all. Answers are compared in the first."""
         is_first = not self.idle
         for tool in tools:
-            self.idle.setdefault(tool, Tally()).add(lambda: tool.start(NAMES, 1, 0, "nothing"))
+            for shop, work in IDLE.items():
+                self.idle.setdefault((tool, shop), Tally()).add(lambda: tool.start(work, 1, 0, "nothing"))
         for work in works:
             for tool in askers(tools, work):
                 answer(self.whole.setdefault((tool, work), Tally()), tool, work, self.person)
@@ -112,8 +114,8 @@ class Measuring:
 
     def repeat(self, tool, work):
         """Says the question so often in a process that its time can be told from that of the process."""
-        idle, whole = self.idle[tool].cost(), self.whole[tool, work].cost()
-        if whole is None or work in (LOAD, RESTORE):
+        idle, whole = self.idle[tool, work.shop].cost(), self.whole[tool, work].cost()
+        if whole is None or work in BEGUN:
             return
         times = self.times.setdefault((tool, work), repeats(whole.time - idle.time, idle.time))
         if times > 1:
@@ -121,7 +123,7 @@ class Measuring:
 
     def alone(self, tool, work):
         """The milliseconds of the question without what its process costs anyway."""
-        times, idle = self.times[tool, work], self.idle[tool].cost()
+        times, idle = self.times[tool, work], self.idle[tool, work.shop].cost()
         cost = (self.whole if times == 1 else self.again)[tool, work].cost()
         if cost is None:
             return STOPPED
@@ -132,7 +134,7 @@ class Measuring:
         whole = self.whole[tool, work].cost() if (tool, work) in self.whole else None
         if whole is None:
             return STOPPED
-        own = "-" if work in (LOAD, RESTORE) else self.alone(tool, work)
+        own = "-" if work in BEGUN else self.alone(tool, work)
         floor = own_peak()
         peak = f"{whole.peak:.0f}" if whole.peak > floor else f"≤ {floor:.0f}"
         return f"{shown(whole.time)} / {own} / {peak}"

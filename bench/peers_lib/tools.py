@@ -29,6 +29,10 @@ def turns(question, one, times):
     return "".join(question.replace("ONE", str(one)).replace("NEW", AGES[turn % 2]) for turn in range(times))
 
 
+def document(work):
+    return "shop.json" if work.shop else "people.json"
+
+
 def first_line(words):
     return subprocess.run(words, stdout=subprocess.PIPE, stderr=subprocess.DEVNULL).stdout.decode().partition("\n")[0]
 
@@ -57,14 +61,16 @@ class Lore:
                 dump.readline()  # the reply to the load
                 write("script.lore", "restore\n", dump, ";\n", asked)
         else:
-            with open("people.lore", "rb") as load:
-                write("script.lore", load, asked)
+            with open("people.lore", "rb") as load, open("shop.lore" if work.shop else os.devnull, "rb") as shop:
+                write("script.lore", load, shop, asked)
         return [self.path], "script.lore", answer
 
-    def rows(self, text):
-        """The rows among the replies, without the numbers of objects."""
+    def rows(self, work, text):
+        """The rows among the replies, without the numbers of objects, or how many there are."""
         for line in text.splitlines():
-            if line.startswith("&"):
+            if work.counted and line.startswith("rows "):
+                yield line.removeprefix("rows ")
+            elif not work.counted and line.startswith("&"):
                 yield "\t".join(self.plain(cell) for cell in line.split(" | "))
 
     def plain(self, cell):
@@ -86,15 +92,15 @@ class Jq:
 
     def start(self, work, one, times, answer):
         question = work.jq.replace("ONE", str(one)).replace("NEW", f"({AGES[0]} + $turn % 2)")
-        data = f"dump-{self.name}" if work.name == "restore" else "people.json"
+        data = f"dump-{self.name}" if work.name == "restore" else document(work)
         return [self.path, "-rc", f"range({times}) as $turn | {question}", data], "/dev/null", answer
 
-    def rows(self, text):
+    def rows(self, work, text):
         return text.splitlines()
 
 
 class Sqlite:
-    """SQL on standard input over a database in a file, which `load` made before; each run gets a file of its own."""
+    """SQL on standard input over a database in a file, which `load` or `shop` made before; each run gets a file of its own."""
 
     name = "sqlite3"
 
@@ -108,16 +114,18 @@ class Sqlite:
         return work.sqlite3
 
     def start(self, work, one, times, answer):
-        database = "loaded.db" if work.name == "load" else "run.db"
+        loaded = "loaded-shop.db" if work.shop else "loaded.db"
+        is_load = work.name in ("load", "shop")
+        database = loaded if is_load else "run.db"
         if os.path.exists(database):
             os.unlink(database)
-        if work.name not in ("load", "restore"):
-            shutil.copyfile("loaded.db", database)
+        if not is_load and work.name != "restore":
+            shutil.copyfile(loaded, database)
         with open("dump-sqlite3" if work.name == "restore" else os.devnull, "rb") as dump:
             write("script.sql", dump, turns(work.sqlite3, one, times))
         return [self.path, "-bail", "-batch", "-tabs", database], "script.sql", answer
 
-    def rows(self, text):
+    def rows(self, work, text):
         return text.splitlines()
 
 
@@ -134,9 +142,9 @@ class Python:
         return "" if work.python else None
 
     def start(self, work, one, times, answer):
-        data = "dump-python3" if work.name == "restore" else "people.json"
+        data = "dump-python3" if work.name == "restore" else document(work)
         program = os.path.join(HERE, "dictionaries.py")
         return [self.path, "-S", program, data, work.name, str(one), str(times)], "/dev/null", answer
 
-    def rows(self, text):
+    def rows(self, work, text):
         return text.splitlines()

@@ -13,7 +13,7 @@ use Rattle.lore_base.specs.Bytes.{bytes_cmp}
 use Rattle.lore_base.specs.Names.{IsNameTable}
 use Rattle.lore_base.specs.Walks.{edge_cmp}
 use Rattle.lore_base.specs.Databases.{AreAscendingObjects, AreAscendingEdges}
-use Rattle.oem_graph.proofs.EdgeLaws.{edge_cmp_total}
+use Rattle.edge_layers.proofs.EdgeLaws.{edge_cmp_total}
 use Rattle.dump_text.specs.Types.{Oid, Edge, Value}
 use Rattle.dump_text.proofs.ListLaws.{told_by_next}
 

@@ -1,9 +1,9 @@
 -- A record joined to its list or parted from it, from the links that are set.
-use Rattle.std.proofs.Common.{◌≡◌, ◌≢◌, ℕ, Option, Some, None, List, refl, sym, ap, ◌∙◌, subst}
+use Rattle.std.proofs.Common.{◌≡◌, ◌≢◌, ℕ, Option, Some, List, ◌∙◌, subst}
 use Rattle.slab.specs.Slab.{Slab}
 use Rattle.edge_lists.specs.Types.{Oid, Side, Way, Before, After, EdgeRecord, ObjectRecord}
 use Rattle.near_links.specs.Links.{AreJoined, AreParted}
-use Rattle.edge_lists.specs.Records.{link_at, SameEdges, SameLinks, IsRelinked}
+use Rattle.edge_lists.specs.Records.{link_at, SameEdges, IsRelinked}
 use Rattle.edge_lists.specs.Objects.{head_of}
 use Rattle.edge_lists.specs.Chains.{next_of, IsLed, IsLedBack, IsJoined, IsParted}
 

@@ -1,16 +1,16 @@
 -- The lists of both sides stay right where a record is put in, joined, parted and taken away.
-use Rattle.std.proofs.Common.{◌≡◌, ◌≢◌, ◌⊎◌, ℕ, zero, suc, ◌+◌, ◌<◌, Bool, true, false, is_some, IsSome, Option, Some, None, List, [], ◌∷◌, length, get_or, map, Contains, refl, sym, ap, ◌∙◌, inl, inr, subst, arith}
+use Rattle.std.proofs.Common.{◌≡◌, ◌≢◌, ℕ, ◌+◌, true, is_some, Option, Some, None, List, [], ◌∷◌, map, Contains, refl, sym, ap, ◌∙◌, inl, inr, subst, arith}
 use Rattle.std.specs.Option.{IfSome, IfNone}
 use Rattle.std.proofs.lemmas.Bool.{cases_eq}
 use Rattle.slab.specs.Slab.{Slab, get, ContainsKey, Updates, slab_len}
 use Rattle.slab.proofs.SlabLemmas.{Contains-cons, Contains-cons_cases}
 use Rattle.edge_lists.specs.Types.{Oid, Edge, Side, Out, In, Way, Before, After, EdgeRecord, ObjectRecord}
-use Rattle.near_links.specs.Links.{IsNearest, IsAdded, IsRemoved, AreAtKeys, AreLinked}
-use Rattle.edge_lists.specs.Edges.{owner_of, side_cmp, Precedes}
-use Rattle.edge_lists.specs.Records.{link_of, link_in, link_at, edge_in, LiesAt, SameEdges, SameLinks, HasEdge, IsPut, IsTaken, alone}
-use Rattle.edge_lists.specs.Objects.{head_of, object_of, AreAscendingObjects, IsLive}
-use Rattle.edge_lists.specs.Chains.{next_of, StandsAt, AreChained, IsStart, IsPlace, SameOthers, IsJoined, IsParted, IsPutOut, IsPutIn, IsTakenOut}
-use Rattle.near_links.proofs.NearLaws.{IsOrder, IsFound, found}
+use Rattle.near_links.specs.Links.{IsNearest, IsAdded, IsRemoved, AreLinked}
+use Rattle.edge_lists.specs.Edges.{owner_of, Precedes}
+use Rattle.edge_lists.specs.Records.{link_of, link_in, link_at, edge_in, LiesAt, SameEdges, SameLinks, HasEdge, IsPut, alone}
+use Rattle.edge_lists.specs.Objects.{head_of, object_of, IsLive}
+use Rattle.edge_lists.specs.Chains.{next_of, StandsAt, AreChained, IsStart, IsPlace, SameOthers, IsJoined, IsParted, IsPutOut, IsTakenOut}
+use Rattle.near_links.proofs.NearLaws.{IsOrder, found}
 use Rattle.near_links.proofs.LinkLaws.{joined, parted}
 use Rattle.edge_lists.proofs.EdgeLaws.{side_order, same_oid}
 use Rattle.edge_lists.proofs.WalkLaws.{some_same, none_some, apart, stands_once}

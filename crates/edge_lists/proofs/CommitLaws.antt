@@ -1,11 +1,11 @@
 -- Edges that are put and taken, one after another.
-use Rattle.std.proofs.Common.{◌≡◌, ◌≢◌, ◌⊎◌, ◌↔◌, ℕ, zero, suc, ◌+◌, ◌-◌, ◌<◌, ◌≤◌, Less, Option, Some, None, List, [], ◌∷◌, ◌++◌, length, get_or, map, Contains, AllPairs, All, refl, sym, ap, ◌∙◌, inl, inr, subst, arith, length-append}
+use Rattle.std.proofs.Common.{◌≡◌, ◌≢◌, ℕ, suc, ◌+◌, ◌-◌, ◌<◌, Less, Option, Some, List, [], ◌∷◌, ◌++◌, length, get_or, map, Contains, All, refl, sym, ap, ◌∙◌, inl, inr, subst, arith}
 use Rattle.std.proofs.lemmas.Bool.{cases_eq, cases_lt}
 use Rattle.std.proofs.Common.{take, drop}
 use Rattle.std.proofs.lemmas.List.{get_or_append_left, get_or-append_right, length_push, take_more, take-append-drop, length-take, get_or_default, length-map, get_or-map, length-drop, get_or-drop, drop_more}
 use Rattle.std.proofs.lemmas.List.Elements.{Contains-get_or, Contains-push, Contains-push_cases, Contains-append_left, Contains-append_right, Contains-append_cases}
 use Rattle.list_laws.proofs.MemberLaws.{Contains-map}
-use Rattle.slab.specs.Slab.{Slab, get, slab_len}
+use Rattle.slab.specs.Slab.{Slab}
 use Rattle.slab.proofs.SlabLemmas.{Contains-cons, Contains-cons_cases}
 use Rattle.edge_lists.specs.Types.{Oid, Edge, Side, Out, In, Before, After, EdgeRecord, ObjectRecord}
 use Rattle.edge_lists.specs.Edges.{owner_of, Precedes, side_cmp, Ascend}
@@ -13,7 +13,7 @@ use Rattle.edge_lists.specs.Records.{link_at, edge_in, LiesAt, HasEdge, SameEdge
 use Rattle.edge_lists.specs.Objects.{head_of, object_of, AreAscendingObjects, IsLive}
 use Rattle.edge_lists.specs.Chains.{StandsAt, AreChained, IsStart, WaitAmong, IsPutOut, IsPutIn, IsTakenOut}
 use Rattle.edge_lists.specs.Commits.{ArePut, AreEntered, key_at, keys_at, ArePlaces, AreTaken, AreChanged}
-use Rattle.near_links.proofs.NearLaws.{IsFound, found}
+use Rattle.near_links.proofs.NearLaws.{found}
 use Rattle.edge_lists.proofs.ObjectLaws.{head-past}
 use Rattle.edge_lists.proofs.WalkLaws.{some_same, none_some}
 use Rattle.edge_lists.proofs.ChangeLaws.{linked-same, once_at, none_waits, live-same}

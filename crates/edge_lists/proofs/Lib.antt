@@ -1,3 +1,4 @@
+pub mod KeyLaws
 pub mod RecordLaws
 pub mod ObjectLaws
 pub mod ChainLaws

@@ -1,14 +1,14 @@
 -- Objects that come without edges, and objects without edges that go: the heads of all lists are as they were.
-use Rattle.std.proofs.Common.{◌≡◌, ◌≢◌, ◌⊎◌, ℕ, zero, suc, ◌+◌, ◌<◌, Bool, true, false, Option, Some, None, cond, List, [], ◌∷◌, ◌++◌, length, get_or, All, Contains, refl, sym, ap, ◌∙◌, inl, inr, subst, arith}
+use Rattle.std.proofs.Common.{◌≡◌, ◌≢◌, ℕ, suc, ◌<◌, Bool, true, false, None, cond, List, [], ◌∷◌, ◌++◌, All, Contains, refl, sym, ◌∙◌, inl, inr, arith}
 use Rattle.std.specs.List.{filter}
 use Rattle.std.proofs.lemmas.Bool.{cases_eq}
 use Rattle.slab.specs.Slab.{Slab}
-use Rattle.edge_lists.specs.Types.{Oid, Edge, Side, Before, After, EdgeRecord, ObjectRecord}
+use Rattle.edge_lists.specs.Types.{Oid, Side, Before, After, EdgeRecord, ObjectRecord}
 use Rattle.edge_lists.specs.Edges.{owner_of, Precedes}
 use Rattle.edge_lists.specs.Records.{link_at}
-use Rattle.edge_lists.specs.Objects.{first_of, head_of, AreAscendingObjects, IsLive}
+use Rattle.edge_lists.specs.Objects.{first_of, head_of, AreAscendingObjects}
 use Rattle.edge_lists.specs.Chains.{StandsAt, AreChained}
-use Rattle.edge_lists.proofs.ObjectLaws.{head-past, head-here, head-none}
+use Rattle.edge_lists.proofs.ObjectLaws.{head-past, head-here}
 use Rattle.edge_lists.proofs.ChangeLaws.{linked-same}
 use Rattle.lore_lists.proofs.ListLaws.{AllPairs-tail, AllPairs-head}
 use Rattle.lore_lists.proofs.MemberLaws.{Contains-head, Contains-tail}

@@ -1,11 +1,11 @@
 -- The heads of objects' lists, where one of them is set.
-use Rattle.std.proofs.Common.{◌≡◌, ◌≢◌, ◌⊎◌, ℕ, zero, suc, ◌+◌, ◌<◌, ◌≤◌, Option, Some, None, cond, nat_eq, nat_cmp, true, false, eqb, Less, Equal, Greater, Err, List, [], ◌∷◌, length, get_or, set, map, Contains, AllPairs, refl, sym, ap, ◌∙◌, inl, inr, subst, arith}
+use Rattle.std.proofs.Common.{◌≡◌, ◌≢◌, ℕ, zero, suc, ◌<◌, ◌≤◌, Option, None, cond, nat_eq, nat_cmp, true, false, Less, Equal, Greater, Err, List, [], ◌∷◌, length, get_or, set, map, refl, sym, ap, ◌∙◌, inl, inr, arith}
 use Rattle.std.specs.List.Sorted.{IsBinarySearchResult, IsNonDecreasingBy}
 use Rattle.std.specs.Ordering.{ordering_index}
 use Rattle.std.proofs.lemmas.Bool.{cases_eq, cases_lt}
 use Rattle.std.proofs.lemmas.Bool.Decides.{nat_tests}
 use Rattle.std.proofs.lemmas.Cmp.{ranked}
-use Rattle.std.proofs.lemmas.List.{get_or_default, get_or-map, length-map, get_or-set_same, length-set, get_or_past}
+use Rattle.std.proofs.lemmas.List.{get_or-map, length-map, get_or-set_same, length-set}
 use Rattle.edge_lists.specs.Types.{Oid, Value, Side, Out, In, ObjectRecord}
 use Rattle.edge_lists.specs.Objects.{first_of, with_first, head_of, object_of, AreAscendingObjects, IsLive, IsHeaded}
 

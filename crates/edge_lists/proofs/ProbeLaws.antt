@@ -1,14 +1,14 @@
 -- Records further along a list are found without a walk.
-use Rattle.std.proofs.Common.{◌≡◌, ◌⊎◌, ℕ, zero, suc, ◌+◌, ◌<◌, ◌≤◌, Bool, true, false, Less, Equal, Err, Some, None, Option, List, [], ◌∷◌, length, get_or, count_by, is_some, Contains, refl, sym, ap, ◌∙◌, inl, inr, subst, arith}
+use Rattle.std.proofs.Common.{◌≡◌, ◌⊎◌, ℕ, ◌≤◌, false, Less, Equal, Err, Some, None, Option, List, [], ◌∷◌, get_or, is_some, Contains, refl, sym, ap, ◌∙◌, inl, inr, subst, arith}
 use Rattle.std.specs.List.Sorted.{IsBinarySearchResult, IsNonDecreasingBy}
 use Rattle.std.specs.Ordering.{ordering_index}
 use Rattle.std.proofs.lemmas.Bool.{cases_lt, true≢false}
 use Rattle.std.proofs.lemmas.Bool.Decides.{nat_tests}
-use Rattle.slab.specs.Slab.{Slab, get, slab_len}
+use Rattle.slab.specs.Slab.{Slab, slab_len}
 use Rattle.slab.proofs.SlabLemmas.{Contains-cons_cases}
 use Rattle.edge_lists.specs.Types.{Edge, Side, Out, EdgeRecord}
 use Rattle.edge_lists.specs.Edges.{side_cmp, Precedes, Ascend}
-use Rattle.edge_lists.specs.Records.{edge_in, LiesAt, HasEdge}
+use Rattle.edge_lists.specs.Records.{LiesAt, HasEdge}
 use Rattle.edge_lists.specs.Chains.{WaitAmong}
 use Rattle.edge_lists.specs.Probes.{IsLater, IsFurther}
 use Rattle.edge_lists.proofs.EdgeLaws.{side_total, side_order, cmp_self}

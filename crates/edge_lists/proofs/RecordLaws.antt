@@ -1,11 +1,11 @@
 -- Records in a slab where one link is set.
-use Rattle.std.proofs.Common.{◌≡◌, ◌≢◌, ◌⊎◌, ℕ, ◌+◌, ◌<◌, Option, Some, None, cond, is_some, IsSome, length, get_or, count_by, refl, sym, ap, ◌∙◌, inl, inr, subst, arith}
+use Rattle.std.proofs.Common.{◌≡◌, ◌≢◌, ℕ, Option, Some, None, cond, is_some, get_or, refl, sym, ap, ◌∙◌, inl, inr, arith}
 use Rattle.std.proofs.lemmas.Bool.{cases_eq}
 use Rattle.std.proofs.lemmas.List.Sums.{sum_by-set}
-use Rattle.slab.specs.Slab.{Slab, get, ContainsKey, with_value, slab_len, Updates}
+use Rattle.slab.specs.Slab.{Slab, get, with_value, slab_len, Updates}
 use Rattle.slab.proofs.SlabLemmas.{Updates-with_value, ContainsKey-within}
-use Rattle.edge_lists.specs.Types.{Edge, Side, Out, In, Way, Before, After, EdgeRecord}
-use Rattle.edge_lists.specs.Records.{link_of, with_link, link_in, link_at, edge_in, LiesAt, SameEdges, SameLinks, IsRelinked}
+use Rattle.edge_lists.specs.Types.{Side, Out, In, Way, Before, After, EdgeRecord}
+use Rattle.edge_lists.specs.Records.{link_of, with_link, link_in, edge_in, IsRelinked}
 
 set_same : (side : Side) (way : Way) (link : Option ℕ) (r : EdgeRecord) → link_of side way (with_link side way link r) ≡ link
 set_same Out Before link r = refl

@@ -1,20 +1,19 @@
 -- Walks that put a whole list behind others.
-use Rattle.std.proofs.Common.{◌≡◌, ◌≢◌, ◌⊎◌, ◌↔◌, ℕ, ◌+◌, ◌<◌, Less, Option, Some, None, List, [], ◌∷◌, ◌++◌, length, get_or, Contains, refl, sym, ap, ◌∙◌, inl, inr, subst, arith}
+use Rattle.std.proofs.Common.{◌≡◌, ℕ, ◌+◌, ◌<◌, Less, Option, Some, None, List, [], ◌∷◌, ◌++◌, get_or, Contains, sym, ap, ◌∙◌, inl, inr, subst, arith}
 use Rattle.std.proofs.lemmas.List.{append_assoc, append-nil}
 use Rattle.std.proofs.lemmas.List.Elements.{Contains-push, Contains-push_cases, Contains-append_left, Contains-get_or}
 use Rattle.std.proofs.lemmas.List.Quantifiers.{all_pairs_push}
-use Rattle.slab.specs.Slab.{Slab, get}
-use Rattle.edge_lists.specs.Types.{Oid, Edge, Side, Before, After, EdgeRecord, ObjectRecord}
+use Rattle.slab.specs.Slab.{Slab}
+use Rattle.edge_lists.specs.Types.{Oid, Edge, Side, After, EdgeRecord, ObjectRecord}
 use Rattle.near_links.specs.Links.{IsNearest}
-use Rattle.edge_lists.specs.Edges.{owner_of, side_cmp, Precedes, Ascend}
+use Rattle.edge_lists.specs.Edges.{owner_of, side_cmp, Precedes}
 use Rattle.edge_lists.specs.Records.{link_at, LiesAt, HasEdge}
-use Rattle.edge_lists.specs.Objects.{head_of}
 use Rattle.edge_lists.specs.Chains.{next_of, StandsAt, AreChained}
 use Rattle.edge_lists.specs.Runs.{ListsRun, IsOn, IsUpTo, ListsUpTo}
 use Rattle.near_links.proofs.NearLaws.{IsOrder}
 use Rattle.near_links.proofs.LinkLaws.{leads_on}
 use Rattle.edge_lists.proofs.EdgeLaws.{side_order}
-use Rattle.edge_lists.proofs.WalkLaws.{some_same, none_some, stands_once, behind, behind_place, fewer_behind}
+use Rattle.edge_lists.proofs.WalkLaws.{stands_once, behind, behind_place, fewer_behind}
 use Rattle.edge_lists.proofs.ChangeLaws.{none_waits}
 
 pub lists_none : (side : Side) (records : Slab EdgeRecord) (owner : Oid) (old : List Edge) → ListsUpTo side records owner None old old

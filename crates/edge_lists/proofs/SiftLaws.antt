@@ -1,12 +1,11 @@
 -- Edges that are sifted one after another.
-use Rattle.std.proofs.Common.{◌≡◌, ◌≢◌, ◌⊎◌, ◌↔◌, ℕ, ◌+◌, ◌<◌, Less, Option, Some, None, List, [], ◌∷◌, ◌++◌, length, get_or, take, drop, map, Contains, AllPairs, All, refl, sym, ap, ◌∙◌, inl, inr, subst, arith}
+use Rattle.std.proofs.Common.{◌≡◌, ℕ, ◌+◌, ◌<◌, Less, Option, Some, None, List, [], ◌∷◌, ◌++◌, length, get_or, take, drop, Contains, sym, ap, ◌∙◌, inl, inr, subst, arith}
 use Rattle.std.proofs.lemmas.List.{take_more, length-take, append-nil, take-append-drop, get_or_append_left, get_or_default}
-use Rattle.std.proofs.lemmas.List.Elements.{Contains-push, Contains-push_cases, Contains-append_left, Contains-get_or, All-push}
+use Rattle.std.proofs.lemmas.List.Elements.{Contains-push, Contains-push_cases, Contains-append_left, Contains-get_or}
 use Rattle.std.proofs.lemmas.List.Quantifiers.{all_pairs_push}
 use Rattle.slab.specs.Slab.{Slab}
 use Rattle.std.specs.Option.{IfSome, IfNone}
-use Rattle.edge_lists.proofs.WalkLaws.{some_same, none_some}
-use Rattle.edge_lists.specs.Types.{Edge, Out, In, EdgeRecord}
+use Rattle.edge_lists.specs.Types.{Edge, Out, EdgeRecord}
 use Rattle.edge_lists.specs.Edges.{side_cmp, Ascend}
 use Rattle.edge_lists.specs.Records.{LiesAt, HasEdge}
 use Rattle.edge_lists.specs.Sifts.{AreSifted, if_there, if_absent}

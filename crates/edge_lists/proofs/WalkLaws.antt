@@ -1,17 +1,17 @@
 -- Walks along a list: where they end, and that they come nearer to its end.
-use Rattle.std.proofs.Common.{◌≡◌, ◌≢◌, ◌⊎◌, ℕ, zero, suc, ◌+◌, ◌<◌, ◌≤◌, Bool, true, false, cond, Less, Equal, Greater, Option, Some, None, List, [], ◌∷◌, length, get_or, count_by, Contains, refl, sym, ap, ◌∙◌, inl, inr, subst, arith}
+use Rattle.std.proofs.Common.{◌≡◌, ◌⊎◌, ℕ, zero, suc, ◌+◌, ◌<◌, ◌≤◌, Bool, true, false, cond, Less, Equal, Greater, Option, Some, None, List, [], ◌∷◌, length, get_or, count_by, refl, sym, ap, ◌∙◌, inl, inr, subst, arith}
 use Rattle.std.specs.declared.cmp.Ordering.{Ordering}
-use Rattle.std.proofs.lemmas.Bool.{cases_eq, cases_lt, true≢false}
+use Rattle.std.proofs.lemmas.Bool.{cases_lt, true≢false}
 use Rattle.std.proofs.lemmas.List.{get_or_past}
 use Rattle.std.proofs.lemmas.List.Sums.{sum_by-cons, count_by-le-length}
 use Rattle.slab.specs.Slab.{Slab, get}
-use Rattle.edge_lists.specs.Types.{Oid, Edge, Side, Before, After, EdgeRecord, ObjectRecord}
+use Rattle.edge_lists.specs.Types.{Edge, Side, Before, After, EdgeRecord, ObjectRecord}
 use Rattle.near_links.specs.Links.{IsNearest, AreAtKeys, AreLinked}
 use Rattle.edge_lists.specs.Edges.{owner_of, side_cmp, Precedes}
 use Rattle.edge_lists.specs.Records.{link_at, edge_in, LiesAt}
 use Rattle.edge_lists.specs.Objects.{head_of}
 use Rattle.edge_lists.specs.Chains.{next_of, StandsAt, AreChained, IsStart, IsPlace}
-use Rattle.near_links.proofs.NearLaws.{IsOrder, IsFound, found}
+use Rattle.near_links.proofs.NearLaws.{IsOrder, found}
 use Rattle.near_links.proofs.LinkLaws.{leads_on}
 use Rattle.edge_lists.proofs.EdgeLaws.{side_total, cmp_self, side_order}
 

@@ -1,3 +1,4 @@
+pub mod Links
 pub mod Types
 pub mod Edges
 pub mod Objects

@@ -1,6 +1,10 @@
 -- Objects with the heads of their lists.
-use Rattle.std.specs.Prelude.{◌≡◌, ◌≢◌, ◌<◌, ℕ, Option, Some, None, List, [], ◌∷◌, map, cond, nat_eq, AllPairs, Contains}
+use Rattle.std.specs.Prelude.{◌≡◌, ◌≢◌, ◌<◌, ℕ, Option, None, List, [], ◌∷◌, map, cond, nat_eq, AllPairs, Contains}
 use Rattle.edge_lists.specs.Types.{Oid, Value, Side, Out, In, ObjectRecord}
+
+-- an object that has no edges
+abbrev pub bare : Oid → Value → ObjectRecord
+bare oid value = record { oid = oid; value = value; first_out = None; first_in = None }
 
 -- the head of one of an object's lists
 abbrev pub first_of : Side → ObjectRecord → Option ℕ

@@ -1,7 +1,7 @@
 -- Edge records in a slab: where each edge lies, and how the records are linked.
-use Rattle.std.specs.Prelude.{◌≡◌, ◌≢◌, ◌+◌, ℕ, Option, Some, None, List, Contains}
+use Rattle.std.specs.Prelude.{◌≡◌, ◌≢◌, ◌+◌, ℕ, Option, Some, None}
 use Rattle.slab.specs.Slab.{Slab, get, slab_len}
-use Rattle.edge_lists.specs.Types.{Oid, Edge, Side, Out, In, Way, Before, After, EdgeRecord}
+use Rattle.edge_lists.specs.Types.{Edge, Side, Out, In, Way, Before, After, EdgeRecord}
 
 -- one of the four links of a record
 abbrev pub link_of : Side → Way → EdgeRecord → Option ℕ

@@ -3,7 +3,7 @@ use Rattle.std.specs.Prelude.{◌≡◌, ◌⊎◌, ◌↔◌, ℕ, Option, Some
 use Rattle.slab.specs.Slab.{Slab}
 use Rattle.edge_lists.specs.Types.{Oid, Edge, Side, EdgeRecord}
 use Rattle.edge_lists.specs.Edges.{owner_of, Precedes, Ascend}
-use Rattle.edge_lists.specs.Records.{LiesAt, HasEdge}
+use Rattle.edge_lists.specs.Records.{HasEdge}
 use Rattle.edge_lists.specs.Chains.{StandsAt}
 
 -- behind the earlier items come the edges of the object's list, each once, in ascending order

@@ -1,5 +1,5 @@
 -- The edges of the records as one list.
-use Rattle.std.specs.Prelude.{Bool, ◌&&◌, nat_eq, Option, Some, None, List, filter}
+use Rattle.std.specs.Prelude.{Bool, ◌&&◌, nat_eq, List, filter}
 use Rattle.std.specs.List.{list_any}
 use Rattle.slab.specs.Slab.{Slab}
 use Rattle.lore_base.specs.Walks.{edge_cmp}

@@ -1,7 +1,8 @@
-ghost use Rattle.std.specs.Prelude.{◌≡◌, ◌≢◌, Some, IfSome};
+ghost use Rattle.std.specs.Prelude.{◌≡◌, ◌≢◌, ℕ, Some, IfSome};
 ghost use Rattle.slab.specs.Slab.{ContainsKey};
 ghost use Rattle.edge_lists.specs.Types.{Before, After};
 ghost use Rattle.edge_lists.specs.Edges.{owner_of};
+ghost use Rattle.edge_lists.specs.Links.{Fits};
 ghost use Rattle.edge_lists.specs.Records.{link_at, LiesAt};
 ghost use Rattle.edge_lists.specs.Objects.{AreAscendingObjects, IsLive};
 ghost use Rattle.edge_lists.specs.Chains.{next_of, IsLed, IsLedBack, IsJoined, IsParted};
@@ -48,6 +49,7 @@ fn lead(
     requires ascend { AreAscendingObjects objects.old }
     requires live { IsLive objects.old owner }
     requires place { IfSome place (ContainsKey records.old) }
+    requires fits { Fits link }
     ensures { IsLed side owner place link objects.old records.old objects.new records.new }
 {
     match place {
@@ -59,11 +61,19 @@ fn lead(
 // Sets what comes before the one that follows, where there is one.
 fn lead_back(records: &mut Slab<EdgeRecord>, side: Side, next: Option<usize>, link: Option<usize>)
     requires next { IfSome next (ContainsKey records.old) }
+    requires fits { Fits link }
     ensures { IsLedBack side next link records.old records.new }
 {
     if let Some(key) = next {
         relink(records, side, Way::Before, key, link);
     }
+}
+
+// How many records fit. Their keys are below that, so there are links to all of them.
+fn room(records: &Slab<EdgeRecord>) -> usize
+    ensures { (key : ℕ) → ContainsKey records.now key → Fits (Some key) }
+{
+    records.capacity()
 }
 
 // Puts the record at the key into its list, at the spot. Takes no memory.
@@ -85,6 +95,7 @@ pub(crate) fn join(
     requires new { spot.next ≢ Some key }
     ensures { IsJoined side key owner spot.place objects.old records.old objects.new records.new }
 {
+    let _room = room(records);
     relink(records, side, Way::Before, key, spot.place);
     relink(records, side, Way::After, key, spot.next);
     lead(objects, records, side, owner, spot.place, Some(key));
@@ -105,6 +116,7 @@ pub(crate) fn part(
     requires next { IfSome (link_at side After records.old key) (ContainsKey records.old) }
     ensures { IsParted side key owner objects.old records.old objects.new records.new }
 {
+    let _room = room(records);
     let place = link_at(records, side, Way::Before, key);
     let next = link_at(records, side, Way::After, key);
     lead(objects, records, side, owner, place, next);

@@ -8,7 +8,8 @@
 #![tactic(auto)]
 
 pub use commits::commit_edges;
-pub use lists::push_list;
+pub use links::Link;
+pub use lists::{push_list, push_records};
 pub use objects::{ObjectRecord, has_list, place_of};
 pub use records::EdgeRecord;
 pub use sides::{Side, Way};
@@ -17,6 +18,7 @@ pub use sifts::{Sifted, count_there, found_edges, sift};
 mod chains;
 mod changes;
 mod commits;
+mod links;
 mod lists;
 mod objects;
 mod probes;

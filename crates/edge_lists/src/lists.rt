@@ -34,3 +34,29 @@ pub fn push_list(
     }
     Ok(())
 }
+
+/// The same, and behind `keys` where the record of each edge lies.
+pub fn push_records(
+    objects: &[ObjectRecord],
+    records: &Slab<EdgeRecord>,
+    side: Side,
+    owner: Oid,
+    found: &mut EdgeBuf,
+    keys: &mut Vec<usize>,
+) -> Result<(), NoMemory>
+    requires ascend { AreAscendingObjects objects.now }
+    requires chained { AreChained side objects.now records.now [] }
+    ensures { OnOk result (ListsRun side records.now owner found.old found.new) }
+{
+    let mut next = head(objects, side, owner);
+    'records: while let Some(key) = next {
+        let Some(record) = records.get(key) else {
+            return Ok(());
+        };
+        keys.push(key)?;
+        found.push(record.edge)?;
+        let after = record.link(side, Way::After);
+        next = after;
+    }
+    Ok(())
+}

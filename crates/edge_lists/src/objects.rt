@@ -1,7 +1,9 @@
 ghost use Rattle.std.specs.Prelude.{◌≡◌, ◌<◌, length, slice_index_or, IfSome, IfNone, ℕ, true, is_some};
 ghost use Rattle.edge_lists.specs.Types.{ObjectRecord as TheObject};
-ghost use Rattle.edge_lists.specs.Objects.{first_of, with_first, head_of, AreAscendingObjects, IsLive, IsHeaded};
+ghost use Rattle.edge_lists.specs.Links.{Fits};
+ghost use Rattle.edge_lists.specs.Objects.{bare, first_of, with_first, head_of, AreAscendingObjects, IsLive, IsHeaded};
 
+use crate::links::Link;
 use crate::sides::Side;
 use lore_base::{Oid, Value};
 
@@ -10,21 +12,40 @@ use lore_base::{Oid, Value};
 pub struct ObjectRecord {
     pub oid: Oid,
     pub value: Value,
-    pub first_out: Option<usize>,
-    pub first_in: Option<usize>,
+    pub first_out: Link,
+    pub first_in: Link,
 }
 
 impl ObjectRecord {
+    /// An object that has no edges.
+    pub fn alone(oid: Oid, value: Value) -> ObjectRecord
+        ensures { result ≡ bare oid value }
+    {
+        ObjectRecord {
+            oid,
+            value,
+            first_out: Link::none(),
+            first_in: Link::none(),
+        }
+    }
+
     pub(crate) fn first(&self, side: Side) -> Option<usize>
         ensures { result ≡ first_of side self.now }
     {
         match side {
-            Side::Out => self.first_out,
-            Side::In => self.first_in,
+            Side::Out => self.first_out.key(),
+            Side::In => self.first_in.key(),
         }
     }
 
     pub(crate) fn set_first(&mut self, side: Side, link: Option<usize>)
+        requires { Fits link }
+        ensures { self.new ≡ with_first side link self.old }
+    {
+        self.put_first(side, Link::to(link));
+    }
+
+    fn put_first(&mut self, side: Side, link: Link)
         ensures { self.new ≡ with_first side link self.old }
     {
         match side {
@@ -98,6 +119,7 @@ fn first_at(objects: &[ObjectRecord], side: Side, place: usize) -> Option<usize>
 pub(crate) fn set_head(objects: &mut [ObjectRecord], side: Side, oid: Oid, link: Option<usize>)
     requires ascend { AreAscendingObjects objects.old }
     requires live { IsLive objects.old oid }
+    requires fits { Fits link }
     ensures { IsHeaded objects.old side oid link objects.new }
 {
     if let Some(place) = place_of(objects, oid) {

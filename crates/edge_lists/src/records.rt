@@ -1,21 +1,23 @@
 ghost use Rattle.std.specs.Prelude.{◌≡◌};
 ghost use Rattle.std.specs.Prelude.{IsSome};
 ghost use Rattle.slab.specs.Slab.{ContainsKey};
+ghost use Rattle.edge_lists.specs.Links.{Fits};
 ghost use Rattle.edge_lists.specs.Records.{link_of, with_link, link_at, IsRelinked, alone};
 
+use crate::links::Link;
 use crate::sides::{Side, Way};
 use lore_base::Edge;
 use slab::Slab;
 
 /// An edge, and its neighbours by key in the out list of its parent and in the in list of its
 /// child.
-#[derive(Clone, Copy, Debug)]
+#[derive(Debug, Drop)]
 pub struct EdgeRecord {
     pub edge: Edge,
-    pub out_before: Option<usize>,
-    pub out_after: Option<usize>,
-    pub in_before: Option<usize>,
-    pub in_after: Option<usize>,
+    pub out_before: Link,
+    pub out_after: Link,
+    pub in_before: Link,
+    pub in_after: Link,
 }
 
 impl EdgeRecord {
@@ -25,10 +27,10 @@ impl EdgeRecord {
     {
         EdgeRecord {
             edge,
-            out_before: None,
-            out_after: None,
-            in_before: None,
-            in_after: None,
+            out_before: Link::none(),
+            out_after: Link::none(),
+            in_before: Link::none(),
+            in_after: Link::none(),
         }
     }
 
@@ -36,14 +38,14 @@ impl EdgeRecord {
         ensures { result ≡ link_of side way self.now }
     {
         match (side, way) {
-            (Side::Out, Way::Before) => self.out_before,
-            (Side::Out, Way::After) => self.out_after,
-            (Side::In, Way::Before) => self.in_before,
-            (Side::In, Way::After) => self.in_after,
+            (Side::Out, Way::Before) => self.out_before.key(),
+            (Side::Out, Way::After) => self.out_after.key(),
+            (Side::In, Way::Before) => self.in_before.key(),
+            (Side::In, Way::After) => self.in_after.key(),
         }
     }
 
-    pub(crate) fn set_link(&mut self, side: Side, way: Way, link: Option<usize>)
+    pub(crate) fn set_link(&mut self, side: Side, way: Way, link: Link)
         ensures { self.new ≡ with_link side way link self.old }
     {
         match (side, way) {
@@ -71,8 +73,10 @@ pub(crate) fn relink(
     key: usize,
     link: Option<usize>,
 )
-    requires { ContainsKey records.old key }
+    requires key { ContainsKey records.old key }
+    requires fits { Fits link }
     ensures { IsRelinked records.old side way key link records.new }
 {
-    records[key].set_link(side, way, link);
+    let packed = Link::to(link);
+    records[key].set_link(side, way, packed);
 }

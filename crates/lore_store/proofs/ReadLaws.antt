@@ -171,13 +171,14 @@ module _ (before : OemGraph) (changes : Changes) (between lost fresh : List Edge
           | inr comes ↦ inr (come_near entered.0 ((differ.edges_come entered.0).0 comes))
         ])
 
-    changed_spent : (old now : ℕ) → ReadsChanged between delta.edges_gone delta.edges_come delta.objects_come old now
+    changed_spent : (old now : ℕ)
+        → ReadsChanged between delta.edges_gone delta.edges_come delta.objects_come before.objects after.objects old now
         → IsSpent (IsConcerned before changes between) (in_reads between) old now
     changed_spent old now reads =
         IsSpent-exact (IsConcerned before changes between) (in_reads between) reads.oids old now
         (ascend_apart reads.oids reads.exact.ascending)
         (All-from_members (IsConcerned before changes between) reads.oids
-        (λ oid at. changed_concerned oid ((reads.exact.exact oid).0 at))) reads.counted
+        (λ oid at. changed_concerned oid ((reads.exact.exact oid).0 at).0)) reads.counted
 
   -- no more edges leave a set afterwards than then
   set_cost : (set : List Oid) → reads_of after.edges set ≤ sum_by (out_reads between) set
@@ -210,7 +211,8 @@ module _ (before : OemGraph) (changes : Changes) (between lost fresh : List Edge
   pub prepared_within : (delta : Delta) → IsDelta before after delta → (t0 t1 t2 t3 : ℕ)
       → IsSpent (IsInDoubt before changes between) (λ oid. 2 * link_reads between oid) t0 t1
       → IsSpent (IsTouched before changes after) (reads_of after.edges) t1 t2
-      → ReadsChanged between delta.edges_gone delta.edges_come delta.objects_come t2 t3 → ReadsWithinWork before changes t0 t3
+      → ReadsChanged between delta.edges_gone delta.edges_come delta.objects_come before.objects after.objects t2 t3
+      → ReadsWithinWork before changes t0 t3
   prepared_within delta differ t0 t1 t2 t3 dead guide entries =
       within_work t0 t3 (work_prepared before changes between after t0 t1 t2 t3 dead (guide_spent t1 t2 guide)
       (changed_spent delta differ t2 t3 entries))

@@ -83,8 +83,8 @@ fn first_plan<L: Ledger>(
 }
 
 /// Which entries go and come where the graph becomes that of the plan. The overlay has the edges
-/// of before that don't go and those that it adds. Each object whose entries may change is read
-/// once, by the edges in it that enter the object.
+/// of before that don't go and those that it adds. Each object whose entries may change, and which has
+/// an atomic value before or then, is read once, by the edges in it that enter the object.
 pub(crate) fn planned_indexes<L: Ledger>(
     alloc: Global,
     links: &LinkIndex,
@@ -106,8 +106,10 @@ pub(crate) fn planned_indexes<L: Ledger>(
     ensures entries { let after = graph_then graph.now.graph plan.now in
         IfOk result (AreIndexed graph.now.graph after) }
     ensures reads { let delta = plan.now.delta in
+        let after = graph_then graph.now.graph plan.now in
         OnOk result (AreAscendingEdges overlay.now.edges → ReadsChanged overlay.now.edges
-        delta.edges_gone delta.edges_come delta.objects_come steps.old steps.new) }
+        delta.edges_gone delta.edges_come delta.objects_come graph.now.graph.objects after.objects
+        steps.old steps.new) }
 {
     let delta = plan.delta();
     let links_then = links.prepare(&delta.edges_gone, &delta.edges_come)?;

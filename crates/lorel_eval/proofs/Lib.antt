@@ -5,3 +5,5 @@ pub mod SideLaws
 pub mod ReachedLaws
 pub mod ReadyLaws
 pub mod TestLaws
+pub mod EarlyLaws
+pub mod KnownLaws

@@ -1,15 +1,20 @@
 -- Conditions that are made ready as plain data, by their forms.
 use Rattle.std.proofs.Common.{◌≡◌, List, sym, ap, ◌∙◌}
-use Rattle.lorel_bound.specs.Bound.{BoundPathTree}
-use Rattle.lorel_bound.specs.Conditions.{CondOf, exists, for_all, compare, same}
+use Rattle.lorel_bound.specs.Bound.{BoundPathTree, conds_from}
+use Rattle.lorel_bound.specs.Conditions.{CondOf, and, exists, for_all, compare, same}
 use Rattle.lorel_eval.specs.Types.{Op}
-use Rattle.lorel_eval.specs.inside.Ready.{ready_path, ready_operand, ready_tree, ready_step, ready_list_step}
+use Rattle.lorel_eval.specs.inside.Ready.{ready_path, ready_operand, ready_tree, ready_trees, ready_step, ready_list_step}
 use Rattle.lorel_eval.specs.declared.ready_conds.ReadyPath.{ReadyPath}
 use Rattle.lorel_eval.specs.declared.ready_conds.ReadyOperand.{ReadyOperand}
-use Rattle.lorel_eval.specs.declared.ready_conds.ReadyCond.{ReadyCond, Exists, ForAll, Compare, Same}
+use Rattle.lorel_eval.specs.declared.ready_conds.ReadyCond.{ReadyCond, And, Exists, ForAll, Compare, Same}
+use Rattle.lorel_eval.specs.declared.ready_conds.ReadyCondList.{ReadyCondList}
 use Rattle.lorel_eval.specs.declared.ready_conds.ReadyCond.TheOpen as layer
-use Rattle.lorel_eval.specs.declared.ready_conds.ReadyCond.TheVariants.{rolls-Exists, rolls-ForAll, rolls-Compare, rolls-Same}
+use Rattle.lorel_eval.specs.declared.ready_conds.ReadyCond.TheVariants.{rolls-And, rolls-Exists, rolls-ForAll, rolls-Compare, rolls-Same}
 use Rattle.lorel_eval.specs.declared.ready_conds.ReadyCond.TheFolds.{fold-roll-ReadyCond}
+
+pub and_ready : (cond : ReadyCond) (members : ReadyCondList) → cond ≡ And members → ready_tree cond ≡ and (conds_from (ready_trees members))
+and_ready cond members is =
+    ap ready_tree (is ∙ sym (rolls-And members)) ∙ fold-roll-ReadyCond (CondOf BoundPathTree) (List (CondOf BoundPathTree)) ready_step ready_list_step (layer.And members)
 
 pub exists_ready : (cond body : ReadyCond) (path : ReadyPath) (held : _) → cond ≡ Exists path held → body ≡ held.value
     → ready_tree cond ≡ exists (ready_path path) (ready_tree body)

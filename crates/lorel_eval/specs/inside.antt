@@ -2,3 +2,4 @@
 pub mod Subjects
 pub mod Ready
 pub mod Sides
+pub mod Early

@@ -7,10 +7,12 @@ ghost use Rattle.lorel_eval.specs.Types.{LEAVES};
 ghost use Rattle.lorel_eval.specs.Tests.{rest_leaves};
 
 use crate::conditions::cond_holds;
+use crate::early::fails_early;
 use crate::making_ready::ready_cond;
 use crate::ready_conds::ReadyCond;
 use crate::subject::Subject;
 use index_traits::{Adjacent, Row, RowTest, ValueOf};
+use lore_base::limits::RANGES;
 use lore_base::{NoMemory, Oid, Steps};
 use lorel_bound::BoundCond;
 use oem_labels::LabelTable;
@@ -139,5 +141,25 @@ impl<'a, A: Adjacent, G: ValueOf> RowTest for Test<'a, A, G> {
                 cond_holds(alloc, &subject, &around, &ready, steps)
             }
         }
+    }
+
+    // A test whose paths aren't made ready tells nothing early.
+    fn rules_out<L: Ledger>(
+        &self,
+        alloc: Global,
+        known: &[bool; RANGES],
+        row: &Row,
+        steps: &mut Steps<L>,
+    ) -> Result<bool, NoMemory> {
+        let Some(ready) = &self.ready else {
+            return Ok(false);
+        };
+        let subject = Subject {
+            graph: self.graph,
+            values: self.values,
+            labels: self.labels,
+            row,
+        };
+        fails_early(alloc, &subject, ready, known, steps)
     }
 }

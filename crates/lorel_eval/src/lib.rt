@@ -10,6 +10,8 @@ pub use bound_test::Test;
 mod bound_test;
 mod comparisons;
 mod conditions;
+mod early;
+mod known_starts;
 mod making_ready;
 mod meeting;
 mod ready_conds;

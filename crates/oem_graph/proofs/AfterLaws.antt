@@ -14,10 +14,10 @@ use Rattle.lore_base.specs.ChangeSets.{IsReachedThen, AreEdgesThen, FitsGraph, I
 use Rattle.lore_base.specs.ChangeSets.{AreDead}
 use Rattle.oem_graph.specs.Types.{Oid, Edge, Value, Complex, Changes}
 use Rattle.oem_graph.specs.Plans.{PlannedGraph, with_objects, put_edges, graph_then}
-use Rattle.oem_graph.specs.inside.EdgeTests.{AreFresh, AreLost}
-use Rattle.oem_graph.specs.inside.Layers.{layered, staying}
+use Rattle.edge_layers.specs.EdgeTests.{AreFresh, AreLost}
+use Rattle.edge_layers.specs.Layers.{layered, staying}
 use Rattle.oem_graph.specs.inside.Left.{AreOrdered, ListsGiven, is_among, not_dead, edges_left}
-use Rattle.oem_graph.proofs.LayerLaws.{same-edges, members-staying, ascend-staying, members-layered}
+use Rattle.edge_layers.proofs.LayerLaws.{same-edges, members-staying, ascend-staying, members-layered}
 use Rattle.oem_graph.proofs.LeftLaws.{members-not_dead, ascend-not_dead, members-edges_left}
 use Rattle.oem_graph.proofs.GivenLaws.{members-with_objects, ascend-with_objects}
 use Rattle.oem_graph.proofs.PutLaws.{members-put_edges, ascend-put_edges}

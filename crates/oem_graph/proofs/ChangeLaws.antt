@@ -13,11 +13,11 @@ use Rattle.edge_lists.proofs.ViewLaws as views
 use Rattle.edge_lists.proofs.ViewLaws.{edges_lie, edges_ascend}
 use Rattle.oem_graph.specs.Types.{Edge, EdgeRecord}
 use Rattle.oem_graph.specs.Plans.{put_edges, AreEdgeChanges}
-use Rattle.oem_graph.specs.inside.EdgeTests.{is_listed}
-use Rattle.oem_graph.specs.inside.Layers.{staying}
-use Rattle.oem_graph.proofs.LayerLaws.{same-edges, members-staying}
+use Rattle.edge_layers.specs.EdgeTests.{is_listed}
+use Rattle.edge_layers.specs.Layers.{staying}
+use Rattle.edge_layers.proofs.LayerLaws.{same-edges, members-staying}
 use Rattle.oem_graph.proofs.PutLaws.{members-put_edges, put-back_all, length-put_edges}
-use Rattle.oem_graph.proofs.SearchLaws.{listed, unlisted}
+use Rattle.edge_layers.proofs.SearchLaws.{listed, unlisted}
 
 module _ (records : Slab EdgeRecord) (gone : List Edge) where
   abbrev kept : List Edge

@@ -25,12 +25,13 @@ use Rattle.oem_graph.specs.Types.{Oid, Edge, Value}
 use Rattle.oem_graph.specs.Graphs.{RoomyGraph, IsIndexable, HasEnds}
 use Rattle.oem_graph.specs.Plans.{PlannedGraph, graph_then, with_objects, put_edges}
 use Rattle.oem_graph.specs.inside.Given.{ArePutIn}
-use Rattle.oem_graph.specs.inside.Layers.{staying}
+use Rattle.edge_layers.specs.Layers.{staying}
 use Rattle.oem_graph.specs.inside.Left.{is_among, not_dead}
-use Rattle.oem_graph.specs.inside.Linked.{AreLists, IsLinkedGraph}
+use Rattle.edge_layers.specs.Lists.{AreLists}
+use Rattle.oem_graph.specs.inside.Linked.{IsLinkedGraph}
 use Rattle.oem_graph.specs.inside.Planned.{IsPlan}
 use Rattle.oem_graph.proofs.GivenLaws.{drop-with_objects, members-with_objects}
-use Rattle.oem_graph.proofs.LayerLaws.{same-edges, members-staying}
+use Rattle.edge_layers.proofs.LayerLaws.{same-edges, members-staying}
 use Rattle.oem_graph.proofs.LeftLaws.{members-not_dead, ascend-not_dead, among-back}
 use Rattle.oem_graph.proofs.PutLaws.{members-put_edges, put-back_all}
 

@@ -1,14 +1,16 @@
 -- A binary search among ascending objects tells which stand there.
-use Rattle.std.proofs.Common.{◌≡◌, ℕ, ◌<◌, nat_cmp, Less, Equal, Greater, Err, List, length, get_or, Contains}
+use Rattle.std.proofs.Common.{◌≡◌, ℕ, ◌<◌, eqb, true, nat_cmp, Less, Equal, Greater, Err, List, length, get_or, Contains}
 use Rattle.std.proofs.Common.{sym, ap, ◌∙◌, inl, inr, arith}
 use Rattle.std.specs.List.Sorted.{IsBinarySearchResult, IsNonDecreasingBy}
 use Rattle.std.specs.Ordering.{ordering_index}
 use Rattle.std.proofs.lemmas.Bool.{cases_lt}
+use Rattle.std.proofs.lemmas.Bool.Decides.{nat_tests}
 use Rattle.std.proofs.lemmas.Cmp.{ranked}
 use Rattle.std.proofs.lemmas.List.{get_or_default}
 use Rattle.oem_graph.specs.Types.{Oid}
-use Rattle.oem_graph.specs.inside.Left.{AreAscendingOids}
+use Rattle.oem_graph.specs.inside.Left.{AreAscendingOids, is_among}
 use Rattle.oem_graph.proofs.ObjectLaws.{comparison_rises}
+use Rattle.oem_graph.proofs.LeftLaws.{among}
 
 pub found_oid : (oids : List Oid) (oid : Oid) (place : ℕ) (d : Oid) → place < length oids
     → nat_cmp (get_or oids place d).0 oid.0 ≡ Equal → Contains oids oid
@@ -32,3 +34,10 @@ no_oid oids ascend oid place gap at =
       | inl before ↦ let lower : (get_or oids k oid).0 < oid.0 = ranked _ _ Less (sym (parts.0 k oid (omega arith) before)) in omega (arith, same)
       | inr after ↦ let higher : oid.0 < (get_or oids k oid).0 = ranked _ _ Greater (sym (parts.1 k oid after at.1)) in omega (arith, same)
     ]
+
+-- an object that stands at a place is among these
+pub among_at : (oids : List Oid) (oid : Oid) (place : ℕ) (other : Oid) → place < length oids → other ≡ get_or oids place other
+    → eqb other.0 oid.0 ≡ true → is_among oids oid ≡ true
+among_at oids oid place other lt is tested =
+    let number : other.0 ≡ oid.0 = grind (arith, nat_tests) in
+    among oids oid (place, lt, get_or_default oids place oid other lt ∙ sym is ∙ ap (λ (n : ℕ). record { 0 = n }) number)

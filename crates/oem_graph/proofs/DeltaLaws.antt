@@ -21,11 +21,11 @@ use Rattle.lore_base.proofs.MemberLaws.{Contains-none, Contains-head, Contains-c
 use Rattle.lore_base.proofs.NameLaws.{sorted-insert_entry, bound_found, found_bound, lookup-insert_entry}
 use Rattle.oem_graph.specs.Types.{Oid, Edge, Value}
 use Rattle.oem_graph.specs.Plans.{with_objects, put_edges}
-use Rattle.oem_graph.specs.inside.EdgeTests.{is_listed}
-use Rattle.oem_graph.specs.inside.Layers.{staying}
-use Rattle.oem_graph.proofs.LayerLaws.{members-staying}
+use Rattle.edge_layers.specs.EdgeTests.{is_listed}
+use Rattle.edge_layers.specs.Layers.{staying}
+use Rattle.edge_layers.proofs.LayerLaws.{members-staying}
 use Rattle.oem_graph.proofs.PutLaws.{members-put_edges}
-use Rattle.oem_graph.proofs.SearchLaws.{listed, unlisted}
+use Rattle.edge_layers.proofs.SearchLaws.{listed, unlisted}
 use Rattle.oem_graph.specs.inside.Left.{AreAscendingOids, is_among, not_dead}
 use Rattle.index_traits.proofs.ObjectLaws.{one_value_of, told_live}
 use Rattle.list_laws.proofs.MemberLaws.{Contains-map, Contains-from_map}

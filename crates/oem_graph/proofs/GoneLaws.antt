@@ -13,9 +13,9 @@ use Rattle.edge_lists.specs.Runs.{ListsRun}
 use Rattle.edge_lists.specs.Views.{edges_of}
 use Rattle.edge_lists.proofs.ViewLaws.{edges_lie}
 use Rattle.oem_graph.specs.Types.{Oid, Edge, Out, EdgeRecord}
-use Rattle.oem_graph.specs.inside.EdgeTests.{edge_eq}
+use Rattle.edge_layers.specs.EdgeTests.{edge_eq}
 use Rattle.oem_graph.specs.inside.Left.{AreAscendingOids, AreLeaving, AreGone}
-use Rattle.oem_graph.proofs.EdgeLaws.{edge_same}
+use Rattle.edge_layers.proofs.EdgeLaws.{edge_same}
 
 -- where nothing is dead the lost edges go
 pub gone-none : (records : Slab EdgeRecord) (lost : List Edge) (dead : List Oid) → dead ≡ [] → AreAscendingEdges lost → AreGone records lost dead lost

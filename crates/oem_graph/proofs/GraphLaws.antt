@@ -8,9 +8,10 @@ use Rattle.std.specs.List.Sorted.{IsStrictlySortedBy}
 use Rattle.lore_base.specs.Databases.{OemGraph, IsWellFormed, new_graph}
 use Rattle.oem_graph.specs.Graphs.{IsIndexable, HasEnds}
 use Rattle.oem_graph.specs.Types.{Oid, Complex, EdgeRecord, ObjectRecord}
-use Rattle.oem_graph.specs.inside.Linked.{AreLists, IsLinkedGraph}
+use Rattle.edge_layers.specs.Lists.{AreLists}
+use Rattle.oem_graph.specs.inside.Linked.{IsLinkedGraph}
 use Rattle.oem_graph.proofs.ObjectLaws.{length-objects}
-use Rattle.oem_graph.proofs.ViewLaws.{count-edges, empty-lists}
+use Rattle.edge_layers.proofs.ViewLaws.{count-edges, empty-lists}
 
 pub indexable-new : IsIndexable new_graph
 unfolding IsStrictlySortedBy

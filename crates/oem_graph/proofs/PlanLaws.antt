@@ -18,19 +18,19 @@ use Rattle.edge_lists.proofs.ViewLaws.{edges_lie, edges_ascend}
 use Rattle.oem_graph.specs.Types.{Oid, Edge, Value, Changes, EdgeRecord, ObjectRecord}
 use Rattle.oem_graph.specs.Graphs.{IsIndexable, graph_from}
 use Rattle.oem_graph.specs.Plans.{PlannedGraph, with_objects, put_edges, graph_then}
-use Rattle.oem_graph.specs.inside.Layers.{layered, staying}
+use Rattle.edge_layers.specs.Layers.{layered, staying}
 use Rattle.oem_graph.specs.inside.Left.{AreAscendingOids, is_among, not_dead, ListsGiven}
-use Rattle.oem_graph.specs.inside.Linked.{AreLists}
+use Rattle.edge_layers.specs.Lists.{AreLists}
 use Rattle.oem_graph.specs.inside.Planned.{IsPlan, IsRead, ArePlannedEdges}
 use Rattle.oem_graph.specs.inside.Differing.{AreOnlyIn, AreDiffering, AreGoneObjects}
 use Rattle.oem_graph.proofs.DeltaLaws.{same-objects, objects-gone, objects-come, edges-gone, edges-come}
 use Rattle.oem_graph.proofs.AfterLaws.{given-ascends, given-lives, graph-after, edges-after}
-use Rattle.oem_graph.proofs.FoundLaws.{found-lost, found-fresh}
+use Rattle.edge_layers.proofs.FoundLaws.{found-lost, found-fresh}
 use Rattle.oem_graph.proofs.GivenLaws.{ascend-with_objects, members-with_objects}
 use Rattle.oem_graph.proofs.GoneLaws.{going}
-use Rattle.oem_graph.proofs.LayerLaws.{same-edges}
+use Rattle.edge_layers.proofs.LayerLaws.{same-edges}
 use Rattle.oem_graph.proofs.LeftLaws.{members-edges_left}
-use Rattle.oem_graph.proofs.OverlayLaws.{edges-layered}
+use Rattle.edge_layers.proofs.OverlayLaws.{edges-layered}
 use Rattle.oem_graph.proofs.PutLaws.{members-put_edges, ascend-put_edges}
 
 -- ---- a plan that brings all of a graph
@@ -40,7 +40,7 @@ no-objects i j d lt len = absurd (omega (arith, len))
 no-edges : AreAscendingEdges []
 no-edges i j d lt len = absurd (omega (arith, len))
 
-all-given : (made : List (Oid × Value)) → AreAscendingObjects made → with_objects [] made ≡ made
+pub all-given : (made : List (Oid × Value)) → AreAscendingObjects made → with_objects [] made ≡ made
 all-given made ascend =
     AllPairs-unique (λ (a b : Oid × Value). a.0.0 < b.0.0) (λ a b less more. omega (arith, less, more))
     (with_objects [] made) made (ascend-with_objects [] made no-objects) ascend

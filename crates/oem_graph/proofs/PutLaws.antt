@@ -9,10 +9,10 @@ use Rattle.lore_base.proofs.ListLaws.{AllPairs-tail, AllPairs-head}
 use Rattle.lore_base.proofs.MemberLaws.{Contains-none, Contains-head, Contains-tail, Contains-cases, Contains-same}
 use Rattle.oem_graph.specs.Types.{Edge}
 use Rattle.oem_graph.specs.Plans.{put_edge, put_edges}
-use Rattle.oem_graph.proofs.EdgeLaws.{edge_cmp_total, equal_edges, ascend-one}
-use Rattle.oem_graph.proofs.SearchLaws.{cmp_self}
-use Rattle.oem_graph.proofs.LayerLaws.{ascend-cons, same-edges, members-layered, ascend-layered, members-staying}
-use Rattle.oem_graph.specs.inside.Layers.{staying, layered}
+use Rattle.edge_layers.proofs.EdgeLaws.{edge_cmp_total, equal_edges, ascend-one}
+use Rattle.edge_layers.proofs.SearchLaws.{cmp_self}
+use Rattle.edge_layers.proofs.LayerLaws.{ascend-cons, same-edges, members-layered, ascend-layered, members-staying}
+use Rattle.edge_layers.specs.Layers.{staying, layered}
 
 lt_less : (o : Ordering) → is_lt o ≡ true → o ≡ Less
 lt_less Less h = refl

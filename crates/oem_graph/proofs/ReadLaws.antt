@@ -17,11 +17,11 @@ use Rattle.edge_lists.proofs.ViewLaws.{edges_lie, edges_ascend}
 use Rattle.oem_graph.specs.Types.{Oid, Label, Edge, Value, Complex, Out, In, EdgeRecord, ObjectRecord}
 use Rattle.oem_graph.specs.Plans.{with_objects}
 use Rattle.oem_graph.specs.inside.Left.{not_dead}
-use Rattle.oem_graph.specs.inside.Turned.{turn, has_label}
+use Rattle.edge_layers.specs.Turned.{turn, has_label}
 use Rattle.oem_graph.proofs.GivenLaws.{members-with_objects}
-use Rattle.oem_graph.proofs.LayerLaws.{same-edges}
+use Rattle.edge_layers.proofs.LayerLaws.{same-edges}
 use Rattle.oem_graph.proofs.LeftLaws.{members-not_dead, ascend-not_dead}
-use Rattle.oem_graph.proofs.TurnLaws.{in_run}
+use Rattle.edge_layers.proofs.TurnLaws.{in_run}
 
 -- an object's list is the run of its edges
 pub list-is : (records : Slab EdgeRecord) (oid : Oid) (old new : List Edge) → ListsRun Out records oid old new → new ≡ old ++ out_of oid (edges_of records)
@@ -31,14 +31,6 @@ list-is records oid old new run = run.is ∙ ap (λ (l : List Edge). old ++ l) (
       λ at. (let both = (run.exact edge).0 at in (in_run oid (edges_of records) edge).1 ((edges_lie records edge).1 both.0, both.1)),
       λ at. (let both = (in_run oid (edges_of records) edge).0 at in (run.exact edge).1 ((edges_lie records edge).0 both.0, both.1)),
     )))
-
--- ---- an edge that was turned is put behind others
-pub pushed-none : (given : Option Label) (edge : Edge) (buf : List Edge) → has_label given edge ≡ false → buf ≡ buf ++ map (turn In) (filter (has_label given) (edge ∷ []))
-pushed-none given edge buf test = sym (append-nil buf) ∙ ap (λ (b : Bool). buf ++ map (turn In) (cond b (edge ∷ []) [])) (sym test)
-
-pub pushed-one : (given : Option Label) (edge : Edge) (buf : List Edge) → has_label given edge ≡ true
-    → buf ++ turn In edge ∷ [] ≡ buf ++ map (turn In) (filter (has_label given) (edge ∷ []))
-pushed-one given edge buf test = ap (λ (b : Bool). buf ++ map (turn In) (cond b (edge ∷ []) [])) (sym test)
 
 -- ---- values
 -- some record of an object

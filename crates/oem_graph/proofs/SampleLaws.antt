@@ -9,10 +9,10 @@ use Rattle.edge_lists.specs.Commits.{ArePlaces}
 use Rattle.oem_graph.specs.Types.{Oid, Value, Complex, Edge}
 use Rattle.oem_graph.specs.Graphs.{IsIndexable, HasEnds}
 use Rattle.oem_graph.specs.Plans.{PlannedGraph, graph_then, with_objects, put_edges}
-use Rattle.oem_graph.specs.inside.Layers.{staying}
+use Rattle.edge_layers.specs.Layers.{staying}
 use Rattle.oem_graph.specs.inside.Left.{AreAscendingOids, not_dead}
 use Rattle.oem_graph.specs.inside.Planned.{IsPlan}
-use Rattle.oem_graph.proofs.EdgeLaws.{ascend-one}
+use Rattle.edge_layers.proofs.EdgeLaws.{ascend-one}
 use Rattle.oem_graph.specs.inside.Samples.{numbered, sample, sample_objects, edges_before, edges_after}
 
 all-cons : {X : Type 0} (P : X → Type 0) (x : X) (xs : List X) → P x → All P xs → All P (x ∷ xs)

@@ -2,4 +2,3 @@ pub mod Types
 pub mod inside
 pub mod Graphs
 pub mod Plans
-pub mod Overlays

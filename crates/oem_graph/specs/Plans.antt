@@ -7,7 +7,7 @@ use Rattle.lore_base.specs.Databases.{OemGraph, AreAscendingEdges}
 use Rattle.lore_base.specs.Deltas.{IsOnlyIn}
 use Rattle.oem_graph.specs.Graphs.{RoomyGraph}
 use Rattle.oem_graph.specs.inside.Left.{not_dead}
-use Rattle.oem_graph.specs.inside.Layers.{staying}
+use Rattle.edge_layers.specs.Layers.{staying}
 
 -- Objects.
 

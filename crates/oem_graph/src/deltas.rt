@@ -53,6 +53,9 @@ pub(crate) fn differing(
     requires { AreAscendingObjects objects.now }
     ensures { IfOk result (AreDiffering (map object_of objects.now) given) }
 {
+    if objects.is_empty() {
+        return Ok(given);
+    }
     let mut come = ObjectList::new(alloc);
     'given: for object in given.into_items() {
         push_new(objects, &mut come, object)?;
@@ -136,6 +139,9 @@ pub(crate) fn values_gone(
     requires { AreAscendingObjects objects.now }
     ensures { IfOk result (AreGoneObjects (map object_of objects.now) dead.now come.now) }
 {
+    if objects.is_empty() {
+        return Ok(ObjectList::new(alloc));
+    }
     let room = dead.len().saturating_add(come.len());
     let mut oids = OidBuf::with_capacity(alloc, room)?;
     oids.append(dead)?;

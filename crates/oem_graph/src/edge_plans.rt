@@ -5,17 +5,16 @@ ghost use Rattle.oem_graph.specs.Types.{Out};
 ghost use Rattle.oem_graph.specs.inside.Left.{AreAscendingOids};
 ghost use Rattle.oem_graph.specs.inside.Planned.{ArePlannedEdges};
 
-use crate::edge_changes::copied_edges;
-use crate::edge_sets::sifted_set;
-use crate::edges_then::{edges_gone, likely_keys, with_living_parents};
-use crate::places::places_by_child;
-use edge_lists::{EdgeRecord, ObjectRecord, Sifted};
+use crate::edges_then::{Going, edges_gone, with_living_parents};
+use edge_layers::{RunStarts, join_order, sifted_set};
+use edge_lists::{EdgeRecord, ObjectRecord};
 use lore_base::{Changes, EdgeBuf, NoMemory, Oid};
 use slab::Slab;
 use std::alloc::Global;
 
 // The edges that go, where their records may lie, and the edges that come, with their places in the
-// order of child, label and parent and room for the keys of their records.
+// order in which they are put into in lists, room for the keys of their records, and where those of
+// each object begin.
 #[derive(Drop)]
 pub(crate) struct EdgePlan {
     pub(crate) gone: EdgeBuf,
@@ -23,6 +22,7 @@ pub(crate) struct EdgePlan {
     pub(crate) likely: Vec<usize>,
     pub(crate) by_child: Vec<usize>,
     pub(crate) keys: Vec<usize>,
+    pub(crate) starts: RunStarts,
 }
 
 // Works out which edges go and which come with changes that leave these objects dead.
@@ -40,23 +40,22 @@ pub(crate) fn planned_edges(
         plan.by_child.items plan.keys.items (vec_capacity plan.keys)) }
 {
     let removed = sifted_set(alloc, objects, records, changes.removed.as_slice())?;
-    let Sifted {
-        there: lost,
-        keys,
-        ..
-    } = removed;
     let added = sifted_set(alloc, objects, records, changes.added.as_slice())?;
+    let lost = Going {
+        edges: removed.there,
+        likely: removed.keys,
+    };
+    let gone = edges_gone(alloc, objects, records, lost, dead)?;
     let come = with_living_parents(alloc, added.absent, dead)?;
-    let lost_too = copied_edges(alloc, lost.as_slice())?;
-    let gone = edges_gone(alloc, objects, records, lost_too, dead)?;
-    let likely = likely_keys(alloc, lost.as_slice(), keys.as_slice(), gone.as_slice())?;
-    let by_child = places_by_child(alloc, come.as_slice())?;
+    let by_child = join_order(alloc, come.as_slice(), records.is_empty())?;
     let keys = Vec::with_capacity(alloc, come.len())?;
+    let starts = RunStarts::of(alloc, come.as_slice())?;
     Ok(EdgePlan {
-        gone,
+        gone: gone.edges,
         come,
-        likely,
+        likely: gone.likely,
         by_child,
         keys,
+        starts,
     })
 }

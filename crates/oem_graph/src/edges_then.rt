@@ -6,7 +6,7 @@ ghost use Rattle.edge_lists.specs.Chains.{AreChained};
 ghost use Rattle.oem_graph.specs.inside.Left.{AreAscendingOids, edges_left, AreGone, AreLeaving};
 
 use crate::dead_oids::is_dead;
-use edge_lists::{EdgeRecord, ObjectRecord, Side, push_list};
+use edge_lists::{EdgeRecord, ObjectRecord, Side, push_records};
 use lore_base::{Edge, EdgeBuf, NoMemory, Oid};
 use slab::Slab;
 use std::alloc::Global;
@@ -33,26 +33,44 @@ pub(crate) fn with_living_parents(
     Ok(left)
 }
 
+/// Edges in ascending order, and beside each of them the key at which its record may lie.
+#[derive(Drop)]
+pub(crate) struct Going {
+    pub(crate) edges: EdgeBuf,
+    pub(crate) likely: Vec<usize>,
+}
+
+impl Going {
+    // The key beside the edge at this place.
+    fn key(&self, place: usize) -> usize {
+        self.likely.get(place).copied().unwrap_or(usize::MAX)
+    }
+}
+
 // The edges that go: those that are lost, and those that leave dead objects, in ascending order.
 pub(crate) fn edges_gone(
     alloc: Global,
     objects: &[ObjectRecord],
     records: &Slab<EdgeRecord>,
-    lost: EdgeBuf,
+    lost: Going,
     dead: &[Oid],
-) -> Result<EdgeBuf, NoMemory>
+) -> Result<Going, NoMemory>
     requires ascend { AreAscendingObjects objects.now }
     requires chained { AreChained Out objects.now records.now [] }
-    requires lost { AreAscendingEdges lost }
+    requires lost { AreAscendingEdges lost.edges }
     requires dead { AreAscendingOids dead.now }
-    ensures { IfOk result (AreGone records.now lost dead.now) }
+    ensures { IfOk result (λ gone. AreGone records.now lost.edges dead.now gone.edges) }
 {
     if dead.is_empty() {
         return Ok(lost);
     }
     let leaving = leaving_edges(alloc, objects, records, dead)?;
-    let gone = joined(alloc, lost.as_slice(), leaving.as_slice())?;
-    Ok(gone)
+    if lost.edges.is_empty() {
+        return Ok(leaving);
+    }
+    let edges = joined(alloc, lost.edges.as_slice(), leaving.edges.as_slice())?;
+    let likely = likely_keys(alloc, &lost, &leaving, edges.as_slice())?;
+    Ok(Going { edges, likely })
 }
 
 // The edges that leave these objects, in ascending order.
@@ -61,36 +79,41 @@ fn leaving_edges(
     objects: &[ObjectRecord],
     records: &Slab<EdgeRecord>,
     oids: &[Oid],
-) -> Result<EdgeBuf, NoMemory>
+) -> Result<Going, NoMemory>
     requires ascend { AreAscendingObjects objects.now }
     requires chained { AreChained Out objects.now records.now [] }
     requires oids { AreAscendingOids oids.now }
-    ensures { IfOk result (AreLeaving records.now oids.now) }
+    ensures { IfOk result (λ leaving. AreLeaving records.now oids.now leaving.edges) }
 {
-    let mut leaving = EdgeBuf::new(alloc);
+    let mut edges = EdgeBuf::new(alloc);
+    let mut likely = Vec::new(alloc);
     'oids: for oid in oids {
-        push_list(objects, records, Side::Out, *oid, &mut leaving)?;
+        push_records(objects, records, Side::Out, *oid, &mut edges, &mut likely)?;
     }
-    Ok(leaving)
+    Ok(Going { edges, likely })
 }
 
-// The keys of the edges that go: of those that are lost they were found, and the others are looked
-// for where they are taken out.
-pub(crate) fn likely_keys(
+// The keys of the edges that go, which are those of both.
+fn likely_keys(
     alloc: Global,
-    lost: &[Edge],
-    keys: &[usize],
+    lost: &Going,
+    leaving: &Going,
     gone: &[Edge],
 ) -> Result<Vec<usize>, NoMemory> {
     let mut likely = Vec::with_capacity(alloc, gone.len())?;
-    let mut place = 0;
+    let mut first: usize = 0;
+    let mut second: usize = 0;
     'gone: for edge in gone {
-        if lost.get(place) == Some(edge) {
-            likely.push(keys.get(place).copied().unwrap_or(usize::MAX))?;
-            place += 1;
-        } else {
-            likely.push(usize::MAX)?;
+        let mut key = usize::MAX;
+        if lost.edges.get(first) == Some(edge) {
+            key = lost.key(first);
+            first = first.saturating_add(1);
         }
+        if leaving.edges.get(second) == Some(edge) {
+            key = leaving.key(second);
+            second = second.saturating_add(1);
+        }
+        likely.push(key)?;
     }
     Ok(likely)
 }

@@ -1,5 +1,6 @@
 ghost use Rattle.std.specs.Prelude.{◌≡◌, length};
 
+use edge_layers::RunStarts;
 use lore_base::{Delta, Names, OidBuf};
 use std::marker::Model;
 
@@ -14,10 +15,12 @@ pub struct GraphPlan {
     pub(crate) next: u64,
     // Where the records of the edges that go may lie.
     pub(crate) likely: Vec<usize>,
-    // The places of the edges that come in the order of child, label and parent, and room for the
-    // keys of their records.
+    // The places of the edges that come in the order in which they are put into in lists, and room
+    // for the keys of their records.
     pub(crate) by_child: Vec<usize>,
     pub(crate) keys: Vec<usize>,
+    // Where those of each object begin among the edges that come.
+    pub(crate) starts: RunStarts,
 }
 
 impl Model for GraphPlan {

@@ -1,6 +1,6 @@
 use crate::dead_oids::is_dead;
-use crate::layers::push_leaving;
 use crate::object_lists::{value_in, value_of};
+use edge_layers::{RunStarts, push_leaving};
 use edge_lists::{EdgeRecord, ObjectRecord};
 use index_traits::{Adjacent, ValueOf};
 use lore_base::{Edge, EdgeBuf, NoMemory, Oid, Steps, Value};
@@ -18,13 +18,14 @@ pub struct GraphThen<'a> {
     pub(crate) given: &'a [(Oid, Value)],
     pub(crate) gone: &'a [Edge],
     pub(crate) come: &'a [Edge],
+    pub(crate) starts: &'a RunStarts,
 }
 
 impl<'a> Model for GraphThen<'a> {
     ghost use Rattle.edge_lists.specs.Objects.{object_of};
     ghost use Rattle.edge_lists.specs.Views.{edges_of};
     ghost use Rattle.oem_graph.specs.Plans.{GraphLists, with_objects, put_edges};
-    ghost use Rattle.oem_graph.specs.inside.Layers.{staying};
+    ghost use Rattle.edge_layers.specs.Layers.{staying};
     ghost use Rattle.oem_graph.specs.inside.Left.{not_dead};
     ghost use Rattle.oem_graph.specs.inside.Planned.{IsRead};
     ghost use Rattle.std.specs.Prelude.{map};
@@ -49,7 +50,9 @@ impl<'a> Adjacent for GraphThen<'a> {
         steps: &mut Steps<L>,
     ) -> Result<(), NoMemory> {
         let before = buf.len();
-        push_leaving(self.objects, self.records, self.gone, self.come, oid, buf)?;
+        let new = self.starts.run_in(self.come, oid);
+        let (gone, come) = (self.gone, self.come);
+        push_leaving(self.objects, self.records, gone, come, new, oid, buf)?;
         steps.tick(1 + (buf.as_slice().len() - before) as u64);
         Ok(())
     }

@@ -7,26 +7,18 @@
 //! and by the lists concerned.
 #![tactic(auto)]
 
-pub use edge_changes::EdgeChanges;
-pub use edge_overlay::Overlay;
+pub use edge_layers::{EdgeChanges, Overlay};
 pub use graph_plan::GraphPlan;
 pub use graph_then::GraphThen;
 pub use linked_graph::Graph;
 
 mod dead_oids;
 mod deltas;
-mod edge_changes;
-mod edge_overlay;
 mod edge_plans;
-mod edge_runs;
-mod edge_sets;
 mod edges_then;
 mod graph_plan;
 mod graph_then;
-mod layers;
 mod linked_graph;
 mod object_changes;
 mod object_lists;
 mod objects_then;
-mod places;
-mod turned;

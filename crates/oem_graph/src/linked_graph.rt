@@ -12,16 +12,13 @@ ghost use Rattle.oem_graph.specs.Graphs.{IsIndexable, graph_from};
 ghost use Rattle.oem_graph.specs.Plans.{graph_then, HasRoom, AreEdgeChanges};
 
 use crate::deltas::{differing, names_only_in, values_gone};
-use crate::edge_changes::{EdgeChanges, copied_edges};
-use crate::edge_overlay::Overlay;
 use crate::edge_plans::planned_edges;
-use crate::edge_sets::{sifted_set, turned_set};
 use crate::graph_plan::GraphPlan;
 use crate::graph_then::GraphThen;
 use crate::object_changes::{count_objects, drop_objects, put_objects};
 use crate::object_lists::value_of;
 use crate::objects_then::objects_given;
-use crate::places::places_by_child;
+use edge_layers::{EdgeChanges, Overlay, RunStarts, copied_edges, join_order, sifted_set};
 use edge_lists::{
     EdgeRecord, ObjectRecord, Side, commit_edges, count_there, found_edges, has_list, push_list,
 };
@@ -173,16 +170,8 @@ impl Graph {
         let removed = sifted_set(alloc, objects, records, changes.removed.as_slice())?;
         let added = sifted_set(alloc, objects, records, changes.added.as_slice())?;
         let (lost, fresh) = (removed.there, added.absent);
-        let lost_in = turned_set(alloc, lost.as_slice())?;
-        let fresh_in = turned_set(alloc, fresh.as_slice())?;
-        Ok(Overlay {
-            objects,
-            records,
-            lost,
-            fresh,
-            lost_in,
-            fresh_in,
-        })
+        let overlay = Overlay::new(alloc, objects, records, lost, fresh)?;
+        Ok(overlay)
     }
 
     /// Works out what becomes of the graph with these changes, where `dead` lists the objects that
@@ -223,6 +212,7 @@ impl Graph {
             likely: edges.likely,
             by_child: edges.by_child,
             keys: edges.keys,
+            starts: edges.starts,
         })
     }
 
@@ -284,6 +274,7 @@ impl Graph {
             given: plan.delta.objects_come.as_slice(),
             gone: plan.delta.edges_gone.as_slice(),
             come: plan.delta.edges_come.as_slice(),
+            starts: &plan.starts,
         }
     }
 
@@ -313,6 +304,7 @@ impl Graph {
             likely,
             by_child,
             mut keys,
+            ..
         } = plan;
         let Delta {
             objects_come,
@@ -368,7 +360,7 @@ fn whole_plan(alloc: Global, changes: &Changes, next: u64) -> Result<GraphPlan, 
     ensures plan { IfOk result (λ plan. graph_then new_graph plan ≡ graph_from changes.now next) }
 {
     let come = copied_edges(alloc, changes.added.as_slice())?;
-    let by_child = places_by_child(alloc, come.as_slice())?;
+    let by_child = join_order(alloc, come.as_slice(), true)?;
     let keys = Vec::with_capacity(alloc, come.len())?;
     let names = changes.named.try_copy(alloc)?;
     let given = changes.made.try_copy(alloc)?;
@@ -387,6 +379,7 @@ fn whole_plan(alloc: Global, changes: &Changes, next: u64) -> Result<GraphPlan, 
         likely: Vec::new(alloc),
         by_child,
         keys,
+        starts: RunStarts::none(alloc),
     })
 }
 

@@ -36,12 +36,7 @@ fn put_object(objects: &mut Vec<ObjectRecord>, oid: Oid, value: Value)
         set_value(objects.as_mut_slice(), oid, value);
         return;
     };
-    let object = ObjectRecord {
-        oid,
-        value,
-        first_out: None,
-        first_in: None,
-    };
+    let object = ObjectRecord::alone(oid, value);
     let Ok(()) = objects.insert(place, object) else {
         unreachable!();
     };
@@ -103,6 +98,9 @@ pub(crate) fn count_objects(objects: &[ObjectRecord], dead: &[Oid], given: &[(Oi
     requires given { Objects.AreAscendingObjects given.now }
     ensures { result ≡ length (with_objects (not_dead dead.now (map object_of objects.now)) given.now) }
 {
+    if objects.is_empty() {
+        return given.len();
+    }
     let left = count_left(objects, dead);
     let mut count = left;
     'given: for object in given {

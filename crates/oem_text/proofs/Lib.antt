@@ -1,5 +1,6 @@
 pub mod LinkLaws
 pub mod PlaceLaws
+pub mod MarkLaws
 pub mod BoundLaws
 pub mod NumberLaws
 pub mod LayoutLaws

@@ -1,6 +1,6 @@
 -- The edges of a literal as they are placed one after another, and its objects as they are read.
-use Rattle.std.proofs.Common.{Option, ◌≡◌, ℕ, ◌+◌, ◌-◌, ◌<◌, List, [], ◌∷◌, ◌++◌, length, map, take, drop, get_or, slice_set, All, Contains, sym, ap, subst, ◌∙◌, arith, length-drop, add-zero}
-use Rattle.std.proofs.lemmas.List.{map_push, map_more, take-map, take_more_set, drop-set-lt, drop-drop, get_or-drop, get_or-map, length-map, length-take-le}
+use Rattle.std.proofs.Common.{Option, ◌≡◌, ℕ, ◌+◌, ◌-◌, ◌<◌, ◌≤◌, List, [], ◌∷◌, ◌++◌, length, map, take, drop, get_or, slice_set, All, Contains, sym, ap, subst, ◌∙◌, arith, length-drop, add-zero}
+use Rattle.std.proofs.lemmas.List.{map_push, map_more, take-map, take_all, take_more_set, drop-set-lt, drop-drop, get_or-drop, get_or-map, length-map, length-take-le}
 use Rattle.std.proofs.lemmas.List.Elements.{All-push, Contains-get_or}
 use denote.Ref.{Bor}
 use Rattle.lorel_trees.specs.Trees.{literal_tree}
@@ -70,3 +70,8 @@ literals_more literals i literal low is =
 pub literals_taken : (literals : List (Bor Literal)) (i : ℕ) → i < length literals → length (take i (bodies_of literals)) ≡ i
 literals_taken literals i low =
     length-take-le i (bodies_of literals) (omega (arith, low, length-map literals (λ (l : Bor Literal). body_of (literal_tree l.now))))
+
+pub literals_all : (literals : List (Bor Literal)) (i : ℕ) → length literals ≤ i → take i (bodies_of literals) ≡ bodies_of literals
+literals_all literals i high =
+    let sizes = length-map literals (λ (l : Bor Literal). body_of (literal_tree l.now)) in
+    take_all i (bodies_of literals) (omega (arith, sizes, high))

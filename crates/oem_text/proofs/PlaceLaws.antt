@@ -1,7 +1,7 @@
--- Where the objects are that locals mark, as more of their places are known.
-use Rattle.std.proofs.Common.{◌≡◌, ◌⊎◌, ℕ, zero, suc, ◌+◌, ◌==◌, cond, Bool, true, false, true≢false, if◌then◌else◌, Option, List, [], ◌∷◌, ◌++◌, length, Some, None, refl, sym, ap, subst, ◌∙◌, inl, inr, arith}
-use Rattle.std.proofs.lemmas.Option.{none-some, same_Some, slice_get_within}
-use Rattle.std.proofs.lemmas.Bool.Decides.{eqb_tells, nat_tests}
+-- Which objects locals mark, as more of them are known, and where these are.
+use Rattle.std.proofs.Common.{◌≡◌, ◌⊎◌, ℕ, zero, suc, ◌+◌, Bool, true, false, true≢false, if◌then◌else◌, Option, List, [], ◌∷◌, ◌++◌, length, Some, None, refl, sym, ap, subst, ◌∙◌, inl, inr, arith}
+use Rattle.std.proofs.lemmas.Option.{none-some, same_Some}
+use Rattle.std.proofs.lemmas.Bool.Decides.{nat_tests}
 use Rattle.std.proofs.lemmas.Bool.{cases_Bool}
 use Rattle.list_laws.proofs.PlaceLaws.{slice_get-push_cases, slice_get-append_left, slice_get-push}
 use Rattle.list_laws.proofs.OrderLaws.{eqb_itself}
@@ -25,72 +25,6 @@ marked_cases xs b number place h =
     ]
 
 -- ---- the place of each local
--- an object that no local marks
-pub places_same : (xs : List Body) (b : Body) (places : ℕ → Option ℕ) → b.mark ≡ None → ArePlaces xs places → ArePlaces (xs ++ b ∷ []) places
-places_same xs b places none are = record {
-  marked = λ number place h. marked_left xs (b ∷ []) number place (are.marked number place h);
-  known = λ number place h. elim (marked_cases xs b number place h) [
-    | inl left ↦ are.known number place left
-    | inr last ↦ absurd (none-some number (sym none ∙ last.1))
-  ];
-}
-
--- an object that a local marks, which marks none before
-pub places_more : (xs : List Body) (b : Body) (number place : ℕ) (old new : ℕ → Option ℕ) → b.mark ≡ Some number → place ≡ length xs → old number ≡ None
-    → ((other : ℕ) → new other ≡ cond (number == other) (Some place) (old other)) → ArePlaces xs old → ArePlaces (xs ++ b ∷ []) new
-places_more xs b number place old new marked is_last unknown updates are = record {
-  marked = λ other at h. elim (eqb_tells number other) [
-    | inl same ↦ (
-        let here : Some place ≡ Some at = sym (put other same.0) ∙ h in
-        let last : IsMarkedAt (xs ++ b ∷ []) number (length xs) = marked_last xs b number marked in
-        let there : length xs ≡ at = sym is_last ∙ same_Some place at here in
-        subst (λ (q : ℕ). IsMarkedAt (xs ++ b ∷ []) q at) same.1 (subst (λ (p : ℕ). IsMarkedAt (xs ++ b ∷ []) number p) there last))
-    | inr apart ↦ marked_left xs (b ∷ []) other at (are.marked other at (sym (stays other apart.0) ∙ h))
-  ];
-  known = λ other at h. elim (marked_cases xs b other at h) [
-    | inl left ↦ (
-        let was = are.known other at left in
-        elim (eqb_tells number other) [
-          | inl same ↦ absurd (none-some at (sym unknown ∙ ap old same.1 ∙ was))
-          | inr apart ↦ stays other apart.0 ∙ was
-        ])
-    | inr last ↦ (
-        let same : number ≡ other = same_Some number other (sym marked ∙ last.1) in
-        sym (ap new same) ∙ put number (eqb_itself number) ∙ ap (λ (p : ℕ). Some p) (is_last ∙ sym last.0))
-  ];
-}
-  where
-    put : (other : ℕ) → (number == other) ≡ true → new other ≡ Some place
-    put other same = updates other ∙ ap (λ (t : Bool). cond t (Some place) (old other)) same
-
-    stays : (other : ℕ) → (number == other) ≡ false → new other ≡ old other
-    stays other apart = updates other ∙ ap (λ (t : Bool). cond t (Some place) (old other)) apart
-
--- a local that marks an object before
-pub places_double : (xs : List Body) (b : Body) (number first : ℕ) (places : ℕ → Option ℕ) → b.mark ≡ Some number → places number ≡ Some first → ArePlaces xs places
-    → AreDouble (xs ++ b ∷ [])
-places_double xs b number first places marked known are =
-    let before = are.marked number first known in
-    record {
-      number = number;
-      first = first;
-      second = length xs;
-      apart = slice_get_within xs first before.body before.at;
-      one = marked_left xs (b ∷ []) number first before;
-      other = marked_last xs b number marked;
-    }
-
--- it does among more objects too
-pub double_more : (xs ys : List Body) → AreDouble xs → AreDouble (xs ++ ys)
-double_more xs ys h = record {
-  number = h.number;
-  first = h.first;
-  second = h.second;
-  apart = h.apart;
-  one = marked_left xs ys h.number h.first h.one;
-  other = marked_left xs ys h.number h.second h.other;
-}
-
 -- where each local has its place no local marks two objects
 pub places_single : (xs : List Body) (places : ℕ → Option ℕ) → ArePlaces xs places → AreDouble xs → ⊥
 places_single xs places are double =

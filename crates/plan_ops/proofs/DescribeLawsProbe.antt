@@ -124,7 +124,7 @@ complex_compares op Complex compares = elim compares [ inl ordered ↦ absurd or
 module _ (over : StepsOver) (objects : List (Oid × Value)) (apart : AllPairs (λ a b. a ≢ b) over.labels)
     (entries : AreValueEntries objects over.edges over.entries) where
   -- an object whose value compares is a candidate, where an edge with the label's text enters it
-  candidate : (label : Option Label) (text : List ℕ) (op : Op) (value own : Value) (oid : Oid)
+  pub candidate : (label : Option Label) (text : List ℕ) (op : Op) (value own : Value) (oid : Oid)
       → IsLabelOf over.labels text label → IsProbed op → Compares own op value → Contains objects (oid, own)
       → (last : Label) → slice_get over.labels last.0 ≡ Some text → (parent : Oid) → Contains over.edges (edge_of parent last oid)
       → IsCandidate over.entries label op value oid

@@ -12,7 +12,7 @@ use Rattle.plan_ops.specs.Types.{Oid, Start, RANGES}
 use Rattle.plan_ops.specs.Types.starts
 use Rattle.plan_ops.specs.Steps.{StepsOver, Meets, IsLeft, Finishes, slot_of}
 use Rattle.plan_ops.specs.inside.Orders.{IsSettled, IsThere, Stands}
-use Rattle.plan_ops.specs.inside.Offers.{IsVariant, AreOffered}
+use Rattle.plan_ops.specs.inside.Offers.{IsVariant, AreOffered, AreKept}
 use Rattle.plan_ops.proofs.SlotLaws.{same_places, filled_there, filled_elsewhere}
 
 -- two rows are the same in the slots that none of these steps fills
@@ -103,13 +103,13 @@ between step later row other (Some own) fills stands long eight same =
       ];
     }
 
--- whoever finishes the row finishes one of those that the step makes of it
-pub finished_by_offer : (over : StepsOver) (step : StepTree) (later : List StepTree) (row : List Oid) (rows : List (List Oid)) → AreOffered over step row rows
+-- whoever finishes the row finishes one of those that are kept of what the step makes of it
+pub finished_by_kept : (over : StepsOver) (step : StepTree) (later : List StepTree) (row : List Oid) (rows : List (List Oid)) → AreKept over step later row rows
     → Stands step later → length row ≡ RANGES → (other : List Oid)
     → ((middle : List Oid) × Contains rows middle × Finishes over later middle other) ↔ Finishes over (step ∷ later) row other
-finished_by_offer over step later row rows offers stands long other = (
+finished_by_kept over step later row rows kept stands long other = (
   λ h.
-      let made = (offers.exact h.0).0 h.1 in
+      let made = kept.sound h.0 h.1 in
       record {
         eight = h.2.eight;
         same = λ slot left.
@@ -119,12 +119,26 @@ finished_by_offer over step later row rows offers stands long other = (
       },
   λ finishes.
       let found = between step later row other (slot_of step) refl stands long finishes.eight finishes.same in
-      let met = meets_alike over step later other found.middle stands found.agree (All-head (λ s. Meets over s other) step later finishes.met) in (
-        found.middle,
-        (offers.exact found.middle).1 (found.variant, met),
-        record { eight = finishes.eight; same = found.agree; met = All-tail (λ s. Meets over s other) step later finishes.met },
-      ),
+      let met = meets_alike over step later other found.middle stands found.agree (All-head (λ s. Meets over s other) step later finishes.met) in
+      let rest : Finishes over later found.middle other = record {
+        eight = finishes.eight;
+        same = found.agree;
+        met = All-tail (λ s. Meets over s other) step later finishes.met;
+      } in
+      elim (kept.complete found.middle found.variant met) [
+        | inl there ↦ (found.middle, there, rest)
+        | inr hopeless ↦ absurd (hopeless other rest)
+      ],
 )
+
+-- where none is left out, all are kept
+pub all_kept : (over : StepsOver) (step : StepTree) (later : List StepTree) (row : List Oid) (rows : List (List Oid)) → AreOffered over step row rows
+    → AreKept over step later row rows
+all_kept over step later row rows offers = record {
+  sound = λ other at. (offers.exact other).0 at;
+  complete = λ other variant met. inl ((offers.exact other).1 (variant, met));
+  apart = offers.apart;
+}
 
 -- and only one of them
 pub finishes_one : (over : StepsOver) (step : StepTree) (later : List StepTree) (row a b other : List Oid) → Stands step later

@@ -1,6 +1,5 @@
 -- What each kind of step makes of a row, by the objects that it finds.
 use Rattle.std.proofs.Common.{◌≡◌, ◌≢◌, ◌↔◌, ℕ, ◌<◌, inl, inr, Bool, true, false, true≢false, IsTrue, List, [], ◌∷◌, ◌++◌, length, get_or, map, set, Option, None, Some, refl, sym, ap, ◌∙◌, subst, arith}
-use Rattle.std.proofs.lemmas.List.{map-id}
 use Rattle.std.specs.List.{AllPairs, Contains, slice_get}
 use Rattle.std.proofs.lemmas.Bool.{cases_eq}
 use Rattle.std.proofs.lemmas.Option.{none-some, same_Some, slice_get-get_or}
@@ -22,13 +21,13 @@ use Rattle.plan_ops.specs.Types.{Oid, Label, Edge, Value, Op, ValueEntry, Start,
 use Rattle.plan_ops.specs.Types.starts
 use Rattle.plan_ops.specs.Steps.{StepsOver, Meets, Connects, slot_of}
 use Rattle.plan_ops.specs.Rows.{AreQuiet, IsGuided}
-use Rattle.plan_ops.specs.declared.offers.Offer.TheVariants.{Fill, Keep, Reject}
+use Rattle.plan_ops.specs.declared.offers.Offer.{Offer}
 use Rattle.plan_ops.specs.inside.Orders.{IsThere, Stands}
-use Rattle.plan_ops.specs.inside.Offers.{IsVariant, IsOffer, tested}
+use Rattle.plan_ops.specs.inside.Offers.{Fill, Lend, Keep, Reject, IsVariant, IsOffer, HasObjects, tested}
 use Rattle.plan_ops.proofs.SlotLaws.{same_places, filled_there, filled_elsewhere}
 
 -- objects that ascend are put into the slot of a row: the rows are each once
-apart_filled : (row : List Oid) (slot : ℕ) (oids : List Oid) → slot < length row → AllPairs (λ a b. a.0 < b.0) oids
+pub apart_filled : (row : List Oid) (slot : ℕ) (oids : List Oid) → slot < length row → AllPairs (λ a b. a.0 < b.0) oids
     → AllPairs (λ a b. a ≢ b) (map (set row slot) oids)
 apart_filled row slot oids within ascend i j d less inside same =
     let all : length (map (set row slot) oids) ≡ length oids = length-map oids (set row slot) in
@@ -46,6 +45,8 @@ pub fills : (over : StepsOver) (step : StepTree) (slot : ℕ) (row : List Oid) (
     → length row ≡ RANGES → ListsInOrder (λ oid. Meets over step (set row slot oid)) oids → IsOffer over step row (Fill slot oids)
 fills over step slot row oids is within long lists = record {
   fills = within;
+  ordered = lists.ascending;
+  own = is;
   rows = record {
     exact = λ other. (
       λ among.
@@ -71,6 +72,18 @@ fills over step slot row oids is within long lists = record {
   };
 }
 
+-- objects that the step keeps are offered like others
+pub lent : (over : StepsOver) (step : StepTree) (slot : ℕ) (row oids : List Oid) (offer : Offer) → HasObjects offer slot oids
+    → IsOffer over step row (Fill slot oids) → IsOffer over step row offer
+lent over step slot row oids (Fill own objects) has offers =
+    subst (λ (n : ℕ). IsOffer over step row (Fill n objects)) (sym has.0) (subst (λ (l : List Oid). IsOffer over step row (Fill slot l)) (sym has.1) offers)
+lent over step slot row oids (Lend own objects) has offers =
+    let made : IsOffer over step row (Fill own objects.now) =
+    subst (λ (n : ℕ). IsOffer over step row (Fill n objects.now)) (sym has.0) (subst (λ (l : List Oid). IsOffer over step row (Fill slot l)) (sym has.1) offers) in
+    record { fills = made.fills; ordered = made.ordered; own = made.own; rows = made.rows }
+lent over step slot row oids Keep has offers = absurd has
+lent over step slot row oids Reject has offers = absurd has
+
 -- a step that fills none makes of a row that row, where it meets the step, and else none
 variant_same : (step : StepTree) (row other : List Oid) → slot_of step ≡ None → IsVariant step row other → other ≡ row
 variant_same step row other none variant = same_places other row (λ slot. variant.same slot (λ is. none-some slot (sym none ∙ is)))
@@ -78,6 +91,8 @@ variant_same step row other none variant = same_places other row (λ slot. varia
 pub keeps : (over : StepsOver) (step : StepTree) (row : List Oid) → slot_of step ≡ None → length row ≡ RANGES → Meets over step row → IsOffer over step row Keep
 keeps over step row none long met = record {
   fills = tt;
+  ordered = tt;
+  own = tt;
   rows = record {
     exact = λ other. (
       λ among. elim (Contains-cases row [] other among) [
@@ -93,6 +108,8 @@ keeps over step row none long met = record {
 pub refuses : (over : StepsOver) (step : StepTree) (row : List Oid) → slot_of step ≡ None → (Meets over step row → ⊥) → IsOffer over step row Reject
 refuses over step row none fails = record {
   fills = tt;
+  ordered = tt;
+  own = tt;
   rows = record {
     exact = λ other. (
       λ among. absurd (Contains-none other among),
@@ -143,16 +160,14 @@ forward_offers over start path slot row from oids stands long at lists =
     (ListsInOrder-same (Reaches over.labels over.edges path from) (λ oid. Meets over (forward start path slot) (set row slot oid)) oids
     (λ oid. connects (Reaches over.labels over.edges path) start slot row oid from (omega (arith, stands.0.0, long)) stands.1 at) lists)
 
--- what the guide told is offered in a copy
-pub guide_offers : (over : StepsOver) (named : Oid) (path : PathTree) (slot : ℕ) (row : List Oid) (told oids : List Oid)
-    → map (λ (oid : Oid). oid) oids ≡ map (λ (oid : Oid). oid) told
+-- what the guide told
+pub guide_offers : (over : StepsOver) (named : Oid) (path : PathTree) (slot : ℕ) (row oids : List Oid)
     → Stands (from_guide named path slot) [] → length row ≡ RANGES
-    → ListsInOrder (over.reaches path named) told → IsOffer over (from_guide named path slot) row (Fill slot oids)
-guide_offers over named path slot row told oids copied stands long lists =
+    → ListsInOrder (over.reaches path named) oids → IsOffer over (from_guide named path slot) row (Fill slot oids)
+guide_offers over named path slot row oids stands long lists =
     fills over (from_guide named path slot) slot row oids refl stands.0 long
     (ListsInOrder-same (over.reaches path named) (λ oid. Meets over (from_guide named path slot) (set row slot oid)) oids
-    (λ oid. connects (over.reaches path) (starts.Named named) slot row oid named (omega (arith, stands.0, long)) tt refl)
-    (subst (ListsInOrder (over.reaches path named)) (sym (map-id told) ∙ sym copied ∙ map-id oids) lists))
+    (λ oid. connects (over.reaches path) (starts.Named named) slot row oid named (omega (arith, stands.0, long)) tt refl) lists)
 
 pub value_offers : (over : StepsOver) (label : Option Label) (op : Op) (value : Value) (rest : PathTree) (slot : ℕ) (row ends oids : List Oid)
     → Stands (from_value label op value rest slot) [] → length row ≡ RANGES

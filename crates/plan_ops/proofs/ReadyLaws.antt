@@ -19,6 +19,7 @@ use Rattle.plan_ops.specs.Steps.{StepsOver, in_eight}
 use Rattle.plan_ops.specs.Rows.{AreApart}
 use Rattle.plan_ops.specs.inside.Offers.{partial_at}
 use Rattle.plan_ops.specs.inside.Ready.{ReadyStep, ready_tree, HasFound, CanBeReady}
+use Rattle.plan_ops.specs.inside.Told.{Told, AreTold}
 use Rattle.plan_ops.specs.inside.Machines.{IsReadyMachine}
 use Rattle.plan_ops.proofs.OrderLaws.{steps_in_order}
 use Rattle.plan_ops.proofs.DescribeLawsToCome.{AreFirst}
@@ -153,11 +154,12 @@ first_of none partials row empty is unfilled = record {
 }
 
 pub first_machine : (over : StepsOver) (labels : List (List ℕ)) (bound : BoundTree) (kind : PlanKind) (steps : List StepTree) (ready : List ReadyStep)
-    (partials : List PartialRow) → IsRunnable bound → AreStepsOf labels bound kind steps → map ready_tree ready ≡ steps
-    → All (HasFound over.reaches) ready → AreFirst partials → IsReadyMachine over steps ready partials
-first_machine over labels bound kind steps ready partials runnable are made found first = record {
+    (told : List Told) (partials : List PartialRow) → IsRunnable bound → AreStepsOf labels bound kind steps → map ready_tree ready ≡ steps
+    → All (HasFound over.reaches) ready → AreTold over.passes told → AreFirst partials → IsReadyMachine over steps ready told partials
+first_machine over labels bound kind steps ready told partials runnable are made found so first = record {
   ready_are = made;
   found = found;
+  told_are = so;
   machine = record {
     in_order = steps_in_order labels bound kind steps runnable are;
     can = steps_can labels bound kind steps runnable are;

@@ -1,10 +1,10 @@
 -- A turn of the machine: the last partial row gives way to those that its step makes of it, or is whole and taken away.
-use Rattle.std.proofs.Common.{◌≡◌, ◌≢◌, ◌↔◌, ℕ, zero, suc, ◌+◌, ◌-◌, ◌*◌, ◌^◌, ◌<◌, ◌≤◌, inl, inr, List, [], ◌∷◌, ◌++◌, length, get_or, map, reverse, drop, set, Option, None, Some, refl, sym, ap, ◌∙◌, subst, arith}
+use Rattle.std.proofs.Common.{◌≡◌, ◌≢◌, ◌↔◌, ℕ, zero, suc, ◌+◌, ◌-◌, ◌*◌, ◌^◌, ◌<◌, ◌≤◌, inl, inr, List, [], ◌∷◌, ◌++◌, length, get_or, map, reverse, take, drop, set, Option, None, Some, refl, sym, ap, ◌∙◌, subst, arith}
 use Rattle.std.specs.List.{All, AllPairs, Contains, slice_get}
 use Rattle.std.specs.Option.{option_to_list, option_map}
 use Rattle.std.proofs.Math.Nat.{mul-le-mul_right}
 use Rattle.std.proofs.lemmas.Option.{none-some, same_Some, slice_get-map, slice_get_within, slice_get_read, slice_get-get_or}
-use Rattle.std.proofs.lemmas.List.{length-map, length-reverse, length_push, drop_all}
+use Rattle.std.proofs.lemmas.List.{append_assoc, length-map, length-reverse, length_push, drop_all, reverse-append, take_more}
 use Rattle.std.proofs.lemmas.List.Elements.{All-nil, All-cons, All-append, All-head, All-tail, All-contains, Contains-push}
 use Rattle.std.proofs.lemmas.List.Sums.{sum_by_push, sum_by-append, sum_by-le}
 use Rattle.lore_base.proofs.MemberLaws.{Contains-none}
@@ -18,13 +18,13 @@ use Rattle.plan_ops.specs.Types.starts
 use Rattle.plan_ops.specs.Steps.{StepsOver, Meets, Finishes, IsLeft, slot_of}
 use Rattle.plan_ops.specs.Rows.{ComesOf, IsToCome, AreSame, Gives, AreQuiet, IsGuided, FindsNothing, ReadNothing, left_of, work_left}
 use Rattle.plan_ops.specs.declared.offers.Offer.{Offer}
-use Rattle.plan_ops.specs.inside.Offers.{IsOffer, IsReplaced, offered, partial_at}
+use Rattle.plan_ops.specs.inside.Offers.{FillsSlot, IsOffer, IsKeptOffer, IsOfferAt, IsKeptAt, IsReplaced, offered, partial_at}
 use Rattle.plan_ops.specs.inside.Orders.{IsThere, Stands, AreInOrder}
 use Rattle.plan_ops.specs.inside.Ready.{ReadyStep, ready_tree, HasFound, CanBeReady}
 use Rattle.plan_ops.specs.inside.Machines.{IsMachine, IsPopped}
 use Rattle.plan_ops.proofs.StackLaws.{All-front, map-reverse, Contains-reverse, Contains-reversed, AllPairs-turned, Comes, IsApart, comes_replaced, apart_replaced, gives_last}
 use Rattle.plan_ops.proofs.SlotLaws.{last_place}
-use Rattle.plan_ops.proofs.FinishLaws.{finished_by_offer, finishes_one, finished_whole}
+use Rattle.plan_ops.proofs.FinishLaws.{finished_by_kept, finishes_one, finished_whole}
 
 -- the steps from a place on
 pub drop_at : (steps : List StepTree) (n : ℕ) (step : StepTree) → slice_get steps n ≡ Some step → drop n steps ≡ step ∷ drop (n + 1) steps
@@ -40,7 +40,7 @@ ordered_at [] (suc n) order = order
 ordered_at (first ∷ others) (suc n) order = ordered_at others n order.1
 
 -- a step that finds nothing is met by no row
-nothing_meets : (over : StepsOver) (step : StepTree) (later : List StepTree) (row : List Oid) → FindsNothing over (step ∷ later) → Meets over step row → ⊥
+pub nothing_meets : (over : StepsOver) (step : StepTree) (later : List StepTree) (row : List Oid) → FindsNothing over (step ∷ later) → Meets over step row → ⊥
 nothing_meets over (forward start path slot) later row nothing met = nothing
 nothing_meets over (from_guide named path slot) later row nothing met = nothing
 nothing_meets over (from_value label op value rest slot) later row nothing met = nothing met.2.0 met.2.2
@@ -93,7 +93,8 @@ pub record Turned (over : StepsOver) (steps : List StepTree) (old new : List Par
   pub quiet : ReadNothing over steps old → ReadNothing over steps new
 
 module _ (over : StepsOver) (steps : List StepTree) (old new front : List PartialRow) (last : PartialRow) (step : StepTree) (offer : Offer)
-    (machine : IsMachine over steps old) (at : slice_get steps last.step ≡ Some step) (offers : IsOffer over step last.row offer)
+    (machine : IsMachine over steps old) (at : slice_get steps last.step ≡ Some step)
+    (offers : IsKeptOffer over step (drop (last.step + 1) steps) last.row offer)
     (was : old ≡ front ++ last ∷ []) (is : new ≡ front ++ map (partial_at (last.step + 1)) (reverse (offered offer last.row)))
     (few : length (offered offer last.row) < 2 ^ 64) where
   abbrev stands : PartialRow → List Oid → Type 0
@@ -134,7 +135,7 @@ module _ (over : StepsOver) (steps : List StepTree) (old new front : List Partia
 
   one : (row : List Oid) → Comes stands more row ↔ stands last row
   one row =
-      let by = finished_by_offer over step later last.row rows offers.rows stands_well long row in (
+      let by = finished_by_kept over step later last.row rows offers.rows stands_well long row in (
         λ h.
             let found = come_of h.0 h.1 in
             subst (λ (s : List StepTree). Finishes over s last.row row) (sym cut)
@@ -148,7 +149,7 @@ module _ (over : StepsOver) (steps : List StepTree) (old new front : List Partia
   apart_more =
       AllPairs-turned (partial_at (last.step + 1)) (λ (a b : List Oid). a ≢ b) (IsApart stands) [] rows
       (λ a b at_a at_b other row by_b by_a. other (finishes_one over step later last.row a b row stands_well
-      ((offers.rows.exact a).0 at_a).0 ((offers.rows.exact b).0 at_b).0 by_a by_b))
+      (offers.rows.sound a at_a).0 (offers.rows.sound b at_b).0 by_a by_b))
       offers.rows.apart
 
   lighter : work_left (length steps) new < work_left (length steps) old
@@ -179,7 +180,7 @@ module _ (over : StepsOver) (steps : List StepTree) (old new front : List Partia
           (All-front HasEight front (last ∷ []) (subst (All HasEight) was machine.eight))
           (All-from_members HasEight more (λ partial among.
           (let found = come_of partial among in
-          subst HasEight found.2 ((offers.rows.exact found.0).0 found.1).0.eight))));
+          subst HasEight found.2 (offers.rows.sound found.0 found.1).0.eight))));
     };
     same = λ row. subst (λ (l : List PartialRow). Comes stands l row ↔ Comes stands old row) (sym is)
         (subst (λ (l : List PartialRow). Comes stands (front ++ more) row ↔ Comes stands l row) (sym was)
@@ -191,7 +192,7 @@ module _ (over : StepsOver) (steps : List StepTree) (old new front : List Partia
         (let found = come_of partial among in
         subst Reads found.2 (elim (subst (AreQuiet over) cut (All-contains Reads old last nothing there)) [
           | inl guided ↦ inl (All-tail IsGuided step later guided)
-          | inr none ↦ absurd (nothing_meets over step later found.0 none ((offers.rows.exact found.0).0 found.1).1)
+          | inr none ↦ absurd (nothing_meets over step later found.0 none (offers.rows.sound found.0 found.1).1)
         ])))));
   }
 
@@ -242,6 +243,17 @@ filled_in next slot row oids items front new same whole =
     whole ∙ ap (λ (l : List Oid). front ++ map (partial_at next) (map (set row slot) (reverse l))) same
     ∙ ap (λ (l : List (List Oid)). front ++ map (partial_at next) l) (map-reverse (set row slot) oids)
 
+-- one more of the objects, the last of those that are left, is put in
+pub filled_more : (next slot : ℕ) (row oids : List Oid) (old new : List PartialRow) (k : ℕ) (d : Oid) → k < length oids
+    → new ≡ old ++ partial_at next (set row slot (get_or oids k d)) ∷ []
+    → new ++ map (partial_at next) (map (set row slot) (reverse (take k oids))) ≡ old ++ map (partial_at next) (map (set row slot) (reverse (take (k + 1) oids)))
+filled_more next slot row oids old new k d within is =
+    let x = get_or oids k d in
+    let rest = map (partial_at next) (map (set row slot) (reverse (take k oids))) in
+    let turned : reverse (take (k + 1) oids) ≡ x ∷ reverse (take k oids) = ap reverse (take_more oids k d within) ∙ reverse-append (take k oids) (x ∷ []) in
+    ap (λ (l : List PartialRow). l ++ rest) is ∙ append_assoc old (partial_at next (set row slot x) ∷ []) rest
+    ∙ ap (λ (l : List Oid). old ++ map (partial_at next) (map (set row slot) l)) (sym turned)
+
 -- The last partial row, and the step that it is before.
 
 same_last : (old front : List PartialRow) (last other : PartialRow) → slice_get old (length old - 1) ≡ Some last → old ≡ front ++ other ∷ [] → last ≡ other
@@ -250,7 +262,7 @@ same_last old front last other at was =
     last_place front other last (length old - 1) (omega (arith, long))
     (subst (λ (l : List PartialRow). slice_get l (length old - 1) ≡ Some last) was at)
 
-step_at : (ready : List ReadyStep) (n : ℕ) (step : ReadyStep) → slice_get ready n ≡ Some step → slice_get (map ready_tree ready) n ≡ Some (ready_tree step)
+pub step_at : (ready : List ReadyStep) (n : ℕ) (step : ReadyStep) → slice_get ready n ≡ Some step → slice_get (map ready_tree ready) n ≡ Some (ready_tree step)
 step_at ready n step at = slice_get-map ready_tree ready n ∙ ap (option_map ready_tree) at
 
 -- what the step asks for before it is taken
@@ -300,13 +312,37 @@ quiet_there over ready items last step nothing at here =
     (subst (AreQuiet over) (drop_at steps last.step (ready_tree step) (step_at ready last.step step here))
     (All-contains (λ (p : PartialRow). AreQuiet over (drop p.step steps)) items last nothing (Contains-from_place items (length items - 1) last at)))
 
+-- and those behind it too
+pub quiet_behind : (over : StepsOver) (ready : List ReadyStep) (items : List PartialRow) (last : PartialRow) → ReadNothing over (map ready_tree ready) items
+    → slice_get items (length items - 1) ≡ Some last → AreQuiet over (drop last.step (map ready_tree ready))
+quiet_behind over ready items last nothing at =
+    All-contains (λ (p : PartialRow). AreQuiet over (drop p.step (map ready_tree ready))) items last nothing (Contains-from_place items (length items - 1) last at)
+
+-- what the step makes, as that of its place
+pub offered_at : (over : StepsOver) (ready : List ReadyStep) (at : ℕ) (step : ReadyStep) (row : List Oid) (offer : Offer) → slice_get ready at ≡ Some step
+    → IsOffer over (ready_tree step) row offer → IsOfferAt over (map ready_tree ready) at row offer
+offered_at over ready at step row offer is made other later cut =
+    let steps = map ready_tree ready in
+    let whole : ready_tree step ∷ drop (at + 1) steps ≡ other ∷ later = sym (drop_at steps at (ready_tree step) (step_at ready at step is)) ∙ cut in
+    let same : ready_tree step ≡ other = ap (λ (l : List StepTree). get_or l 0 other) whole in
+    subst (λ (s : StepTree). IsOffer over s row offer) same made
+
+-- what is kept of it fills a slot too
+pub kept_fills : (over : StepsOver) (ready : List ReadyStep) (at : ℕ) (step : ReadyStep) (row : List Oid) (offer : Offer) → slice_get ready at ≡ Some step
+    → IsKeptAt over (map ready_tree ready) at row offer → FillsSlot offer
+kept_fills over ready at step row offer is kept =
+    let steps = map ready_tree ready in
+    (kept (ready_tree step) (drop (at + 1) steps) (drop_at steps at (ready_tree step) (step_at ready at step is))).fills
+
 pub turns : (over : StepsOver) (ready : List ReadyStep) (step : ReadyStep) (old new : List PartialRow) (last : PartialRow) (offer : Offer)
     → IsMachine over (map ready_tree ready) old → slice_get old (length old - 1) ≡ Some last → slice_get ready last.step ≡ Some step
-    → IsOffer over (ready_tree step) last.row offer → IsReplaced (last.step + 1) offer old new → Turned over (map ready_tree ready) old new
+    → IsKeptAt over (map ready_tree ready) last.step last.row offer → IsReplaced (last.step + 1) offer old new → Turned over (map ready_tree ready) old new
 turns over ready step old new last offer machine at here offers replaced =
     let steps = map ready_tree ready in
     let same : replaced.last ≡ last = sym (same_last old replaced.front last replaced.last at replaced.was) in
-    turned over steps old new replaced.front last (ready_tree step) offer machine (step_at ready last.step step here) offers
+    let there : slice_get steps last.step ≡ Some (ready_tree step) = step_at ready last.step step here in
+    turned over steps old new replaced.front last (ready_tree step) offer machine there
+    (offers (ready_tree step) (drop (last.step + 1) steps) (drop_at steps last.step (ready_tree step) there))
     (subst (λ (p : PartialRow). old ≡ replaced.front ++ p ∷ []) same replaced.was)
     (subst (λ (p : PartialRow). new ≡ replaced.front ++ map (partial_at (last.step + 1)) (reverse (offered offer p.row))) same replaced.is)
     (subst (λ (p : PartialRow). length (offered offer p.row) < 2 ^ 64) same replaced.few)

@@ -2,4 +2,6 @@
 pub mod Ready
 pub mod Orders
 pub mod Offers
+pub mod Narrowing
+pub mod Told
 pub mod Machines

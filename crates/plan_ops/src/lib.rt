@@ -7,11 +7,15 @@
 
 pub use rows::Rows;
 
+mod known_slots;
 pub mod laws;
 mod machine;
+mod narrowing;
 mod offers;
 mod partial_rows;
 mod ready_steps;
 mod rows;
 mod sources;
 mod step_objects;
+mod tallies;
+mod told;

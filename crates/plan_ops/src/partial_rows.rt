@@ -1,4 +1,5 @@
-ghost use Rattle.std.specs.Prelude.{◌≡◌, ◌+◌, ◌<◌, ◌≤◌, [], ◌∷◌, ◌++◌, map, reverse, vec_len};
+ghost use Rattle.std.specs.Prelude.{◌≡◌, ◌+◌, ◌<◌, ◌≤◌, [], ◌∷◌, ◌++◌, length, map, reverse};
+ghost use Rattle.std.specs.Prelude.{vec_len};
 ghost use Rattle.std.specs.Prelude.{slice_set, vec_capacity, OnOk, OnErr};
 ghost use Rattle.plan_ops.specs.Types.{RANGES};
 ghost use Rattle.plan_ops.specs.inside.Offers.{FillsSlot, IsReplaced, offered, partial_at};
@@ -19,11 +20,11 @@ pub struct PartialRow {
 pub(crate) fn replace_last(
     partials: &mut Vec<PartialRow>,
     next: usize,
-    offer: Offer,
+    offer: Offer<'_>,
 ) -> Result<(), NoMemory>
     requires some { 0 < vec_len partials.old }
     requires slot { FillsSlot offer }
-    ensures ok { OnOk result (IsReplaced next offer partials.old.items partials.new.items) }
+    ensures ok { OnOk result (IsReplaced next offer.entry partials.old.items partials.new.items) }
     ensures err { OnErr result (partials.new.items ≡ partials.old.items) }
 {
     partials.reserve(offer.count())?;
@@ -31,7 +32,8 @@ pub(crate) fn replace_last(
         unreachable!();
     };
     match offer {
-        Offer::Fill { slot, oids } => push_filled(partials, next, &row, slot, oids.into_items()),
+        Offer::Fill { slot, oids } => push_filled(partials, next, &row, slot, oids.as_slice()),
+        Offer::Lend { slot, oids } => push_filled(partials, next, &row, slot, oids.as_slice()),
         Offer::Keep => push(partials, next, row),
         Offer::Reject => {}
     }
@@ -52,21 +54,17 @@ fn push(partials: &mut Vec<PartialRow>, next: usize, row: Row)
 
 // Puts the row with each of the objects in the slot behind the others, that with the first object
 // last. There is room.
-fn push_filled(
-    partials: &mut Vec<PartialRow>,
-    next: usize,
-    row: &Row,
-    slot: u32,
-    mut oids: Vec<Oid>,
-)
-    requires room { vec_len partials.old + vec_len oids ≤ vec_capacity partials.old }
+fn push_filled(partials: &mut Vec<PartialRow>, next: usize, row: &Row, slot: u32, oids: &[Oid])
+    requires room { vec_len partials.old + length oids.now ≤ vec_capacity partials.old }
     requires slot { slot < RANGES }
     ensures { partials.new.items ≡ partials.old.items
-        ++ map (partial_at next) (map (slice_set row.now slot) (reverse oids.items)) }
+        ++ map (partial_at next) (map (slice_set row.now slot) (reverse oids.now)) }
 {
-    'oids: while let Some(oid) = oids.pop() {
+    let mut left = oids.len();
+    'oids: while left > 0 {
+        left -= 1;
         let mut filled = row.copy();
-        filled.set(slot, oid);
+        filled.set(slot, oids[left]);
         push(partials, next, filled);
     }
 }

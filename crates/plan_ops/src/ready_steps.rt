@@ -1,5 +1,6 @@
-ghost use Rattle.std.specs.Prelude.{◌≡◌, map, All, IfOk};
-ghost use Rattle.lorel_bound.specs.Plans.{step_tree};
+ghost use Rattle.std.specs.Prelude.{◌≡◌, map, All, IsTrue, IfOk};
+ghost use Rattle.lorel_bound.specs.Plans.{filter, step_tree};
+ghost use Rattle.plan_ops.specs.Steps.{slot_of};
 ghost use Rattle.plan_ops.specs.inside.Ready.{CanBeReady, HasFound, ready_tree};
 
 use crate::step_objects::selected;
@@ -41,6 +42,40 @@ pub(crate) enum ReadyStep<'a> {
         named: Oid,
     },
     Filter,
+}
+
+impl<'a> ReadyStep<'a> {
+    /// The slot that the step fills.
+    pub(crate) fn slot(&self) -> Option<u32>
+        ensures { result ≡ slot_of (ready_tree self.now) }
+    {
+        match self {
+            ReadyStep::Forward { slot, .. } => Some(*slot),
+            ReadyStep::FromGuide { slot, .. } => Some(*slot),
+            ReadyStep::FromValue { slot, .. } => Some(*slot),
+            ReadyStep::Backward { parent, .. } => Some(*parent),
+            ReadyStep::Check { .. } => None,
+            ReadyStep::Filter => None,
+        }
+    }
+
+    /// Whether the step tests the whole condition.
+    pub(crate) fn is_test(&self) -> bool
+        ensures { IsTrue result → ready_tree self.now ≡ filter }
+    {
+        match self {
+            ReadyStep::Filter => true,
+            _ => false,
+        }
+    }
+
+    /// Whether the step goes on from names, or from slots that were filled, along a range.
+    pub(crate) fn walks_on(&self) -> bool {
+        matches!(
+            self,
+            ReadyStep::Forward { .. } | ReadyStep::FromGuide { .. }
+        )
+    }
 }
 
 /// The steps with their paths made ready, and with what the guide tells.

@@ -13,6 +13,8 @@ use crate::machine::next_row;
 use crate::partial_rows::PartialRow;
 use crate::ready_steps::{ReadyStep, ready_steps};
 use crate::sources::Sources;
+use crate::tallies::{Tally, no_tallies};
+use crate::told::{Told, none_asked};
 use index_traits::{Adjacent, Links, Paths, Row, RowTest, Values};
 use lore_base::{NoMemory, Steps};
 use lorel_bound::{Bound, Plan};
@@ -28,6 +30,8 @@ pub struct Rows<'a, A: Adjacent, K: Links, V: Values, P: Paths, T: RowTest> {
     sources: Sources<'a, A, K, V, P, T>,
     plan: &'a Plan,
     ready: Vec<ReadyStep<'a>>,
+    told: Vec<Told>,
+    tallies: Vec<Tally>,
     partials: Vec<PartialRow>,
 }
 
@@ -58,7 +62,7 @@ impl<'a, A: Adjacent, K: Links, V: Values, P: Paths, T: RowTest> Model for Rows<
         (steps_over rows.sources.labels.now (A.edges rows.sources.graph.now)
         (K.edges rows.sources.links.now) (V.entries rows.sources.values.now)
         (P.reaches rows.sources.paths.now) (T.passes rows.sources.test.now))
-        (steps_of rows.plan.now) rows.ready.items rows.partials.items };
+        (steps_of rows.plan.now) rows.ready.items rows.told.items rows.partials.items };
 }
 
 impl<'a, A: Adjacent, K: Links, V: Values, P: Paths, T: RowTest> Rows<'a, A, K, V, P, T> {
@@ -105,6 +109,8 @@ impl<'a, A: Adjacent, K: Links, V: Values, P: Paths, T: RowTest> Rows<'a, A, K, 
     {
         note_distinct(labels);
         let ready = ready_steps(alloc, paths, plan.steps.as_slice())?;
+        let told = none_asked(alloc)?;
+        let tallies = no_tallies(alloc)?;
         let mut partials = Vec::new(alloc);
         partials.push(PartialRow {
             step: 0,
@@ -122,6 +128,8 @@ impl<'a, A: Adjacent, K: Links, V: Values, P: Paths, T: RowTest> Rows<'a, A, K, 
             sources,
             plan,
             ready,
+            told,
+            tallies,
             partials,
         })
     }
@@ -161,6 +169,8 @@ impl<'a, A: Adjacent, K: Links, V: Values, P: Paths, T: RowTest> Rows<'a, A, K, 
             alloc,
             &self.sources,
             self.ready.as_slice(),
+            &mut self.told,
+            &mut self.tallies,
             &mut self.partials,
             steps,
         )

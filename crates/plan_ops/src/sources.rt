@@ -4,7 +4,8 @@ use crate::offers::{Offer, Offers};
 use crate::ready_steps::ReadyStep;
 use crate::step_objects::{candidates, is_among, leading_to, leading_to_some, reached};
 use index_traits::{Adjacent, Links, Paths, Row, RowTest, Values};
-use lore_base::{NoMemory, Steps, TryCopy};
+use lore_base::limits::RANGES;
+use lore_base::{NoMemory, OidBuf, Steps};
 use oem_labels::LabelTable;
 use std::alloc::Global;
 use std::sync::ledger::Ledger;
@@ -26,13 +27,13 @@ impl<'a, A: Adjacent, K: Links, V: Values, P: Paths, T: RowTest> Offers
         (K.edges sources.links.now) (V.entries sources.values.now) (P.reaches sources.paths.now)
         (T.passes sources.test.now) };
 
-    fn offer<L: Ledger>(
+    fn offer<'r, L: Ledger>(
         &self,
         alloc: Global,
-        step: &ReadyStep<'_>,
+        step: &'r ReadyStep<'_>,
         row: &Row,
         steps: &mut Steps<L>,
-    ) -> Result<Offer, NoMemory> {
+    ) -> Result<Offer<'r>, NoMemory> {
         match step {
             ReadyStep::Forward { start, route, slot } => {
                 let from = start.object(row);
@@ -40,8 +41,10 @@ impl<'a, A: Adjacent, K: Links, V: Values, P: Paths, T: RowTest> Offers
                 Ok(Offer::Fill { slot: *slot, oids })
             }
             ReadyStep::FromGuide { objects, slot, .. } => {
-                let oids = objects.try_copy(alloc)?;
-                Ok(Offer::Fill { slot: *slot, oids })
+                Ok(Offer::Lend {
+                    slot: *slot,
+                    oids: objects,
+                })
             }
             ReadyStep::FromValue {
                 label,
@@ -69,5 +72,26 @@ impl<'a, A: Adjacent, K: Links, V: Values, P: Paths, T: RowTest> Offers
             }
             ReadyStep::Filter => Ok(Offer::of_test(self.test.holds(alloc, row, steps)?)),
         }
+    }
+
+    fn rules_out<L: Ledger>(
+        &self,
+        alloc: Global,
+        known: &[bool; RANGES],
+        row: &Row,
+        steps: &mut Steps<L>,
+    ) -> Result<bool, NoMemory> {
+        self.test.rules_out(alloc, known, row, steps)
+    }
+
+    fn fitting<L: Ledger>(
+        &self,
+        alloc: Global,
+        known: &[bool; RANGES],
+        slot: u32,
+        row: &Row,
+        steps: &mut Steps<L>,
+    ) -> Result<Option<OidBuf>, NoMemory> {
+        self.test.fitting(alloc, known, slot, row, steps)
     }
 }

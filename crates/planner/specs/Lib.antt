@@ -1,4 +1,5 @@
 pub mod Types
+pub mod Ends
 pub mod Choices
 pub mod Laws
 pub mod inside

@@ -6,6 +6,7 @@
 #![tactic(auto)]
 
 pub use choosing::{choose, forward_plan, guided_plan};
+pub use probes::last_label;
 
 mod beginnings;
 mod choosing;

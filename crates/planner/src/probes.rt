@@ -105,8 +105,8 @@ fn is_probed(op: Op) -> bool
     !matches!(op, Op::Ne | Op::Like)
 }
 
-// The text of the plain label that is the last part of a path.
-fn last_label(path: &Path) -> Option<&OemText>
+/// The text of the plain label that is the last part of a path.
+pub fn last_label(path: &Path) -> Option<&OemText>
     ensures some { IfSome result (λ label. EndsIn (path_tree path.now) label.now) }
     ensures none { IfNone result ((label : List ℕ) → EndsIn (path_tree path.now) label → ⊥) }
 {

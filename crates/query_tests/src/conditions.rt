@@ -90,6 +90,38 @@ fn a_condition_is_tested_unready(rt: HostRuntime) -> Result<(), Fail> {
     Ok(())
 }
 
+// Whether it is told that no word leads from the object 1 to this number, where the slot of the object
+// is known, or isn't.
+fn is_ruled_out<L: Ledger>(
+    alloc: Global,
+    number: i64,
+    is_known: bool,
+    blank: Blank,
+) -> Result<bool, Fail>
+    requires name { blank.name ≡ L.name }
+    requires parts { blank.parts ≡ L.parts }
+    requires some { 0 < blank.parts }
+{
+    let cond = leading_to(number);
+    let graph = graph(alloc)?;
+    let values = One {
+        value: Value::Whole(30),
+    };
+    let labels = LabelTable::new(alloc);
+    let test = Test::ready(alloc, Some(&cond), &graph, &values, &labels)?;
+    let known = [is_known, false, false, false, false, false, false, false];
+    Ok(test.rules_out(alloc, &known, &row(alloc), &mut Steps::<L>::new(blank))?)
+}
+
+#[test]
+fn a_condition_is_told_by_known_slots(rt: HostRuntime) -> Result<(), Fail> {
+    for (number, is_known, wanted) in [(31, true, true), (30, true, false), (31, false, false)] {
+        let out = is_ruled_out::<Brand>(rt.alloc(), number, is_known, Blank::new(1))?;
+        assert_eq!(rt; out, wanted);
+    }
+    Ok(())
+}
+
 // A test that no row passes.
 #[derive(Drop)]
 struct Never {}

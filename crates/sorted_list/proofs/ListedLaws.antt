@@ -60,5 +60,6 @@ module _ {T : Type 0} (cmp : T → T → Ordering) (total : IsTotalOrder cmp) wh
       ] refl,
     )
 
-  pub staying-ascends : (gone items : List T) → Ascends cmp items → Ascends cmp (staying cmp gone items)
-  staying-ascends gone items ascend = AllPairs-filter (λ a b. cmp a b ≡ Less) (λ item. not (is_listed cmp gone item)) items ascend
+-- what stays ascends as before, by whatever order those that go are told
+pub staying-ascends : {T : Type 0} (cmp listed : T → T → Ordering) (gone items : List T) → Ascends cmp items → Ascends cmp (staying listed gone items)
+staying-ascends cmp listed gone items ascend = AllPairs-filter (λ a b. cmp a b ≡ Less) (λ item. not (is_listed listed gone item)) items ascend

@@ -23,3 +23,13 @@ pub record IsChange {T : Type 0} (kept gone come : List T) : Type 0 where
 -- the list is the kept one, less what goes, with what comes
 abbrev pub IsLessWith : {T : Type 0} → List T → List T → List T → List T → Type 0
 IsLessWith {T} kept gone come after = (item : T) → Contains after item ↔ IsThen kept gone come item
+
+-- the items but these, in ascending order
+pub record AreWithout {T : Type 0} (cmp : T → T → Ordering) (gone items less : List T) : Type 0 where
+  pub ascend : Ascends cmp less
+  pub members : (item : T) → Contains less item ↔ (Contains items item × (¬ Contains gone item))
+
+-- the items of both lists, in ascending order
+pub record AreJoined {T : Type 0} (cmp : T → T → Ordering) (first second all : List T) : Type 0 where
+  pub ascend : Ascends cmp all
+  pub members : (item : T) → Contains all item ↔ (Contains first item ⊎ Contains second item)

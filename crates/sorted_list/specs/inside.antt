@@ -2,4 +2,3 @@
 pub mod Joined
 pub mod Listed
 pub mod Single
-pub mod Spares

@@ -30,11 +30,14 @@ use index_traits::{Adjacent, Paths, ValueOf};
 use lore_base::{Names, NoMemory, Steps};
 use lore_store::Store;
 use lorel_bind::bind;
-use lorel_bound::{Answer, Bound, Plan};
+use lorel_bound::{Answer, Bound, Plan, PlanKind};
 use lorel_trees::Select;
 use planner::{choose, forward_plan, guided_plan};
 use std::alloc::Global;
 use std::sync::ledger::Ledger;
+
+// Where fewer objects are reached they are tested one by one.
+const FEW: u32 = 64;
 
 /// Selects rows. No step is counted where the guide tells all and no cell shows a word, or where no
 /// value is found to begin with.
@@ -158,8 +161,25 @@ pub(crate) fn found<L: Ledger>(
         links: store.links(),
         values: store.values(),
         paths: &paths,
+        indexed: can_help(bound, &plan),
     };
     rows_over(alloc, &view, bound, &plan, steps)
+}
+
+// Whether the indexes may help to carry out the plan: there are further ranges to be joined; or it
+// doesn't begin with values as it is, and as far as was counted the range that a comparison reads has
+// more than a few objects.
+fn can_help(bound: &Bound, plan: &Plan) -> bool {
+    if bound.ranges.len() > 1 {
+        return true;
+    }
+    if plan.kind == PlanKind::Bottom {
+        return false;
+    }
+    match plan.found {
+        Some(found) => found >= FEW,
+        None => true,
+    }
 }
 
 /// The rows of a select over a graph with these names, whose labels are in the store's table: they are
@@ -214,6 +234,7 @@ fn found_over<G: Adjacent + ValueOf, L: Ledger>(
         links: store.links(),
         values: store.values(),
         paths: &paths,
+        indexed: false,
     };
     rows_over(alloc, &view, bound, &plan, steps)
 }
@@ -269,6 +290,7 @@ fn found_by<P: Paths, L: Ledger>(
         links: store.links(),
         values: store.values(),
         paths,
+        indexed: false,
     };
     rows_over(alloc, &view, bound, &plan, steps)
 }

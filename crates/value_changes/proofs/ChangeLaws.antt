@@ -8,18 +8,25 @@ use Rattle.value_changes.specs.EntryChanges.{HasEntry, AreEntryChanges}
 use Rattle.value_changes.specs.inside.Sets.{AreSetOf}
 use Rattle.value_changes.specs.inside.Pairs.{pair_cmp, IsMoving}
 use Rattle.value_changes.specs.inside.PairEntries.{pair_in, IsPairEntry}
-use Rattle.value_changes.proofs.StayLaws.{Reading, entered-stays, entered-was, not_given, before-exact, then-exact, value-stays, value-was, told_moves}
+use Rattle.value_changes.proofs.StayLaws.{Reading, Valued, entered-stays, entered-was, not_given, before-exact, then-exact, value-stays, value-was, told_moves}
 
 module _ (read : Reading) (leaving coming : List Pair) (gone come : List ValueEntry)
     (leaves : AreSetOf pair_cmp (IsMoving read.before read.then read.oids) leaving)
     (comes : AreSetOf pair_cmp (IsMoving read.then read.before read.oids) coming)
     (goes : AreSetOf entry_cmp (IsPairEntry read.old.objects leaving) gone)
     (come_in : AreSetOf entry_cmp (IsPairEntry read.new.objects coming) come) where
+  -- the object of an entry has an atomic value
+  was_valued : (entry : ValueEntry) → HasEntry read.old entry → Valued read entry.object
+  was_valued entry was = inl (entry.value, was.live, was.atomic)
+
+  is_valued : (entry : ValueEntry) → HasEntry read.new entry → Valued read entry.object
+  is_valued entry is = inr (entry.value, is.live, is.atomic)
+
   gone_was : (entry : ValueEntry) → Contains gone entry → HasEntry read.old entry
   gone_was entry at =
       let of_pair = (goes.exact entry).0 at in
       let moves = (leaves.exact (pair_in entry)).0 of_pair.pair in
-      let was = (before-exact read (pair_in entry)).0 moves.0 in
+      let was = (before-exact read (pair_in entry) (inl (entry.value, of_pair.live, of_pair.atomic))).0 moves.0 in
       record { live = of_pair.live; atomic = of_pair.atomic; entered = was.1 }
 
   -- an entry of before whose pair leaves
@@ -27,7 +34,7 @@ module _ (read : Reading) (leaving coming : List Pair) (gone come : List ValueEn
       → Contains read.oids entry.object ⊎ (Contains read.then (pair_in entry) → ⊥) → Contains gone entry
   goes_with entry was there moves =
       let pair : Pair = pair_in entry in
-      let at = (before-exact read pair).1 (there, was.entered) in
+      let at = (before-exact read pair (was_valued entry was)).1 (there, was.entered) in
       (goes.exact entry).1 (record { pair = (leaves.exact pair).1 (at, moves); live = was.live; atomic = was.atomic })
 
   -- an entry of then whose pair comes in
@@ -35,7 +42,7 @@ module _ (read : Reading) (leaving coming : List Pair) (gone come : List ValueEn
       → Contains read.oids entry.object ⊎ (Contains read.before (pair_in entry) → ⊥) → Contains come entry
   comes_with entry is there moves =
       let pair : Pair = pair_in entry in
-      let at = (then-exact read pair).1 (there, is.entered) in
+      let at = (then-exact read pair (is_valued entry is)).1 (there, is.entered) in
       (come_in.exact entry).1 (record { pair = (comes.exact pair).1 (at, moves); live = is.live; atomic = is.atomic })
 
   come_is : (entry : ValueEntry) → Contains come entry
@@ -43,12 +50,13 @@ module _ (read : Reading) (leaving coming : List Pair) (gone come : List ValueEn
   come_is entry at =
       let of_pair = (come_in.exact entry).0 at in
       let moves = (comes.exact (pair_in entry)).0 of_pair.pair in
-      let is = (then-exact read (pair_in entry)).0 moves.0 in (
+      let valued : Valued read entry.object = inr (entry.value, of_pair.live, of_pair.atomic) in
+      let is = (then-exact read (pair_in entry) valued).0 moves.0 in (
         record { live = of_pair.live; atomic = of_pair.atomic; entered = is.1 },
         λ was. elim moves.1 [
           | inl is_given ↦ goes_with entry was is.0 (inl is_given)
           | inr away ↦ absurd (away
-              ((before-exact read (pair_in entry)).1 (is.0, was.entered)))
+              ((before-exact read (pair_in entry) valued).1 (is.0, was.entered)))
         ],
       )
 
@@ -57,7 +65,7 @@ module _ (read : Reading) (leaving coming : List Pair) (gone come : List ValueEn
     | inl there ↦ elim (told_moves read read.then (pair_in entry)) [
       | inl moves ↦ inl (goes_with entry was there moves)
       | inr remains ↦
-          let is = (then-exact read (pair_in entry)).0 remains.1 in
+          let is = (then-exact read (pair_in entry) (was_valued entry was)).0 remains.1 in
           let live = value-stays read entry.label entry.object entry.value was.live is.1 remains.0 in
           inr (record { live = live; atomic = was.atomic; entered = is.1 })
     ]
@@ -74,14 +82,14 @@ module _ (read : Reading) (leaving coming : List Pair) (gone come : List ValueEn
     | inl there ↦ elim (told_moves read read.before (pair_in entry)) [
       | inl moves ↦ inl (comes_with entry is there moves)
       | inr remains ↦
-          let was = (before-exact read (pair_in entry)).0 remains.1 in
+          let was = (before-exact read (pair_in entry) (is_valued entry is)).0 remains.1 in
           let live = value-was read entry.label entry.object entry.value is.live was.1 is.entered remains.0 in
           inr (
             record { live = live; atomic = is.atomic; entered = was.1 },
             λ goes_at. elim ((leaves.exact (pair_in entry)).0 ((goes.exact entry).0 goes_at).pair).1 [
               | inl is_given ↦ remains.0 is_given
               | inr away ↦ away
-                  ((then-exact read (pair_in entry)).1 (there, is.entered))
+                  ((then-exact read (pair_in entry) (is_valued entry is)).1 (there, is.entered))
             ],
           )
     ]
@@ -93,7 +101,7 @@ module _ (read : Reading) (leaving coming : List Pair) (gone come : List ValueEn
           record { live = live; atomic = is.atomic; entered = was },
           λ goes_at.
               let moves = (leaves.exact (pair_in entry)).0 ((goes.exact entry).0 goes_at).pair in
-              untouched ((before-exact read (pair_in entry)).0 moves.0).0,
+              untouched ((before-exact read (pair_in entry) (is_valued entry is)).0 moves.0).0,
         )
   ]
 

@@ -2,6 +2,7 @@ pub mod SortedLaws
 pub mod PairLaws
 pub mod TouchedLaws
 pub mod MovingLaws
+pub mod ChosenLaws
 pub mod TakenLaws
 pub mod StayLaws
 pub mod ChangeLaws

@@ -8,14 +8,14 @@ use Rattle.lore_base.proofs.ToldLaws.{told_member, told_oid, told_edge}
 use Rattle.value_changes.specs.Types.{Oid, Label, Edge, Value}
 use Rattle.value_changes.specs.declared.pairs.Pair.{Pair}
 use Rattle.value_changes.specs.EntryChanges.{State, IsSettled, AreGraphChanges}
+use Rattle.value_changes.specs.Reads.{IsValued}
 use Rattle.value_changes.specs.inside.Sets.{AreSetOf}
 use Rattle.value_changes.specs.inside.Touched.{oid_cmp, IsTouched}
-use Rattle.read_costs.specs.Entering.{AreEntering}
 use Rattle.value_changes.specs.inside.Pairs.{pair_cmp, IsPairOf, IsThere}
 use Rattle.value_changes.proofs.PairLaws.{entered, told_pair}
 
--- what is read of changes: the objects given values and those touched, the edges that enter these, and the pairs of
--- before and of then
+-- what is read of changes: the objects given values and those touched; the edges that enter these, as far as they have
+-- an atomic value; and the pairs of before and of then
 pub record Reading : Type 0 where
   pub old : State
   pub new : State
@@ -32,9 +32,14 @@ pub record Reading : Type 0 where
   pub changes : AreGraphChanges old new lost fresh given
   pub gives : AreSetOf oid_cmp (IsLive given) oids
   pub touches : AreSetOf oid_cmp (IsTouched lost fresh oids) touched
-  pub enters : AreEntering old.edges touched entering
+  pub enters : (edge : Edge) → IsValued old.objects new.objects edge.child
+      → Contains entering edge ↔ (Contains old.edges edge × Contains touched edge.child)
   pub pairs : AreSetOf pair_cmp (IsPairOf (Contains entering)) before
   pub pairs_then : AreSetOf pair_cmp (IsPairOf (IsThere entering lost fresh)) then
+
+-- the object has an atomic value before or then
+abbrev pub Valued : Reading → Oid → Type 0
+Valued read oid = IsValued read.old.objects read.new.objects oid
 
 module _ (read : Reading) where
   edge-stays : (edge : Edge) → Contains read.old.edges edge → (Contains read.lost edge → ⊥) → Contains read.new.edges edge
@@ -66,22 +71,22 @@ module _ (read : Reading) where
   pub not_given : (oid : Oid) → (Contains read.touched oid → ⊥) → Contains read.oids oid → ⊥
   not_given oid untouched is_given = untouched ((read.touches.exact oid).1 (inl is_given))
 
-  -- the pairs before are those of touched objects that edges enter before
-  pub before-exact : (pair : Pair)
+  -- of objects with an atomic value, the pairs before are those of touched objects that edges enter before
+  pub before-exact : (pair : Pair) → Valued read pair.object
       → Contains read.before pair ↔ (Contains read.touched pair.object × IsEntered read.old.edges pair.label pair.object)
-  before-exact pair = (
+  before-exact pair valued = (
     λ at.
         let h = (entered (Contains read.entering) pair).0 ((read.pairs.exact pair).0 at) in
-        let parts = (read.enters.exact (edge_of h.0 pair.label pair.object)).0 h.1 in
+        let parts = (read.enters (edge_of h.0 pair.label pair.object) valued).0 h.1 in
         (parts.1, (h.0, parts.0)),
     λ h. (read.pairs.exact pair).1 ((entered (Contains read.entering) pair).1
-        (h.1.0, (read.enters.exact (edge_of h.1.0 pair.label pair.object)).1 (h.1.1, h.0))),
+        (h.1.0, (read.enters (edge_of h.1.0 pair.label pair.object) valued).1 (h.1.1, h.0))),
   )
 
   -- and likewise then
-  pub then-exact : (pair : Pair)
+  pub then-exact : (pair : Pair) → Valued read pair.object
       → Contains read.then pair ↔ (Contains read.touched pair.object × IsEntered read.new.edges pair.label pair.object)
-  then-exact pair = (
+  then-exact pair valued = (
     λ at.
         let h = (entered (IsThere read.entering read.lost read.fresh) pair).0 ((read.pairs_then.exact pair).0 at) in
         let edge : Edge = edge_of h.0 pair.label pair.object in
@@ -91,14 +96,14 @@ module _ (read : Reading) where
             (h.0, ((read.changes.fresh_exact edge).0 new_one).0),
           )
           | inr stays ↦
-              let parts = (read.enters.exact edge).0 stays.0 in
+              let parts = (read.enters edge valued).0 stays.0 in
               (parts.1, (h.0, edge-stays edge parts.0 stays.1))
         ],
     λ h.
         let edge : Edge = edge_of h.1.0 pair.label pair.object in
         let is_there : IsThere read.entering read.lost read.fresh edge = elim (told_member told_edge read.old.edges edge) [
           | inl there ↦ inr
-              ((read.enters.exact edge).1 (there, h.0), λ gone. ((read.changes.lost_exact edge).0 gone).1 h.1.1)
+              ((read.enters edge valued).1 (there, h.0), λ gone. ((read.changes.lost_exact edge).0 gone).1 h.1.1)
           | inr none ↦ inl ((read.changes.fresh_exact edge).1 (h.1.1, none))
         ] in
         (read.pairs_then.exact pair).1 ((entered (IsThere read.entering read.lost read.fresh) pair).1 (h.1.0, is_there)),

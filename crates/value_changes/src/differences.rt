@@ -7,6 +7,7 @@ use crate::entered::entered_before;
 use crate::entries::entries_of;
 use crate::pairs::{moving_pairs, pairs_before, pairs_then};
 use crate::touched::{given_objects, touched_objects};
+use crate::valued::old_valued;
 use index_traits::{EntryList, Links, ValueOf};
 use lore_base::{Edge, NoMemory, Oid, Steps, Value};
 use read_costs::entering_edges;
@@ -35,7 +36,8 @@ pub struct GraphChanges<'a> {
 /// The value entries that go and those that come with these changes. `links` has the added edges,
 /// and those of before that aren't lost; it may have lost ones too. `before` has the values of
 /// before and `after` those of afterwards. Each object that a lost or a fresh edge enters, or that a
-/// value is given to, is read once, by the edges in `links` that enter it.
+/// value is given to, is read once, by the edges in `links` that enter it, where it was live and has an
+/// atomic value before or afterwards.
 pub fn entry_changes<K: Links, V: ValueOf, W: ValueOf, L: Ledger>(
     alloc: Global,
     links: &K,
@@ -51,7 +53,8 @@ pub fn entry_changes<K: Links, V: ValueOf, W: ValueOf, L: Ledger>(
         → AreEntryChanges old new entries.gone entries.come) }
     ensures reads { OnOk result (AreAscendingEdges (K.edges links.now)
         → ReadsChanged (K.edges links.now) changes.entry.lost.now changes.entry.fresh.now
-        changes.entry.given.now steps.old steps.new) }
+        changes.entry.given.now (V.objects before.now) (W.objects after.now)
+        steps.old steps.new) }
 {
     let GraphChanges {
         lost,
@@ -61,7 +64,8 @@ pub fn entry_changes<K: Links, V: ValueOf, W: ValueOf, L: Ledger>(
     } = changes;
     let given = given_objects(alloc, given)?;
     let touched = touched_objects(alloc, lost, fresh, given.as_slice())?;
-    let read = entering_edges(alloc, links, touched.as_slice(), steps)?;
+    let valued = old_valued(alloc, touched.as_slice(), before, after)?;
+    let read = entering_edges(alloc, links, valued.as_slice(), steps)?;
     let entering = entered_before(alloc, read.as_slice(), added, lost)?;
     let old = pairs_before(alloc, entering.as_slice())?;
     let new = pairs_then(alloc, entering.as_slice(), lost, fresh)?;

@@ -36,7 +36,7 @@ pub(crate) fn entries_of<V: ValueOf>(
 }
 
 // The object's value, where it has one that is atomic.
-fn atomic_value<V: ValueOf>(values: &V, oid: Oid) -> Option<&Value>
+pub(crate) fn atomic_value<V: ValueOf>(values: &V, oid: Oid) -> Option<&Value>
     ensures found { IfSome result (λ value. Contains (V.objects values.now) (oid, value.now)) }
     ensures atomic { IfSome result (λ value. value.now ≢ Complex) }
     ensures only { (value : TheValue) → Contains (V.objects values.now) (oid, value)

@@ -1,4 +1,4 @@
-ghost use Rattle.std.specs.Prelude.{◌≡◌, ◌++◌, map, Contains, IfOk, OnOk};
+ghost use Rattle.std.specs.Prelude.{◌≡◌, ◌⊎◌, ◌++◌, map, true, false, Contains, IfOk, OnOk};
 ghost use Rattle.lore_base.specs.Walks.{edge_cmp};
 ghost use Rattle.sorted_list.specs.SortedLists.{Ascends};
 ghost use Rattle.value_changes.specs.inside.Sets.{AreSetOf};
@@ -117,9 +117,25 @@ pub(crate) fn moving_pairs(
 {
     let mut moving = PairList::with_capacity(alloc, pairs.len())?;
     'pairs: for pair in pairs {
-        if is_among(given, &pair.object) || !is_among(others, pair) {
+        if is_moving(pair, others, given) {
             moving.push(*pair)?;
         }
     }
     Ok(moving)
+}
+
+// Whether the pair isn't one of the others, or its object was given a value. Where all objects are
+// new there are no others, so the many that are given aren't searched.
+fn is_moving(pair: &Pair, others: &[Pair], given: &[Oid]) -> bool
+    requires others { Ascends pair_cmp others.now }
+    requires given { Ascends oid_cmp given.now }
+    ensures yes { result ≡ true
+        → Contains given.now pair.now.object ⊎ (¬ Contains others.now pair.now) }
+    ensures no { result ≡ false
+        → (¬ Contains given.now pair.now.object) × Contains others.now pair.now }
+{
+    if !is_among(others, pair) {
+        return true;
+    }
+    is_among(given, &pair.object)
 }

@@ -1,160 +1,267 @@
--- What becomes of an order, and of the list of entries that the orders stand for, where entries go and come.
-use Rattle.std.proofs.Common.{◌≡◌, ◌≢◌, inl, inr, List, All, Contains, subst, refl, sym}
+-- What becomes of values and orders, and of the list of entries that they stand for, where entries go and come.
+use Rattle.std.proofs.Common.{◌≡◌, ◌≢◌, ◌↔◌, ◌⊎◌, ◌<◌, ◌^◌, ◌||◌, inl, inr, Bool, true, false, not, Equal, List, map, length, All, Contains, subst, refl, sym, ap, ◌∙◌}
+use Rattle.std.proofs.lemmas.Bool.{true≢false, false_from_ne_true, or_left, or_right, or_parts}
+use Rattle.std.proofs.lemmas.Cmp.{tied_itself}
 use Rattle.std.proofs.lemmas.List.Elements.{All-contains}
-use Rattle.list_laws.proofs.MemberLaws.{All-from_members}
-use Rattle.index_traits.specs.Entries.{AreAscendingEntries, entry_of}
+use Rattle.list_laws.proofs.MemberLaws.{All-from_members, Contains-map, Contains-from_map}
+use Rattle.lore_base.specs.Databases.{IsLive}
+use Rattle.lore_base.proofs.MemberLaws.{Contains-none, Contains-same, Contains-filter, unfiltered}
+use Rattle.index_traits.specs.Entries.{AreAscendingEntries, entry_of, entry_cmp}
+use Rattle.index_traits.proofs.ObjectLaws.{told_live, entry_cmp_total}
 use Rattle.sorted_list.specs.SortedLists.{IsThen, IsChange, IsLessWith}
-use Rattle.value_index.specs.Types.{Value, Complex, ValueEntry, Entry}
+use Rattle.value_index.specs.Types.{Oid, Label, Value, Whole, Chars, Flag, Complex, ValueEntry, Entry, Kind, Wholes, Texts, Flags, Readings, FlagReadings}
 use Rattle.value_index.specs.Values.{FitsEntries}
-use Rattle.value_index.specs.inside.Keys.{keyed, ListsKeys, IsWhole, IsText, IsFlag, IsReading, IsFlagReading}
-use Rattle.value_index.specs.inside.Orders.{Orders, AreOrders, AreCountedOrders, in_order}
-use Rattle.value_index.proofs.EntryLaws.{one_own}
-use Rattle.value_index.proofs.OrderLaws.{ascend-in_order, atomic-in_order, in_order-exact, orders-like}
+use Rattle.value_index.specs.inside.Kinds.{is_of, own_kind}
+use Rattle.value_index.specs.inside.Held.{AscendByObject, held, has_value, ArePut, less_objects}
+use Rattle.value_index.specs.inside.Entries.{naming, entry_in, held_of, HasOneValueIn, AreHeldIn, names, own_entries}
+use Rattle.value_index.specs.inside.EntryOrder.{AscendByValue}
+use Rattle.value_index.specs.inside.Leaving.{is_staying, leaving_of}
+use Rattle.value_index.specs.inside.Orders.{Orders, orders_of, order_at, entries_at, AreOrders, in_order, AreSortedOrders, AreCountedOrders}
+use Rattle.value_index.proofs.CompareLaws.{of_own, of_atomic, own_of}
+use Rattle.value_index.proofs.KeyLaws.{same_naming, ascend-as}
+use Rattle.value_index.proofs.HeldLaws.{held-member, live-has, has-live, one_object, less-kept, less-from, leaving-ascends}
+use Rattle.value_index.proofs.NameLaws.{names-from, names-to}
+use Rattle.value_index.proofs.EntryLaws.{same_of_equal}
+use Rattle.value_index.proofs.OrderLaws.{ascend-in_order, in_order-exact, orders-like, atomic-in_order, one-in_order, kind-ascends}
 
--- the keys of one kind
-module _ {K : Type 0} (HasKey : Value → K → Type 0) (kept gone come : List ValueEntry) (ascend : AreAscendingEntries kept)
-    (fits : FitsEntries kept gone come) (list going coming : List (Entry K)) (lists : ListsKeys HasKey (Contains kept) list)
-    (goings : ListsKeys HasKey (Contains gone) going) (comings : ListsKeys HasKey (Contains come) coming) where
-  key_goes : (entry : Entry K) → Contains going entry → Contains list entry
-  key_goes entry at =
-      let own = (goings entry.label entry.key entry.object).0 at in
-      (lists entry.label entry.key entry.object).1 (own.0, All-contains (λ e. Contains kept e) gone _ fits.change.kept_ones own.1, own.2)
+-- an entry that has one value by both lists
+entry-as : (old new : List (Oid × Value)) (entry : Entry) → held new entry.object ≡ held old entry.object → entry_in new entry ≡ entry_in old entry
+entry-as old new entry same = λ i. record { label = entry.label; value = same i; object = entry.object }
 
-  key_comes : (entry : Entry K) → Contains coming entry → Contains list entry → (Contains going entry → ⊥) → ⊥
-  key_comes entry at there stays =
-      let label = entry.label in
-      let object = entry.object in
-      let new = (comings label entry.key object).0 at in
-      let old = (lists label entry.key object).0 there in
-      let old_stays : Contains gone (entry_of label old.0 object) → ⊥ = λ leaves. stays ((goings label entry.key object).1 (old.0, leaves, old.2)) in
-      let same : new.0 ≡ old.0 = fits.one_value (entry_of label new.0 object) (entry_of label old.0 object) (inl new.1) (inr (old.1, old_stays)) refl in
-      All-contains (λ e. ¬ (Contains kept e × (¬ Contains gone e))) come _ fits.change.new_ones new.1
-      (subst (λ (v : Value). Contains kept (entry_of label v object) × (¬ Contains gone (entry_of label v object))) (sym same) (old.1, old_stays))
+-- the order in which the entries of an object stand that has the value
+own-order : (orders : Orders) (value : Value) → (value ≡ Complex → ⊥)
+    → order_at orders (own_kind value) ≡ own_entries orders.wholes orders.chars orders.flags value
+own-order orders (Whole number) atomic = refl
+own-order orders (Chars text) atomic = refl
+own-order orders (Flag flag) atomic = refl
+own-order orders Complex atomic = absurd (atomic refl)
 
-  pub keys-change : IsChange list going coming
-  keys-change = record {
-    kept_ones = All-from_members (λ entry. Contains list entry) going key_goes;
-    new_ones = All-from_members (λ entry. ¬ (Contains list entry × (¬ Contains going entry))) coming (λ entry at old. key_comes entry at old.0 old.1);
-  }
+told_true : (b : Bool) → (b ≡ false → ⊥) → b ≡ true
+told_true true other = refl
+told_true false other = absurd (other refl)
 
-  pub keys-then : (after : List (Entry K)) → IsLessWith list going coming after → ListsKeys HasKey (IsThen kept gone come) after
-  keys-then after less label key object = (
-    λ at. elim ((less (keyed label key object)).0 at) [
-      | inl new ↦ (let own = (comings label key object).0 new in (own.0, inl own.1, own.2))
-      | inr old ↦ (
-          let own = (lists label key object).0 old.0 in
-          (own.0, inr (own.1, λ leaves. old.1 ((goings label key object).1 (own.0, leaves, own.2))), own.2))
-    ],
-    λ own. elim own.1 [
-      | inl new ↦ (less (keyed label key object)).1 (inl ((comings label key object).1 (own.0, new, own.2)))
-      | inr old ↦ (less (keyed label key object)).1 (inr (
-        (lists label key object).1 (own.0, old.0, own.2),
-        λ leaves.
-            let other = (goings label key object).0 leaves in
-            let there = All-contains (λ e. Contains kept e) gone _ fits.change.kept_ones other.1 in
-            let same : other.0 ≡ own.0 = one_own kept ascend label object other.0 own.0 there old.0 in
-            old.1 (subst (λ (v : Value). Contains gone (entry_of label v object)) same other.1),
-      ))
-    ],
-  )
+-- ---- entries go
 
--- the five orders change
-pub record AreChanges (kept gone come : Orders) : Type 0 where
-  pub wholes : IsChange kept.wholes gone.wholes come.wholes
-  pub chars : IsChange kept.chars gone.chars come.chars
-  pub flags : IsChange kept.flags gone.flags come.flags
-  pub readings : IsChange kept.readings gone.readings come.readings
-  pub flag_readings : IsChange kept.flag_readings gone.flag_readings come.flag_readings
+module _ (kept gone : List ValueEntry) (ascend : AreAscendingEntries kept) (inside : All (Contains kept) gone) (old going : Orders)
+    (olds : AreOrders (Contains kept) old) (goings : AreOrders (Contains gone) going) (left : Orders)
+    (less : (kind : Kind) (entry : Entry) → Contains (order_at left kind) entry ↔ (Contains (order_at old kind) entry × (Contains (order_at going kind) entry → ⊥))) where
+  -- what is left is kept and doesn't go
+  left-from : (kind : Kind) (entry : Entry) → Contains (order_at left kind) entry
+      → Contains kept (entry_in old.values entry) × ((Contains gone (entry_in old.values entry) → ⊥) × (is_of kind (held old.values entry.object) ≡ true))
+  left-from kind entry at =
+      let both = (less kind entry).0 at in
+      let whole = entry_in old.values entry in
+      let there = (olds.listed kind whole).0 (Contains-map (entry_in old.values) (order_at old kind) entry both.0) in (
+        there.0,
+        (
+          λ leaves. (
+              let other = Contains-from_map (entry_in going.values) (order_at going kind) whole ((goings.listed kind whole).1 (leaves, there.1)) in
+              let same = same_naming other.0 entry (ap (λ (e : ValueEntry). e.label) other.2) (ap (λ (e : ValueEntry). e.object) other.2) in
+              both.1 (Contains-same (order_at going kind) other.0 entry same other.1)),
+          there.1,
+        ),
+      )
 
--- and are these then
-pub record AreThen (kept gone come after : Orders) : Type 0 where
-  pub wholes : IsLessWith kept.wholes gone.wholes come.wholes after.wholes
-  pub chars : IsLessWith kept.chars gone.chars come.chars after.chars
-  pub flags : IsLessWith kept.flags gone.flags come.flags after.flags
-  pub readings : IsLessWith kept.readings gone.readings come.readings after.readings
-  pub flag_readings : IsLessWith kept.flag_readings gone.flag_readings come.flag_readings after.flag_readings
+  -- and all of that is left
+  left-to : (kind : Kind) (whole : ValueEntry) → Contains kept whole → (Contains gone whole → ⊥) → is_of kind whole.value ≡ true
+      → (entry : Entry) × Contains (order_at left kind) entry × (entry_in old.values entry ≡ whole)
+  left-to kind whole at stays of =
+      let from = Contains-from_map (entry_in old.values) (order_at old kind) whole ((olds.listed kind whole).1 (at, of)) in
+      let entry = from.0 in (
+        entry,
+        (less kind entry).1 (
+          from.1,
+          λ leaves. (
+              let other = entry_in going.values entry in
+              let own = (goings.listed kind other).0 (Contains-map (entry_in going.values) (order_at going kind) entry leaves) in
+              let there = All-contains (λ e. Contains kept e) gone other inside own.0 in
+              let equal : entry_cmp other whole ≡ Equal = subst (λ (e : ValueEntry). entry_cmp other e ≡ Equal) from.2 (tied_itself entry_cmp_total other) in
+              stays (subst (λ (e : ValueEntry). Contains gone e) (same_of_equal kept ascend other whole there at equal) own.0)),
+        ),
+        from.2,
+      )
 
-module _ (kept gone come : List ValueEntry) (ascend : AreAscendingEntries kept) (atomic : (entry : ValueEntry) → Contains kept entry → entry.value ≢ Complex)
-    (fits : FitsEntries kept gone come) (list going coming : Orders) (lists : AreOrders (Contains kept) list)
-    (goings : AreOrders (Contains gone) going) (comings : AreOrders (Contains come) coming) where
-  pub orders-change : AreChanges list going coming
-  orders-change = record {
-    wholes = keys-change IsWhole kept gone come ascend fits list.wholes going.wholes coming.wholes lists.wholes goings.wholes comings.wholes;
-    chars = keys-change IsText kept gone come ascend fits list.chars going.chars coming.chars lists.chars goings.chars comings.chars;
-    flags = keys-change IsFlag kept gone come ascend fits list.flags going.flags coming.flags lists.flags goings.flags comings.flags;
-    readings = keys-change IsReading kept gone come ascend fits list.readings going.readings coming.readings lists.readings goings.readings comings.readings;
-    flag_readings = keys-change IsFlagReading kept gone come ascend fits list.flag_readings going.flag_readings coming.flag_readings lists.flag_readings goings.flag_readings comings.flag_readings;
-  }
+  -- ---- entries and values come
+  module _ (come : List ValueEntry) (fits : FitsEntries kept gone come) (atomic : (entry : ValueEntry) → Contains kept entry → entry.value ≢ Complex)
+      (coming : Orders) (comings : AreOrders (Contains come) coming) (old_objects : AscendByObject old.values) (going_objects : AscendByObject going.values)
+      (coming_objects : AscendByObject coming.values) where
+    abbrev leaving : List (Oid × Value)
+    leaving = leaving_of coming.values left.wholes left.chars left.flags going.values
 
-  then_atomic : (entry : ValueEntry) → IsThen kept gone come entry → entry.value ≢ Complex
-  then_atomic entry either = elim either [
-    | inl new ↦ All-contains (λ e. e.value ≢ Complex) come entry fits.atomic new
-    | inr old ↦ atomic entry old.0
-  ]
+    pub leaving-ascend : AscendByObject leaving
+    leaving-ascend = leaving-ascends coming.values left.wholes left.chars left.flags going.values going_objects
 
-  module _ (after : Orders) (less : AreThen list going coming after) where
-    keys_then : AreOrders (IsThen kept gone come) after
-    keys_then = record {
-      wholes = keys-then IsWhole kept gone come ascend fits list.wholes going.wholes coming.wholes lists.wholes goings.wholes comings.wholes after.wholes less.wholes;
-      chars = keys-then IsText kept gone come ascend fits list.chars going.chars coming.chars lists.chars goings.chars comings.chars after.chars less.chars;
-      flags = keys-then IsFlag kept gone come ascend fits list.flags going.flags coming.flags lists.flags goings.flags comings.flags after.flags less.flags;
-      readings = keys-then IsReading kept gone come ascend fits list.readings going.readings coming.readings lists.readings goings.readings comings.readings after.readings less.readings;
-      flag_readings = keys-then IsFlagReading kept gone come ascend fits list.flag_readings going.flag_readings coming.flag_readings lists.flag_readings goings.flag_readings comings.flag_readings after.flag_readings less.flag_readings;
-    }
+    -- the value of an object that goes is the one that is kept
+    going-value : (oid : Oid) (value : Value) → Contains going.values (oid, value) → Contains old.values (oid, value)
+    going-value oid value at =
+        let own = goings.values.only (oid, value) at in
+        olds.values.all (entry_of own.0 value oid) (All-contains (λ e. Contains kept e) gone (entry_of own.0 value oid) inside own.1)
 
-    pub orders-less : IsLessWith kept gone come (in_order after)
-    orders-less = in_order-exact (IsThen kept gone come) then_atomic (λ a b first second label object. fits.one_value a b first second object) after keys_then
+    kept-value : (entry : ValueEntry) → Contains kept entry → held old.values entry.object ≡ entry.value
+    kept-value entry at = held-member old.values old_objects entry.object entry.value (olds.values.all entry at)
 
-    pub orders-then : AreCountedOrders after
-    orders-then = record {
-      are = orders-like (IsThen kept gone come) (Contains (in_order after)) (λ entry. ((orders-less entry).1, (orders-less entry).0)) after keys_then;
-      few = fits.few (in_order after) (ascend-in_order after) orders-less;
-    }
+    -- an entry that is kept and doesn't go is left among the entries of its object's value
+    own-left : (entry : ValueEntry) → Contains kept entry → (Contains gone entry → ⊥) → names (own_entries left.wholes left.chars left.flags entry.value) entry.object ≡ true
+    own-left entry at stays =
+        let rest = atomic entry at in
+        let found = left-to (own_kind entry.value) entry at stays (own_of entry.value rest) in
+        let own = names-to (order_at left (own_kind entry.value)) found.0 found.1 in
+        subst (λ (o : Oid). names (own_entries left.wholes left.chars left.flags entry.value) o ≡ true) (ap (λ (e : ValueEntry). e.object) found.2)
+        (subst (λ (l : List Entry). names l found.0.object ≡ true) (own-order left entry.value rest) own)
 
--- what goes stands in an order, so that it is atomic
-pub atomic_gone : (orders : Orders) (kept gone : List ValueEntry) → in_order orders ≡ kept → All (Contains kept) gone
-    → All (λ entry. entry.value ≢ Complex) gone
-atomic_gone orders kept gone kept_is all =
-    All-from_members (λ entry. entry.value ≢ Complex) gone (λ entry at.
-    atomic-in_order orders entry (subst (λ (l : List ValueEntry). Contains l entry) (sym kept_is) (All-contains (λ e. Contains kept e) gone entry all at)))
+    -- so that its object stays
+    stays-alive : (entry : ValueEntry) → Contains kept entry → (Contains gone entry → ⊥) → IsLive leaving entry.object → ⊥
+    stays-alive entry at stays live =
+        let passed = unfiltered (λ (o : Oid × Value). not (is_staying coming.values left.wholes left.chars left.flags o)) going.values (entry.object, live.0) live.1 in
+        let same : live.0 ≡ entry.value = sym (held-member old.values old_objects entry.object live.0 (going-value entry.object live.0 passed.0)) ∙ kept-value entry at in
+        let named : names (own_entries left.wholes left.chars left.flags live.0) entry.object ≡ true
+        = subst (λ (v : Value). names (own_entries left.wholes left.chars left.flags v) entry.object ≡ true) (sym same) (own-left entry at stays) in
+        let staying = or_right (has_value coming.values entry.object) (names (own_entries left.wholes left.chars left.flags live.0) entry.object) named in
+        true≢false (sym passed.1 ∙ ap not staying)
 
--- The orders as the entries are seen.
+    module _ (now : List (Oid × Value)) (put : ArePut coming.values (less_objects leaving old.values) now) where
+      -- objects have the values that come
+      come-value : (object : Oid × Value) → Contains coming.values object → held now object.0 ≡ object.1
+      come-value object at = held-member now put.ascend object.0 object.1 ((put.members object).1 (inl at))
 
-pub seen_orders : (orders : Orders) (entries : List ValueEntry) → in_order orders ≡ entries → AreOrders (Contains (in_order orders)) orders
-    → AreOrders (Contains entries) orders
-seen_orders orders entries is are = subst (λ (l : List ValueEntry). AreOrders (Contains l) orders) is are
+      pub comes-as : (kind : Kind) (entry : Entry) → Contains (order_at coming kind) entry → held now entry.object ≡ held coming.values entry.object
+      comes-as kind entry at =
+          let whole = entry_in coming.values entry in
+          let own = (comings.listed kind whole).0 (Contains-map (entry_in coming.values) (order_at coming kind) entry at) in
+          come-value (held_of whole) (comings.values.all whole own.0)
 
-pub seen_ascend : (orders : Orders) (entries : List ValueEntry) → in_order orders ≡ entries → AreAscendingEntries entries
-seen_ascend orders entries is = subst (λ (l : List ValueEntry). AreAscendingEntries l) is (ascend-in_order orders)
+      -- or those that they have where an entry stays
+      stays-value : (entry : ValueEntry) → Contains kept entry → (Contains gone entry → ⊥) → Contains now (held_of entry)
+      stays-value entry at stays = elim (told_live coming.values entry.object) [
+        | inl live ↦ (
+            let own = comings.values.only (entry.object, live.0) live.1 in
+            let same : live.0 ≡ entry.value = fits.one_value (entry_of own.0 live.0 entry.object) entry (inl own.1) (inr (at, stays)) refl in
+            (put.members (held_of entry)).1 (inl (subst (λ (v : Value). Contains coming.values (entry.object, v)) same live.1)))
+        | inr none ↦
+            (put.members (held_of entry)).1 (inr (less-kept leaving old.values (held_of entry) (olds.values.all entry at) (stays-alive entry at stays), none))
+      ]
 
-pub seen_atomic : (orders : Orders) (entries : List ValueEntry) → in_order orders ≡ entries → (entry : ValueEntry) → Contains entries entry
-    → entry.value ≢ Complex
-seen_atomic orders entries is = subst (λ (l : List ValueEntry). (entry : ValueEntry) → Contains l entry → entry.value ≢ Complex) is (atomic-in_order orders)
+      pub stays-as : (kind : Kind) (entry : Entry) → Contains (order_at left kind) entry → held now entry.object ≡ held old.values entry.object
+      stays-as kind entry at =
+          let from = left-from kind entry at in
+          held-member now put.ascend entry.object (held old.values entry.object) (stays-value (entry_in old.values entry) from.0 from.1.0)
 
--- the change of the orders behind entries that are seen otherwise
-module _ (kept gone come : Orders) (kept_are : AreOrders (Contains (in_order kept)) kept) (gone_are : AreOrders (Contains (in_order gone)) gone)
-    (come_are : AreOrders (Contains (in_order come)) come) (kept_view gone_view come_view : List ValueEntry)
-    (kept_is : in_order kept ≡ kept_view) (gone_is : in_order gone ≡ gone_view) (come_is : in_order come ≡ come_view)
-    (fits : FitsEntries kept_view gone_view come_view) where
-  pub commit-change : AreChanges kept gone come
-  commit-change =
-      orders-change kept_view gone_view come_view (seen_ascend kept kept_view kept_is) (seen_atomic kept kept_view kept_is) fits kept gone come
-      (seen_orders kept kept_view kept_is kept_are) (seen_orders gone gone_view gone_is gone_are) (seen_orders come come_view come_is come_are)
+      -- what comes is not left
+      pub comes-new : (kind : Kind) (entry : Entry) → Contains (order_at coming kind) entry → Contains (order_at left kind) entry → ⊥
+      comes-new kind entry comes stays =
+          let new = entry_in coming.values entry in
+          let whole = entry_in old.values entry in
+          let own = (comings.listed kind new).0 (Contains-map (entry_in coming.values) (order_at coming kind) entry comes) in
+          let from = left-from kind entry stays in
+          let value : new.value ≡ whole.value = fits.one_value new whole (inl own.0) (inr (from.0, from.1.0)) refl in
+          let same : new ≡ whole = (λ i. record { label = entry.label; value = value i; object = entry.object }) in
+          All-contains (λ e. ¬ (Contains kept e × (¬ Contains gone e))) come new fits.change.new_ones own.0
+          (subst (λ (e : ValueEntry). Contains kept e × (¬ Contains gone e)) (sym same) (from.0, from.1.0))
 
-  module _ (after : Orders) (less : AreThen kept gone come after) where
-    pub commit-orders : AreCountedOrders after
-    commit-orders =
-        orders-then kept_view gone_view come_view (seen_ascend kept kept_view kept_is) (seen_atomic kept kept_view kept_is) fits kept gone come
-        (seen_orders kept kept_view kept_is kept_are) (seen_orders gone gone_view gone_is gone_are) (seen_orders come come_view come_is come_are) after less
+      pub all-new : (kind : Kind) → All (λ entry. Contains (order_at left kind) entry → ⊥) (order_at coming kind)
+      all-new kind = All-from_members (λ entry. Contains (order_at left kind) entry → ⊥) (order_at coming kind) (comes-new kind)
 
-    pub commit-less : IsLessWith kept_view gone_view come_view (in_order after)
-    commit-less =
-        orders-less kept_view gone_view come_view (seen_ascend kept kept_view kept_is) (seen_atomic kept kept_view kept_is) fits kept gone come
-        (seen_orders kept kept_view kept_is kept_are) (seen_orders gone gone_view gone_is gone_are) (seen_orders come come_view come_is come_are) after less
+      -- ---- the orders then
+      module _ (wholes chars flags readings flag_readings : List Entry)
+          (joined : (kind : Kind) (entry : Entry) → Contains (order_at (orders_of now wholes chars flags readings flag_readings) kind) entry
+          ↔ (Contains (order_at left kind) entry ⊎ Contains (order_at coming kind) entry)) where
+        abbrev after : Orders
+        after = orders_of now wholes chars flags readings flag_readings
 
--- what goes, as it is handed on
-pub goes_as : {X : Type 0} (kept gone come going : List X) → going ≡ gone → IsChange kept gone come → IsChange kept going come
-goes_as {X} kept gone come going is change = subst (λ (l : List X). IsChange kept l come) (sym is) change
+        then-from : (kind : Kind) (whole : ValueEntry) → Contains (entries_at after kind) whole → IsThen kept gone come whole × (is_of kind whole.value ≡ true)
+        then-from kind whole at =
+            let from = Contains-from_map (entry_in now) (order_at after kind) whole at in
+            let entry = from.0 in
+            elim ((joined kind entry).0 from.1) [
+              | inl stays ↦ (
+                  let own = left-from kind entry stays in
+                  let same : entry_in old.values entry ≡ whole = sym (entry-as old.values now entry (stays-as kind entry stays)) ∙ from.2 in
+                  let both = subst (λ (e : ValueEntry). Contains kept e × (¬ Contains gone e)) same (own.0, own.1.0) in
+                  (inr both, subst (λ (e : ValueEntry). is_of kind e.value ≡ true) same own.1.1))
+              | inr comes ↦ (
+                  let same : entry_in coming.values entry ≡ whole = sym (entry-as coming.values now entry (comes-as kind entry comes)) ∙ from.2 in
+                  let own = (comings.listed kind (entry_in coming.values entry)).0 (Contains-map (entry_in coming.values) (order_at coming kind) entry comes) in
+                  (inl (subst (λ (e : ValueEntry). Contains come e) same own.0), subst (λ (e : ValueEntry). is_of kind e.value ≡ true) same own.1))
+            ]
 
-pub gone_as : {X : Type 0} (kept gone come after going : List X) → going ≡ gone → IsLessWith kept going come after → IsLessWith kept gone come after
-gone_as {X} kept gone come after going is less = subst (λ (l : List X). IsLessWith kept l come after) is less
+        then-to : (kind : Kind) (whole : ValueEntry) → IsThen kept gone come whole → is_of kind whole.value ≡ true → Contains (entries_at after kind) whole
+        then-to kind whole is of = elim is [
+          | inl comes ↦ (
+              let from = Contains-from_map (entry_in coming.values) (order_at coming kind) whole ((comings.listed kind whole).1 (comes, of)) in
+              let entry = from.0 in
+              Contains-same (entries_at after kind) (entry_in now entry) whole (entry-as coming.values now entry (comes-as kind entry from.1) ∙ from.2)
+              (Contains-map (entry_in now) (order_at after kind) entry ((joined kind entry).1 (inr from.1))))
+          | inr stays ↦ (
+              let from = left-to kind whole stays.0 stays.1 of in
+              let entry = from.0 in
+              Contains-same (entries_at after kind) (entry_in now entry) whole (entry-as old.values now entry (stays-as kind entry from.1) ∙ from.2)
+              (Contains-map (entry_in now) (order_at after kind) entry ((joined kind entry).1 (inl from.1))))
+        ]
+
+        -- an object that goes and isn't left has no value then
+        still-named : (object : Oid × Value) → Contains old.values object → (IsLive coming.values object.0 → ⊥) → (IsLive leaving object.0 → ⊥) → Contains going.values object
+            → (label : Label) × IsThen kept gone come (entry_of label object.1 object.0)
+        still-named object at none stays goes =
+            let first = olds.values.only object at in
+            let rest = atomic (entry_of first.0 object.1 object.0) first.1 in
+            let own = own_entries left.wholes left.chars left.flags object.1 in
+            let test = is_staying coming.values left.wholes left.chars left.flags object in
+            let unnamed : names own object.0 ≡ false → ⊥
+            = λ no. stays (
+              object.1,
+              Contains-filter (λ (o : Oid × Value). not (is_staying coming.values left.wholes left.chars left.flags o)) going.values object goes
+                  (let absent : has_value coming.values object.0 ≡ false = false_from_ne_true (has_value coming.values object.0) (λ has. none (has-live coming.values object.0 has)) in
+                  ap not (ap (λ (b : Bool). b || names own object.0) absent ∙ no)),
+            ) in
+            let found = names-from own object.0 (told_true (names own object.0) unnamed) in
+            let entry = naming found.0 object.0 in
+            let there : Contains (order_at left (own_kind object.1)) entry = subst (λ (l : List Entry). Contains l entry) (sym (own-order left object.1 rest)) found.1 in
+            let from = left-from (own_kind object.1) entry there in
+            let same : entry_in old.values entry ≡ entry_of found.0 object.1 object.0
+            = (let value = held-member old.values old_objects object.0 object.1 at in λ i. record { label = found.0; value = value i; object = object.0 }) in
+            (found.0, inr (subst (λ (e : ValueEntry). Contains kept e × (¬ Contains gone e)) same (from.0, from.1.0)))
+
+        then-held : AreHeldIn (IsThen kept gone come) now
+        then-held = record {
+          only = λ object at. elim ((put.members object).0 at) [
+            | inl comes ↦ (let own = comings.values.only object comes in (own.0, inl own.1))
+            | inr both ↦ (
+                let kept_too = less-from leaving old.values leaving-ascend object both.0 in
+                let own = olds.values.only object kept_too.0 in
+                elim (told_live going.values object.0) [
+                  | inl live ↦ (
+                      let same : object ≡ (object.0, live.0)
+                      = one_object old.values old_objects object (object.0, live.0) kept_too.0 (going-value object.0 live.0 live.1) refl in
+                      still-named object kept_too.0 both.1 kept_too.1 (subst (λ (o : Oid × Value). Contains going.values o) (sym same) live.1))
+                  | inr none ↦ (
+                    own.0,
+                    inr (own.1, λ leaves. none (object.1, goings.values.all (entry_of own.0 object.1 object.0) leaves)),
+                  )
+                ])
+          ];
+          all = λ entry is. elim is [
+            | inl comes ↦ (put.members (held_of entry)).1 (inl (comings.values.all entry comes))
+            | inr stays ↦ stays-value entry stays.0 stays.1
+          ];
+        }
+
+        then_atomic : (entry : ValueEntry) → IsThen kept gone come entry → entry.value ≢ Complex
+        then_atomic entry either = elim either [
+          | inl new ↦ All-contains (λ e. e.value ≢ Complex) come entry fits.atomic new
+          | inr stays ↦ atomic entry stays.0
+        ]
+
+        then-orders : AreOrders (IsThen kept gone come) after
+        then-orders = record {
+          listed = λ kind whole. (then-from kind whole, λ both. then-to kind whole both.0 both.1);
+          values = then-held;
+        }
+
+        pub orders-less : IsLessWith kept gone come (in_order after)
+        orders-less = in_order-exact (IsThen kept gone come) after then-orders then_atomic (λ a b first second label object. fits.one_value a b first second object)
+
+        pub orders-are : AreOrders (Contains (in_order after)) after
+        orders-are = orders-like (IsThen kept gone come) (Contains (in_order after)) (λ entry. ((orders-less entry).1, (orders-less entry).0)) after then-orders
+
+        pub orders-few : length (in_order after) < 2 ^ 32
+        orders-few = fits.few (in_order after) (ascend-in_order after) orders-less

@@ -1,227 +1,229 @@
--- Values compare as their keys do, in the one order where the one has a key and the other is sought by one.
-use Rattle.std.proofs.Common.{◌≡◌, ◌↔◌, ◌<◌, ◌⊎◌, inl, inr, ℕ, ℤ, Bool, true, false, List, ◌∷◌, length, subst, refl, sym, ap, ◌∙◌, arith}
-use Rattle.std.specs.Prelude.{pos, neg_ℤ, Option, Some, None, IfSome, IfNone}
+-- Values compare as those of some kind do with what they are compared with.
+use Rattle.std.proofs.Common.{◌≡◌, ◌↔◌, ◌⊎◌, inl, inr, ℕ, ℤ, Bool, true, false, List, subst, refl, sym, ap}
+use Rattle.std.specs.Prelude.{Option, Some, None, is_some}
+use Rattle.std.specs.Option.{option_cmp}
 use Rattle.std.specs.Ordering.{int_cmp, bool_cmp}
-use Rattle.std.specs.Str.Parse.{IsNumeral, digits_value}
 use Rattle.std.specs.declared.cmp.Ordering.{Ordering}
+use Rattle.std.proofs.lemmas.Bool.{true≢false, and_parts}
 use Rattle.lore_base.specs.Bytes.{bytes_cmp}
-use Rattle.lore_base.specs.Comparisons.{ReadsAs, ReadsAsFlag, flag_text, CompareAs, Admits, Compares}
+use Rattle.lore_base.specs.Comparisons.{CompareAs, Admits, Compares}
 use Rattle.index_traits.specs.Entries.{IsProbed}
-use Rattle.value_index.specs.Types.{Value, Whole, Chars, Flag, Complex, Op}
-use Rattle.value_index.specs.inside.Keys.{IsWhole, IsText, IsFlag, IsReading, IsFlagReading, SeeksWhole, SeeksFlag}
+use Rattle.value_index.specs.Types.{Value, Whole, Chars, Flag, Complex, Op, Kind, Wholes, Texts, Flags, Readings, FlagReadings}
+use Rattle.value_index.specs.inside.TextReadings.{reading, flag_reading}
+use Rattle.value_index.specs.inside.Kinds.{is_whole, is_text, is_flag, is_of, is_sought, number_in, flag_in, value_cmp, own_kind}
+use Rattle.value_index.proofs.ReadingLaws.{reading_some, reading_from, flag_some, flag_from}
 
-no_minus : (digits : List ℕ) → IsNumeral 10 (45 ∷ digits) → ⊥
-no_minus digits numeral = let digit : 36 < 10 = numeral.1.0 in omega arith
+-- No value is of two of these.
 
--- a text reads as one number
-pub ReadsAs-unique : (text : List ℕ) (a b : ℤ) → ReadsAs text a → ReadsAs text b → a ≡ b
-ReadsAs-unique text a b first second =
-    let one = first.0 in
-    let two = second.0 in
-    elim one.2 [
-      | inl plain ↦ elim two.2 [
-        | inl plain_too ↦ (
-            let same : one.0 ≡ two.0 = sym plain.0 ∙ plain_too.0 in
-            plain.1 ∙ ap (λ (digits : List ℕ). pos (digits_value 10 digits)) same ∙ sym plain_too.1)
-        | inr minus ↦ absurd (no_minus two.0 (subst (λ (l : List ℕ). IsNumeral 10 l) (sym plain.0 ∙ minus.0) one.1))
-      ]
-      | inr minus ↦ elim two.2 [
-        | inl plain ↦ absurd (no_minus one.0 (subst (λ (l : List ℕ). IsNumeral 10 l) (sym plain.0 ∙ minus.0) two.1))
-        | inr minus_too ↦ (
-            let whole : 45 ∷ one.0 ≡ 45 ∷ two.0 = sym minus.0 ∙ minus_too.0 in
-            let same : one.0 ≡ two.0 = cc in
-            minus.1 ∙ ap (λ (digits : List ℕ). neg_ℤ (pos (digits_value 10 digits))) same ∙ sym minus_too.1)
-      ]
-    ]
+pub text_whole : (value : Value) → is_text value ≡ true → is_whole value ≡ true → ⊥
+text_whole (Whole number) text whole = true≢false (sym text)
+text_whole (Chars chars) text whole = true≢false (sym whole)
+text_whole (Flag flag) text whole = true≢false (sym text)
+text_whole Complex text whole = true≢false (sym text)
 
-flags_differ : flag_text true ≡ flag_text false → ⊥
-flags_differ same = let lengths : 4 ≡ 5 = ap (λ (l : List ℕ). length l) same in omega (arith, lengths)
+pub text_flag : (value : Value) → is_text value ≡ true → is_flag value ≡ true → ⊥
+text_flag (Whole number) text flag = true≢false (sym text)
+text_flag (Chars chars) text flag = true≢false (sym flag)
+text_flag (Flag other) text flag = true≢false (sym text)
+text_flag Complex text flag = true≢false (sym text)
 
--- and as one flag
-pub ReadsAsFlag-unique : (text : List ℕ) (a b : Bool) → ReadsAsFlag text a → ReadsAsFlag text b → a ≡ b
-ReadsAsFlag-unique text true true first second = refl
-ReadsAsFlag-unique text false false first second = refl
-ReadsAsFlag-unique text true false first second = absurd (flags_differ (sym first ∙ second))
-ReadsAsFlag-unique text false true first second = absurd (flags_differ (sym second ∙ first))
+pub whole_flag : (value : Value) → is_whole value ≡ true → is_flag value ≡ true → ⊥
+whole_flag (Whole number) whole flag = true≢false (sym flag)
+whole_flag (Chars chars) whole flag = true≢false (sym whole)
+whole_flag (Flag other) whole flag = true≢false (sym whole)
+whole_flag Complex whole flag = true≢false (sym whole)
 
--- A value has one key of each kind.
+reading_text : (value : Value) → is_of Readings value ≡ true → is_text value ≡ true
+reading_text value of = (and_parts (is_text value) (is_some (number_in value)) of).0
 
-pub one_whole : (value : Value) (a b : ℤ) → IsWhole value a → IsWhole value b → a ≡ b
-one_whole value a b first second = let same : Whole a ≡ Whole b = sym first ∙ second in cc
+flag_reading_text : (value : Value) → is_of FlagReadings value ≡ true → is_text value ≡ true
+flag_reading_text value of = (and_parts (is_text value) (is_some (flag_in value)) of).0
 
-pub one_text : (value : Value) (a b : List ℕ) → IsText value a → IsText value b → a ≡ b
-one_text value a b first second = let same : Chars a ≡ Chars b = sym first ∙ second in cc
+-- a value of any kind is of its own
+pub of_own : (kind : Kind) (value : Value) → is_of kind value ≡ true → is_of (own_kind value) value ≡ true
+of_own kind (Whole number) of = refl
+of_own kind (Chars text) of = refl
+of_own kind (Flag flag) of = refl
+of_own Wholes Complex of = of
+of_own Texts Complex of = of
+of_own Flags Complex of = absurd (true≢false (sym of))
+of_own Readings Complex of = absurd (true≢false (sym of))
+of_own FlagReadings Complex of = absurd (true≢false (sym of))
 
-pub one_flag : (value : Value) (a b : Bool) → IsFlag value a → IsFlag value b → a ≡ b
-one_flag value a b first second = let same : Flag a ≡ Flag b = sym first ∙ second in cc
+-- so that it is atomic
+pub of_atomic : (kind : Kind) (value : Value) → is_of kind value ≡ true → value ≡ Complex → ⊥
+of_atomic Wholes value of complex = true≢false (sym (subst (λ (v : Value). is_of Wholes v ≡ true) complex of))
+of_atomic Texts value of complex = true≢false (sym (subst (λ (v : Value). is_of Texts v ≡ true) complex of))
+of_atomic Flags value of complex = true≢false (sym (subst (λ (v : Value). is_of Flags v ≡ true) complex of))
+of_atomic Readings value of complex = true≢false (sym (subst (λ (v : Value). is_of Readings v ≡ true) complex of))
+of_atomic FlagReadings value of complex = true≢false (sym (subst (λ (v : Value). is_of FlagReadings v ≡ true) complex of))
 
-pub one_reading : (value : Value) (a b : ℤ) → IsReading value a → IsReading value b → a ≡ b
-one_reading value a b first second =
-    let texts : first.0 ≡ second.0 = one_text value first.0 second.0 first.1 second.1 in
-    ReadsAs-unique second.0 a b (subst (λ (l : List ℕ). ReadsAs l a) texts first.2) second.2
-
-pub one_flag_reading : (value : Value) (a b : Bool) → IsFlagReading value a → IsFlagReading value b → a ≡ b
-one_flag_reading value a b first second =
-    let texts : first.0 ≡ second.0 = one_text value first.0 second.0 first.1 second.1 in
-    ReadsAsFlag-unique second.0 a b (subst (λ (l : List ℕ). ReadsAsFlag l a) texts first.2) second.2
-
--- which is the one that is found
-pub only_key : {K : Type 0} (P : K → Type 0) → ((a b : K) → P a → P b → a ≡ b) → (found : Option K)
-    → IfSome found (λ key. P key) → IfNone found ((key : K) → ¬ P key) → (own : K) → P own → found ≡ Some own
-only_key P one None some none own has = absurd (none own has)
-only_key P one (Some key) some none own has = ap Some (one key own some has)
-
--- and it is sought by one
-whole_text : (value : Value) (number : ℤ) (text : List ℕ) → value ≡ Whole number → value ≡ Chars text → ⊥
-whole_text value number text first second = let same : Whole number ≡ Chars text = sym first ∙ second in absurd (cc)
-
-whole_flag : (value : Value) (number : ℤ) (flag : Bool) → value ≡ Whole number → value ≡ Flag flag → ⊥
-whole_flag value number flag first second = let same : Whole number ≡ Flag flag = sym first ∙ second in absurd (cc)
-
-text_flag : (value : Value) (text : List ℕ) (flag : Bool) → value ≡ Chars text → value ≡ Flag flag → ⊥
-text_flag value text flag first second = let same : Chars text ≡ Flag flag = sym first ∙ second in absurd (cc)
-
-pub one_sought_whole : (value : Value) (a b : ℤ) → SeeksWhole value a → SeeksWhole value b → a ≡ b
-one_sought_whole value a b (inl first) (inl second) = one_whole value a b first second
-one_sought_whole value a b (inr first) (inr second) = one_reading value a b first second
-one_sought_whole value a b (inl first) (inr second) = absurd (whole_text value a second.0 first second.1)
-one_sought_whole value a b (inr first) (inl second) = absurd (whole_text value b first.0 second first.1)
-
-pub one_sought_flag : (value : Value) (a b : Bool) → SeeksFlag value a → SeeksFlag value b → a ≡ b
-one_sought_flag value a b (inl first) (inl second) = one_flag value a b first second
-one_sought_flag value a b (inr first) (inr second) = one_flag_reading value a b first second
-one_sought_flag value a b (inl first) (inr second) = absurd (text_flag value second.0 a second.1 first)
-one_sought_flag value a b (inr first) (inl second) = absurd (text_flag value first.0 b first.1 second)
+-- and an atomic one is of its own kind
+pub own_of : (value : Value) → (value ≡ Complex → ⊥) → is_of (own_kind value) value ≡ true
+own_of (Whole number) atomic = refl
+own_of (Chars text) atomic = refl
+own_of (Flag flag) atomic = refl
+own_of Complex atomic = absurd (atomic refl)
 
 -- Which order compares two values.
 
--- one value has a key, the other is sought by one, and these compare so
-abbrev pub KeysCompare : {K : Type 0} → (Value → K → Type 0) → (Value → K → Type 0) → (K → K → Ordering) → Op → Value → Value → Type 0
-KeysCompare {K} HasKey Seeks cmp op value own =
-    (key : K) × HasKey own key × ((sought : K) × Seeks value sought × Admits op (cmp key sought))
+-- the one is of the kind, the other is compared with its values, and they compare so
+abbrev pub ByKind : Kind → Op → Value → Value → Type 0
+ByKind kind op value own = (is_of kind own ≡ true) × ((is_sought kind value ≡ true) × Admits op (value_cmp kind own value))
 
-abbrev pub ByWholes : Op → Value → Value → Type 0
-ByWholes op value own = KeysCompare IsWhole SeeksWhole int_cmp op value own
-
-abbrev pub ByTexts : Op → Value → Value → Type 0
-ByTexts op value own = KeysCompare IsText IsText bytes_cmp op value own
-
-abbrev pub ByFlags : Op → Value → Value → Type 0
-ByFlags op value own = KeysCompare IsFlag SeeksFlag bool_cmp op value own
-
-abbrev pub ByReadings : Op → Value → Value → Type 0
-ByReadings op value own = KeysCompare IsReading IsWhole int_cmp op value own
-
-abbrev pub ByFlagReadings : Op → Value → Value → Type 0
-ByFlagReadings op value own = KeysCompare IsFlagReading IsFlag bool_cmp op value own
-
--- what is left without some of these
+-- what is left without some of the kinds
 abbrev pub ByReads : Op → Value → Value → Type 0
-ByReads op value own = ByReadings op value own ⊎ ByFlagReadings op value own
+ByReads op value own = ByKind Readings op value own ⊎ ByKind FlagReadings op value own
 
 abbrev pub ByNoText : Op → Value → Value → Type 0
-ByNoText op value own = ByFlags op value own ⊎ ByReads op value own
+ByNoText op value own = ByKind Flags op value own ⊎ ByReads op value own
 
 abbrev pub ByNoWhole : Op → Value → Value → Type 0
-ByNoWhole op value own = ByTexts op value own ⊎ ByNoText op value own
+ByNoWhole op value own = ByKind Texts op value own ⊎ ByNoText op value own
 
-abbrev pub ByKeys : Op → Value → Value → Type 0
-ByKeys op value own = ByWholes op value own ⊎ ByNoWhole op value own
+abbrev pub ByKinds : Op → Value → Value → Type 0
+ByKinds op value own = ByKind Wholes op value own ⊎ ByNoWhole op value own
 
-ordered_by : (op : Op) (own value : Value) (order : Ordering) → CompareAs own value order → Admits op order → ByKeys op value own
-ordered_by op (Whole a) (Whole b) order is admits = inl (a, refl, (b, inl refl, subst (λ (o : Ordering). Admits op o) is admits))
+ordered_by : (op : Op) (own value : Value) (order : Ordering) → CompareAs own value order → Admits op order → ByKinds op value own
+ordered_by op (Whole a) (Whole b) order is admits = inl (refl, (refl, subst (λ (o : Ordering). Admits op o) is admits))
 ordered_by op (Whole a) (Chars b) order is admits =
-    inl (a, refl, (is.0, inr (b, refl, is.1), subst (λ (o : Ordering). Admits op o) is.2 admits))
+    let key : reading b ≡ Some is.0 = reading_from b is.0 is.1 in
+    inl (refl, (ap is_some key, subst (λ (r : Option ℤ). Admits op (option_cmp int_cmp (Some a) r)) (sym key) (subst (λ (o : Ordering). Admits op o) is.2 admits)))
 ordered_by op (Whole a) (Flag b) order is admits = absurd is
 ordered_by op (Whole a) Complex order is admits = absurd is
 ordered_by op (Chars a) (Whole b) order is admits =
-    inr (inr (inr (inl (is.0, (a, refl, is.1), (b, refl, subst (λ (o : Ordering). Admits op o) is.2 admits)))))
-ordered_by op (Chars a) (Chars b) order is admits = inr (inl (a, refl, (b, refl, subst (λ (o : Ordering). Admits op o) is admits)))
+    let key : reading a ≡ Some is.0 = reading_from a is.0 is.1 in
+    inr (inr (inr (inl (ap is_some key, (refl, subst (λ (r : Option ℤ). Admits op (option_cmp int_cmp r (Some b))) (sym key) (subst (λ (o : Ordering). Admits op o) is.2 admits))))))
+ordered_by op (Chars a) (Chars b) order is admits = inr (inl (refl, (refl, subst (λ (o : Ordering). Admits op o) is admits)))
 ordered_by op (Chars a) (Flag b) order is admits =
-    inr (inr (inr (inr (is.0, (a, refl, is.1), (b, refl, subst (λ (o : Ordering). Admits op o) is.2 admits)))))
+    let key : flag_reading a ≡ Some is.0 = flag_from a is.0 is.1 in
+    inr (inr (inr (inr (ap is_some key, (refl, subst (λ (r : Option Bool). Admits op (option_cmp bool_cmp r (Some b))) (sym key) (subst (λ (o : Ordering). Admits op o) is.2 admits))))))
 ordered_by op (Chars a) Complex order is admits = absurd is
 ordered_by op (Flag a) (Whole b) order is admits = absurd is
 ordered_by op (Flag a) (Chars b) order is admits =
-    inr (inr (inl (a, refl, (is.0, inr (b, refl, is.1), subst (λ (o : Ordering). Admits op o) is.2 admits))))
-ordered_by op (Flag a) (Flag b) order is admits =
-    inr (inr (inl (a, refl, (b, inl refl, subst (λ (o : Ordering). Admits op o) is admits))))
+    let key : flag_reading b ≡ Some is.0 = flag_from b is.0 is.1 in
+    inr (inr (inl (refl, (ap is_some key, subst (λ (r : Option Bool). Admits op (option_cmp bool_cmp (Some a) r)) (sym key) (subst (λ (o : Ordering). Admits op o) is.2 admits)))))
+ordered_by op (Flag a) (Flag b) order is admits = inr (inr (inl (refl, (refl, subst (λ (o : Ordering). Admits op o) is admits))))
 ordered_by op (Flag a) Complex order is admits = absurd is
 ordered_by op Complex (Whole b) order is admits = absurd is
 ordered_by op Complex (Chars b) order is admits = absurd is
 ordered_by op Complex (Flag b) order is admits = absurd is
 ordered_by op Complex Complex order is admits = absurd is
 
-compares_as : (op : Op) (own value a b : Value) → own ≡ a → value ≡ b → (order : Ordering) → CompareAs a b order → Admits op order → Compares own op value
-compares_as op own value a b own_is value_is order is admits = rw (own_is, value_is) (inl (order, is, admits))
+no : {P : Type 0} → false ≡ true → P
+no h = absurd (true≢false (sym h))
 
-by_wholes : (op : Op) (own value : Value) → ByWholes op value own → Compares own op value
-by_wholes op own value held =
-    let order = int_cmp held.0 held.2.0 in
-    elim held.2.1 [
-      | inl is ↦ compares_as op own value (Whole held.0) (Whole held.2.0) held.1 is order refl held.2.2
-      | inr reads ↦ compares_as op own value (Whole held.0) (Chars reads.0) held.1 reads.1 order (held.2.0, reads.2, refl) held.2.2
-    ]
+by_wholes : (op : Op) (own value : Value) → ByKind Wholes op value own → Compares own op value
+by_wholes op (Whole a) (Whole b) by = inl (int_cmp a b, refl, by.1.1)
+by_wholes op (Whole a) (Chars b) by =
+    elim (reading b) as (λ (r : Option ℤ). reading b ≡ r → is_some r ≡ true → Admits op (option_cmp int_cmp (Some a) r) → Compares (Whole a) op (Chars b)) [
+      | None ↦ λ _ none _. no none
+      | Some number ↦ λ is _ admits. inl (int_cmp a number, (number, reading_some b number is, refl), admits)
+    ] refl by.1.0 by.1.1
+by_wholes op (Whole a) (Flag b) by = no by.1.0
+by_wholes op (Whole a) Complex by = no by.1.0
+by_wholes op (Chars a) value by = no by.0
+by_wholes op (Flag a) value by = no by.0
+by_wholes op Complex value by = no by.0
 
-by_flags : (op : Op) (own value : Value) → ByFlags op value own → Compares own op value
-by_flags op own value held =
-    let order = bool_cmp held.0 held.2.0 in
-    elim held.2.1 [
-      | inl is ↦ compares_as op own value (Flag held.0) (Flag held.2.0) held.1 is order refl held.2.2
-      | inr reads ↦ compares_as op own value (Flag held.0) (Chars reads.0) held.1 reads.1 order (held.2.0, reads.2, refl) held.2.2
-    ]
+by_texts : (op : Op) (own value : Value) → ByKind Texts op value own → Compares own op value
+by_texts op (Chars a) (Chars b) by = inl (bytes_cmp a b, refl, by.1.1)
+by_texts op (Chars a) (Whole b) by = no by.1.0
+by_texts op (Chars a) (Flag b) by = no by.1.0
+by_texts op (Chars a) Complex by = no by.1.0
+by_texts op (Whole a) value by = no by.0
+by_texts op (Flag a) value by = no by.0
+by_texts op Complex value by = no by.0
 
--- a comparison that asks for an order holds exactly where some order has keys that compare so
-pub compares_by : (op : Op) → IsProbed op → (own value : Value) → Compares own op value ↔ ByKeys op value own
+by_flags : (op : Op) (own value : Value) → ByKind Flags op value own → Compares own op value
+by_flags op (Flag a) (Flag b) by = inl (bool_cmp a b, refl, by.1.1)
+by_flags op (Flag a) (Chars b) by =
+    elim (flag_reading b) as (λ (r : Option Bool). flag_reading b ≡ r → is_some r ≡ true → Admits op (option_cmp bool_cmp (Some a) r) → Compares (Flag a) op (Chars b)) [
+      | None ↦ λ _ none _. no none
+      | Some flag ↦ λ is _ admits. inl (bool_cmp a flag, (flag, flag_some b flag is, refl), admits)
+    ] refl by.1.0 by.1.1
+by_flags op (Flag a) (Whole b) by = no by.1.0
+by_flags op (Flag a) Complex by = no by.1.0
+by_flags op (Whole a) value by = no by.0
+by_flags op (Chars a) value by = no by.0
+by_flags op Complex value by = no by.0
+
+by_readings : (op : Op) (own value : Value) → ByKind Readings op value own → Compares own op value
+by_readings op (Chars a) (Whole b) by =
+    elim (reading a) as (λ (r : Option ℤ). reading a ≡ r → is_some r ≡ true → Admits op (option_cmp int_cmp r (Some b)) → Compares (Chars a) op (Whole b)) [
+      | None ↦ λ _ none _. no none
+      | Some number ↦ λ is _ admits. inl (int_cmp number b, (number, reading_some a number is, refl), admits)
+    ] refl by.0 by.1.1
+by_readings op (Chars a) (Chars b) by = no by.1.0
+by_readings op (Chars a) (Flag b) by = no by.1.0
+by_readings op (Chars a) Complex by = no by.1.0
+by_readings op (Whole a) value by = no by.0
+by_readings op (Flag a) value by = no by.0
+by_readings op Complex value by = no by.0
+
+by_flag_readings : (op : Op) (own value : Value) → ByKind FlagReadings op value own → Compares own op value
+by_flag_readings op (Chars a) (Flag b) by =
+    elim (flag_reading a) as (λ (r : Option Bool). flag_reading a ≡ r → is_some r ≡ true → Admits op (option_cmp bool_cmp r (Some b)) → Compares (Chars a) op (Flag b)) [
+      | None ↦ λ _ none _. no none
+      | Some flag ↦ λ is _ admits. inl (bool_cmp flag b, (flag, flag_some a flag is, refl), admits)
+    ] refl by.0 by.1.1
+by_flag_readings op (Chars a) (Chars b) by = no by.1.0
+by_flag_readings op (Chars a) (Whole b) by = no by.1.0
+by_flag_readings op (Chars a) Complex by = no by.1.0
+by_flag_readings op (Whole a) value by = no by.0
+by_flag_readings op (Flag a) value by = no by.0
+by_flag_readings op Complex value by = no by.0
+
+-- a comparison that asks for an order holds exactly where values of some kind compare so
+pub compares_by : (op : Op) → IsProbed op → (own value : Value) → Compares own op value ↔ ByKinds op value own
 compares_by op probed own value = (
   λ either. elim either [
     | inl h ↦ ordered_by op own value h.0 h.1 h.2
     | inr like ↦ absurd (probed.no_pattern like.0)
   ],
-  λ held. elim held [
+  λ by. elim by [
     | inl whole ↦ by_wholes op own value whole
     | inr other ↦ elim other [
-      | inl text ↦ compares_as op own value (Chars text.0) (Chars text.2.0) text.1 text.2.1 (bytes_cmp text.0 text.2.0) refl text.2.2
+      | inl text ↦ by_texts op own value text
       | inr no_text ↦ elim no_text [
         | inl flag ↦ by_flags op own value flag
         | inr read ↦ elim read [
-          | inl number ↦ compares_as op own value (Chars number.1.0) (Whole number.2.0) number.1.1 number.2.1
-              (int_cmp number.0 number.2.0) (number.0, number.1.2, refl) number.2.2
-          | inr flag ↦ compares_as op own value (Chars flag.1.0) (Flag flag.2.0) flag.1.1 flag.2.1
-              (bool_cmp flag.0 flag.2.0) (flag.0, flag.1.2, refl) flag.2.2
+          | inl number ↦ by_readings op own value number
+          | inr flag ↦ by_flag_readings op own value flag
         ]
       ]
     ]
   ],
 )
 
--- No two orders compare two values.
+-- No two kinds compare two values.
 module _ (op : Op) (value own : Value) where
-  pub only_wholes : ByWholes op value own → ByNoWhole op value own → ⊥
+  pub only_wholes : ByKind Wholes op value own → ByNoWhole op value own → ⊥
   only_wholes whole others = elim others [
-    | inl text ↦ whole_text own whole.0 text.0 whole.1 text.1
+    | inl text ↦ text_whole own text.0 whole.0
     | inr no_text ↦ elim no_text [
-      | inl flag ↦ whole_flag own whole.0 flag.0 whole.1 flag.1
+      | inl flag ↦ whole_flag own whole.0 flag.0
       | inr read ↦ elim read [
-        | inl number ↦ whole_text own whole.0 number.1.0 whole.1 number.1.1
-        | inr flag ↦ whole_text own whole.0 flag.1.0 whole.1 flag.1.1
+        | inl number ↦ text_whole own (reading_text own number.0) whole.0
+        | inr flag ↦ text_whole own (flag_reading_text own flag.0) whole.0
       ]
     ]
   ]
 
-  pub only_texts : ByTexts op value own → ByNoText op value own → ⊥
+  pub only_texts : ByKind Texts op value own → ByNoText op value own → ⊥
   only_texts text others = elim others [
-    | inl flag ↦ text_flag own text.0 flag.0 text.1 flag.1
+    | inl flag ↦ text_flag own text.0 flag.0
     | inr read ↦ elim read [
-      | inl number ↦ whole_text value number.2.0 text.2.0 number.2.1 text.2.1
-      | inr flag ↦ text_flag value text.2.0 flag.2.0 text.2.1 flag.2.1
+      | inl number ↦ text_whole value text.1.0 number.1.0
+      | inr flag ↦ text_flag value text.1.0 flag.1.0
     ]
   ]
 
-  pub only_flags : ByFlags op value own → ByReads op value own → ⊥
+  pub only_flags : ByKind Flags op value own → ByReads op value own → ⊥
   only_flags flag others = elim others [
-    | inl number ↦ text_flag own number.1.0 flag.0 number.1.1 flag.1
-    | inr read ↦ text_flag own read.1.0 flag.0 read.1.1 flag.1
+    | inl number ↦ text_flag own (reading_text own number.0) flag.0
+    | inr read ↦ text_flag own (flag_reading_text own read.0) flag.0
   ]
 
-  pub only_readings : ByReadings op value own → ByFlagReadings op value own → ⊥
-  only_readings number flag = whole_flag value number.2.0 flag.2.0 number.2.1 flag.2.1
+  pub only_readings : ByKind Readings op value own → ByKind FlagReadings op value own → ⊥
+  only_readings number flag = whole_flag value number.1.0 flag.1.0

@@ -1,41 +1,36 @@
 -- The one list of entries that the orders stand for: which entries it holds, and that they ascend.
-use Rattle.std.proofs.Common.{◌≡◌, ◌≢◌, ◌↔◌, inl, inr, ℕ, ℤ, Bool, Less, List, [], ◌++◌, map, All, Contains, subst, refl, sym, ◌∙◌}
+use Rattle.std.proofs.Common.{◌≡◌, ◌≢◌, ◌↔◌, ◌<◌, ◌^◌, inl, inr, Bool, true, Less, List, [], ◌++◌, map, length, All, Contains, subst, refl, sym, ap, ◌∙◌, arith}
 use Rattle.std.proofs.lemmas.List.Elements.{Contains-append_left, Contains-append_right, Contains-append_cases, All-contains}
 use Rattle.lore_base.proofs.ListLaws.{AllPairs-unique}
-use Rattle.lore_base.proofs.MemberLaws.{Contains-none, Contains-same}
-use Rattle.list_laws.proofs.MemberLaws.{Contains-map, Contains-from_map}
+use Rattle.lore_base.proofs.MemberLaws.{Contains-none}
 use Rattle.index_traits.specs.Entries.{AreAscendingEntries, entry_of, entry_cmp}
-use Rattle.value_index.specs.Types.{Oid, Label, Value, Whole, Chars, Flag, Complex, ValueEntry, Entry}
-use Rattle.value_index.specs.inside.Keys.{keyed, ListsKeys, IsWhole, IsText, IsFlag, IsReading, IsFlagReading}
-use Rattle.value_index.specs.inside.Orders.{Orders, orders_of, AreOrders, value_entry, value_entries, in_order}
+use Rattle.sorted_list.specs.SortedLists.{Ascends}
+use Rattle.value_index.specs.Types.{Oid, Label, Value, Whole, Chars, Flag, Complex, ValueEntry, Entry, Kind, Wholes, Texts, Flags, Readings, FlagReadings}
+use Rattle.value_index.specs.inside.Kinds.{is_of}
+use Rattle.value_index.specs.inside.Held.{held, AscendByObject}
+use Rattle.value_index.specs.inside.Entries.{entry_in, held_of, HasOneValueIn, AreHeldIn}
+use Rattle.value_index.specs.inside.EntryOrder.{AscendByValue}
+use Rattle.value_index.specs.inside.Orders.{Orders, orders_of, order_at, entries_at, AreOrders, value_entries, in_order, AreSortedOrders, AreCountedOrders}
+use Rattle.value_index.proofs.CompareLaws.{of_atomic}
+use Rattle.value_index.proofs.HeldLaws.{held-member}
 use Rattle.value_index.proofs.EntryLaws.{same_label, same_object, same_entry, in-with, new-with, ascend-with, ascend-none, less_once, one_own}
 
--- the entries of keys that are values
-module _ {K : Type 0} (make : K → Value) (list : List (Entry K)) (entry : ValueEntry) where
-  part-from : Contains (map (value_entry make) list) entry → (key : K) × Contains list (keyed entry.label key entry.object) × (entry.value ≡ make key)
-  part-from at =
-      let own = Contains-from_map (value_entry make) list entry at in
-      subst (λ (e : ValueEntry). (key : K) × Contains list (keyed e.label key e.object) × (e.value ≡ make key)) own.2 (own.0.key, own.1, refl)
+-- what holds of each kind
+pub each_kind : (P : Kind → Type 0) → P Wholes → P Texts → P Flags → P Readings → P FlagReadings → (kind : Kind) → P kind
+each_kind P wholes texts flags readings flag_readings Wholes = wholes
+each_kind P wholes texts flags readings flag_readings Texts = texts
+each_kind P wholes texts flags readings flag_readings Flags = flags
+each_kind P wholes texts flags readings flag_readings Readings = readings
+each_kind P wholes texts flags readings flag_readings FlagReadings = flag_readings
 
-  part-to : (key : K) → Contains list (keyed entry.label key entry.object) → entry.value ≡ make key → Contains (map (value_entry make) list) entry
-  part-to key at is =
-      let back = sym is in
-      Contains-same (map (value_entry make) list) (value_entry make (keyed entry.label key entry.object)) entry
-      (λ i. record { label = entry.label; value = back i; object = entry.object })
-      (Contains-map (value_entry make) list (keyed entry.label key entry.object) at)
-
-  -- are atomic where these are
-  part-atomic : ((key : K) → make key ≡ Complex → ⊥) → Contains (map (value_entry make) list) entry → entry.value ≢ Complex
-  part-atomic atomic at complex = let part = part-from at in atomic part.0 (sym part.2 ∙ complex)
-
--- one after another
-by_parts : (orders : Orders) (entry : ValueEntry) (P : Type 0) → (Contains (map (value_entry Whole) orders.wholes) entry → P)
-    → (Contains (map (value_entry Chars) orders.chars) entry → P) → (Contains (map (value_entry Flag) orders.flags) entry → P)
+-- one part after another
+by_parts : (orders : Orders) (entry : ValueEntry) (P : Type 0) → (Contains (entries_at orders Wholes) entry → P)
+    → (Contains (entries_at orders Texts) entry → P) → (Contains (entries_at orders Flags) entry → P)
     → Contains (value_entries orders) entry → P
 by_parts orders entry P whole text flag at =
-    elim (Contains-append_cases (map (value_entry Whole) orders.wholes) (map (value_entry Chars) orders.chars ++ map (value_entry Flag) orders.flags) entry at) [
+    elim (Contains-append_cases (entries_at orders Wholes) (entries_at orders Texts ++ entries_at orders Flags) entry at) [
       | inl first ↦ whole first
-      | inr rest ↦ elim (Contains-append_cases (map (value_entry Chars) orders.chars) (map (value_entry Flag) orders.flags) entry rest) [
+      | inr rest ↦ elim (Contains-append_cases (entries_at orders Texts) (entries_at orders Flags) entry rest) [
         | inl second ↦ text second
         | inr third ↦ flag third
       ]
@@ -48,49 +43,35 @@ module _ (orders : Orders) where
   listed-from : (entry : ValueEntry) → Contains (in_order orders) entry → Contains (value_entries orders) entry
   listed-from entry at = elim (in-with [] (value_entries orders) entry at) [ inl none ↦ absurd (Contains-none entry none) | inr there ↦ there ]
 
-  -- what they hold is atomic
-  pub atomic-in_order : (entry : ValueEntry) → Contains (in_order orders) entry → entry.value ≢ Complex
-  atomic-in_order entry at =
-      by_parts orders entry (entry.value ≢ Complex)
-      (part-atomic Whole orders.wholes entry (λ key same. cc))
-      (part-atomic Chars orders.chars entry (λ key same. cc))
-      (part-atomic Flag orders.flags entry (λ key same. cc))
-      (listed-from entry at)
+  -- an entry stands in the order of some kind
+  pub of_some : (entry : ValueEntry) → Contains (in_order orders) entry → (kind : Kind) × Contains (entries_at orders kind) entry
+  of_some entry at =
+      by_parts orders entry ((kind : Kind) × Contains (entries_at orders kind) entry) (λ there. (Wholes, there)) (λ there. (Texts, there))
+      (λ there. (Flags, there)) (listed-from entry at)
 
-module _ (IsEntry : ValueEntry → Type 0) where
-  part-entry : {K : Type 0} (make : K → Value) (list : List (Entry K)) → ListsKeys (λ value key. value ≡ make key) IsEntry list
-      → (entry : ValueEntry) → Contains (map (value_entry make) list) entry → IsEntry entry
-  part-entry make list lists entry at =
-      let part = part-from make list entry at in
-      let own = (lists entry.label part.0 entry.object).0 part.1 in
-      subst (λ (v : Value). IsEntry (entry_of entry.label v entry.object)) (own.2 ∙ sym part.2) own.1
-
+module _ (IsEntry : ValueEntry → Type 0) (orders : Orders) (are : AreOrders IsEntry orders) where
   module _ (atomic : (entry : ValueEntry) → IsEntry entry → entry.value ≢ Complex)
-      (single : (a b : ValueEntry) → IsEntry a → IsEntry b → a.label ≡ b.label → a.object ≡ b.object → a.value ≡ b.value)
-      (orders : Orders) (are : AreOrders IsEntry orders) where
+      (single : (a b : ValueEntry) → IsEntry a → IsEntry b → a.label ≡ b.label → a.object ≡ b.object → a.value ≡ b.value) where
     values-from : (entry : ValueEntry) → Contains (value_entries orders) entry → IsEntry entry
     values-from entry at =
-        by_parts orders entry (IsEntry entry)
-        (part-entry Whole orders.wholes are.wholes entry)
-        (part-entry Chars orders.chars are.chars entry)
-        (part-entry Flag orders.flags are.flags entry) at
+        by_parts orders entry (IsEntry entry) (λ there. ((are.listed Wholes entry).0 there).0) (λ there. ((are.listed Texts entry).0 there).0)
+        (λ there. ((are.listed Flags entry).0 there).0) at
 
     values-to : (entry : ValueEntry) → IsEntry entry → Contains (value_entries orders) entry
     values-to entry is =
-        let wholes = map (value_entry Whole) orders.wholes in
-        let chars = map (value_entry Chars) orders.chars in
-        let flags = map (value_entry Flag) orders.flags in
+        let wholes = entries_at orders Wholes in
+        let chars = entries_at orders Texts in
+        let flags = entries_at orders Flags in
         elim entry.value as (λ (v : Value). entry.value ≡ v → Contains (value_entries orders) entry) [
-          | Whole number ↦ λ value_is. Contains-append_left wholes (chars ++ flags) entry
-              (part-to Whole orders.wholes entry number ((are.wholes entry.label number entry.object).1 (entry.value, is, value_is)) value_is)
+          | Whole number ↦ λ value_is. Contains-append_left wholes (chars ++ flags) entry ((are.listed Wholes entry).1 (is, ap (is_of Wholes) value_is))
           | Chars text ↦ λ value_is. Contains-append_right wholes (chars ++ flags) entry (Contains-append_left chars flags entry
-              (part-to Chars orders.chars entry text ((are.chars entry.label text entry.object).1 (entry.value, is, value_is)) value_is))
+              ((are.listed Texts entry).1 (is, ap (is_of Texts) value_is)))
           | Flag flag ↦ λ value_is. Contains-append_right wholes (chars ++ flags) entry (Contains-append_right chars flags entry
-              (part-to Flag orders.flags entry flag ((are.flags entry.label flag entry.object).1 (entry.value, is, value_is)) value_is))
+              ((are.listed Flags entry).1 (is, ap (is_of Flags) value_is)))
           | Complex ↦ λ value_is. absurd (atomic entry is value_is)
         ] refl
 
-    -- the list holds exactly the entries whose keys the orders list
+    -- the list holds exactly the entries that the orders list
     pub in_order-exact : (entry : ValueEntry) → Contains (in_order orders) entry ↔ IsEntry entry
     in_order-exact entry = (
       λ at. values-from entry (listed-from orders entry at),
@@ -104,59 +85,97 @@ module _ (IsEntry : ValueEntry → Type 0) where
       ]) (values-to entry is),
     )
 
--- the keys of other entries that are the same
-lists-like : {K : Type 0} (HasKey : Value → K → Type 0) (E F : ValueEntry → Type 0) → ((entry : ValueEntry) → E entry ↔ F entry)
-    → (list : List (Entry K)) → ListsKeys HasKey E list → ListsKeys HasKey F list
-lists-like HasKey E F same list lists label key object = (
-  λ at. (let own = (lists label key object).0 at in (own.0, (same (entry_of label own.0 object)).0 own.1, own.2)),
-  λ own. (lists label key object).1 (own.0, (same (entry_of label own.0 object)).1 own.1, own.2),
-)
-
+-- orders of other entries that are the same
 pub orders-like : (E F : ValueEntry → Type 0) → ((entry : ValueEntry) → E entry ↔ F entry) → (orders : Orders) → AreOrders E orders → AreOrders F orders
 orders-like E F same orders are = record {
-  wholes = lists-like IsWhole E F same orders.wholes are.wholes;
-  chars = lists-like IsText E F same orders.chars are.chars;
-  flags = lists-like IsFlag E F same orders.flags are.flags;
-  readings = lists-like IsReading E F same orders.readings are.readings;
-  flag_readings = lists-like IsFlagReading E F same orders.flag_readings are.flag_readings;
+  listed = λ kind entry. (
+    λ at. (let own = (are.listed kind entry).0 at in ((same entry).0 own.0, own.1)),
+    λ both. (are.listed kind entry).1 ((same entry).1 both.0, both.1),
+  );
+  values = record {
+    only = λ object at. (let own = are.values.only object at in (own.0, (same (entry_of own.0 object.1 object.0)).0 own.1));
+    all = λ entry is. are.values.all entry ((same entry).1 is);
+  };
 }
 
--- Entries that were split.
+-- Of orders that stand for their own list.
+module _ (orders : Orders) (sorted : AreSortedOrders orders) where
+  -- what they hold is atomic
+  pub atomic-in_order : (entry : ValueEntry) → Contains (in_order orders) entry → entry.value ≢ Complex
+  atomic-in_order entry at =
+      let some = of_some orders entry at in
+      of_atomic some.0 entry.value ((sorted.are.listed some.0 entry).0 some.1).1
+
+  -- and has the value of its object
+  pub value-in_order : (entry : ValueEntry) → Contains (in_order orders) entry → held orders.values entry.object ≡ entry.value
+  value-in_order entry at = held-member orders.values sorted.objects_ascend entry.object entry.value (sorted.are.values.all entry at)
+
+  pub one-in_order : HasOneValueIn (Contains (in_order orders))
+  one-in_order a b first second object =
+      sym (value-in_order a first) ∙ ap (held orders.values) object ∙ value-in_order b second
+
+  -- each ascends
+  pub kind-ascends : (kind : Kind) → AscendByValue orders.values kind (order_at orders kind)
+  kind-ascends Wholes = sorted.wholes_ascend
+  kind-ascends Texts = sorted.chars_ascend
+  kind-ascends Flags = sorted.flags_ascend
+  kind-ascends Readings = sorted.readings_ascend
+  kind-ascends FlagReadings = sorted.flag_readings_ascend
+
+-- the orders of no entries
+pub none-counted : AreCountedOrders (orders_of [] [] [] [] [] [])
+none-counted = record {
+  sorted = record {
+    objects_ascend = λ i j d lt len. absurd (omega (arith, len));
+    wholes_ascend = λ i j d lt len. absurd (omega (arith, len));
+    chars_ascend = λ i j d lt len. absurd (omega (arith, len));
+    flags_ascend = λ i j d lt len. absurd (omega (arith, len));
+    readings_ascend = λ i j d lt len. absurd (omega (arith, len));
+    flag_readings_ascend = λ i j d lt len. absurd (omega (arith, len));
+    are = record {
+      listed = λ kind entry. (λ at. absurd (none-listed kind entry at), λ both. absurd (Contains-none entry both.0));
+      values = record {
+        only = λ object at. absurd (Contains-none object at);
+        all = λ entry at. absurd (Contains-none entry at);
+      };
+    };
+  };
+  few = omega arith;
+}
+  where
+    none-listed : (kind : Kind) (entry : ValueEntry) → Contains (entries_at (orders_of [] [] [] [] [] []) kind) entry → ⊥
+    none-listed Wholes entry at = Contains-none entry at
+    none-listed Texts entry at = Contains-none entry at
+    none-listed Flags entry at = Contains-none entry at
+    none-listed Readings entry at = Contains-none entry at
+    none-listed FlagReadings entry at = Contains-none entry at
+
+-- what holds of these holds of empty lists that are seen otherwise
+pub none-seen : (P : Orders → Type 0) → P (orders_of [] [] [] [] [] []) → (values : List (Oid × Value)) (wholes chars flags readings flag_readings : List Entry)
+    → values ≡ [] → wholes ≡ [] → chars ≡ [] → flags ≡ [] → readings ≡ [] → flag_readings ≡ [] → P (orders_of values wholes chars flags readings flag_readings)
+none-seen P p values wholes chars flags readings flag_readings no_values no_wholes no_chars no_flags no_readings no_flag_readings =
+    subst (λ (l : List (Oid × Value)). P (orders_of l wholes chars flags readings flag_readings)) (sym no_values)
+    (subst (λ (l : List Entry). P (orders_of [] l chars flags readings flag_readings)) (sym no_wholes)
+    (subst (λ (l : List Entry). P (orders_of [] [] l flags readings flag_readings)) (sym no_chars)
+    (subst (λ (l : List Entry). P (orders_of [] [] [] l readings flag_readings)) (sym no_flags)
+    (subst (λ (l : List Entry). P (orders_of [] [] [] [] l flag_readings)) (sym no_readings)
+    (subst (λ (l : List Entry). P (orders_of [] [] [] [] [] l)) (sym no_flag_readings) p)))))
+
+-- Entries that were put into orders.
 module _ (entries : List ValueEntry) (ascend : AreAscendingEntries entries) (atomic : All (λ entry. entry.value ≢ Complex) entries)
     (orders : Orders) (are : AreOrders (Contains entries) orders) where
-  split-single : (a b : ValueEntry) → Contains entries a → Contains entries b → a.label ≡ b.label → a.object ≡ b.object → a.value ≡ b.value
-  split-single a b first second label object =
+  put-single : (a b : ValueEntry) → Contains entries a → Contains entries b → a.label ≡ b.label → a.object ≡ b.object → a.value ≡ b.value
+  put-single a b first second label object =
       one_own entries ascend a.label a.object a.value b.value first
       (subst (λ (o : Oid). Contains entries (entry_of a.label b.value o)) (sym object)
       (subst (λ (l : Label). Contains entries (entry_of l b.value b.object)) (sym label) second))
 
-  split-exact : (entry : ValueEntry) → Contains (in_order orders) entry ↔ Contains entries entry
-  split-exact = in_order-exact (Contains entries) (λ entry at. All-contains (λ e. e.value ≢ Complex) entries entry atomic at) split-single orders are
+  put-exact : (entry : ValueEntry) → Contains (in_order orders) entry ↔ Contains entries entry
+  put-exact = in_order-exact (Contains entries) orders are (λ entry at. All-contains (λ e. e.value ≢ Complex) entries entry atomic at) put-single
 
   -- the orders stand for them
-  pub split-same : in_order orders ≡ entries
-  split-same = AllPairs-unique (λ a b. entry_cmp a b ≡ Less) less_once (in_order orders) entries (ascend-in_order orders) ascend split-exact
+  pub put-same : in_order orders ≡ entries
+  put-same = AllPairs-unique (λ a b. entry_cmp a b ≡ Less) less_once (in_order orders) entries (ascend-in_order orders) ascend put-exact
 
-  pub split-orders : AreOrders (Contains (in_order orders)) orders
-  split-orders = orders-like (Contains entries) (Contains (in_order orders)) (λ entry. ((split-exact entry).1, (split-exact entry).0)) orders are
-
--- the same of five lists of keys
-module _ (entries : List ValueEntry) (ascend : AreAscendingEntries entries) (atomic : All (λ entry. entry.value ≢ Complex) entries)
-    (wholes : List (Entry ℤ)) (chars : List (Entry (List ℕ))) (flags : List (Entry Bool)) (readings : List (Entry ℤ)) (flag_readings : List (Entry Bool))
-    (in_wholes : ListsKeys IsWhole (Contains entries) wholes) (in_chars : ListsKeys IsText (Contains entries) chars)
-    (in_flags : ListsKeys IsFlag (Contains entries) flags) (in_readings : ListsKeys IsReading (Contains entries) readings)
-    (in_flag_readings : ListsKeys IsFlagReading (Contains entries) flag_readings) where
-  split_are : AreOrders (Contains entries) (orders_of wholes chars flags readings flag_readings)
-  split_are = record {
-    wholes = in_wholes;
-    chars = in_chars;
-    flags = in_flags;
-    readings = in_readings;
-    flag_readings = in_flag_readings;
-  }
-
-  pub five-same : in_order (orders_of wholes chars flags readings flag_readings) ≡ entries
-  five-same = split-same entries ascend atomic (orders_of wholes chars flags readings flag_readings) split_are
-
-  pub five-orders : AreOrders (Contains (in_order (orders_of wholes chars flags readings flag_readings))) (orders_of wholes chars flags readings flag_readings)
-  five-orders = split-orders entries ascend atomic (orders_of wholes chars flags readings flag_readings) split_are
+  pub put-orders : AreOrders (Contains (in_order orders)) orders
+  put-orders = orders-like (Contains entries) (Contains (in_order orders)) (λ entry. ((put-exact entry).1, (put-exact entry).0)) orders are

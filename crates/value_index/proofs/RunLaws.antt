@@ -1,19 +1,21 @@
--- The run of a label, an operator and a key among ascending entries: one piece of them.
+-- The run of a label, an operator and a value among ascending entries: one piece of them.
 use Rattle.std.proofs.Common.{◌≡◌, ◌≢◌, ◌↔◌, AllPairs, Contains, ℕ, ◌+◌, ◌<◌, ◌≤◌, Bool, true, false, nat_eq, nat_cmp}
 use Rattle.std.proofs.Common.{Less, Equal, Greater, List, [], ◌++◌, length, get_or, take, drop, refl, sym}
 use Rattle.std.proofs.Common.{ap, subst, ◌∙◌, inl, inr, arith, length-drop}
 use Rattle.std.specs.declared.cmp.Ordering.{Ordering}
 use Rattle.std.specs.Ordering.{ordering_then, ordering_index, is_eq}
-use Rattle.std.specs.Cmp.{IsTotalOrder}
 use Rattle.std.specs.List.{filter, AllWithin}
 use Rattle.std.specs.List.Sorted.{IsNonDecreasingBy, IsPartitionedBy, IsPartitionPoint}
 use Rattle.std.proofs.lemmas.Bool.{cases_lt}
 use Rattle.std.proofs.lemmas.Bool.Decides.{nat_tests}
 use Rattle.std.proofs.lemmas.List.{append-nil, get_or-drop, take-append-drop}
 use Rattle.std.proofs.lemmas.List.Elements.{filter-append}
-use Rattle.value_index.specs.Types.{Oid, Label, Op, Eq, Ne, Lt, Le, Gt, Ge, Like, Entry}
-use Rattle.value_index.specs.inside.Runs.{key_cmp, AscendByKey, side_of, side_in, run_in, objects_in}
-use Rattle.value_index.specs.inside.Keys.{keyed}
+use Rattle.value_index.specs.Types.{Oid, Label, Value, Op, Eq, Ne, Lt, Le, Gt, Ge, Like, Entry, Kind}
+use Rattle.value_index.specs.inside.Kinds.{value_cmp}
+use Rattle.value_index.specs.inside.Held.{held}
+use Rattle.value_index.specs.inside.Entries.{naming}
+use Rattle.value_index.specs.inside.EntryOrder.{entry_order, AscendByValue, value_total, order_total}
+use Rattle.value_index.specs.inside.Runs.{side_of, side_in, run_in, objects_in}
 use Rattle.lore_base.specs.Comparisons.{Admits}
 use Rattle.lore_base.proofs.MemberLaws.{Contains-same, Contains-filter, unfiltered}
 use Rattle.index_traits.specs.Entries.{IsProbed}
@@ -24,7 +26,7 @@ use Rattle.std.proofs.lemmas.List.Kept.{AllPairs-filter}
 use Rattle.list_laws.proofs.OrderLaws.{Equal-from_test, comparison_rises}
 use Rattle.list_laws.proofs.MemberLaws.{Contains-map, Contains-from_map}
 use Rattle.list_laws.proofs.PartLaws.{filter_all, filter_none, All-take_within, All-drop_within}
-use Rattle.value_index.proofs.KeyLaws.{key_total, first_same, rest_equal}
+use Rattle.value_index.proofs.KeyLaws.{first_same, rest_equal, same_naming}
 
 -- which side it is, by its number
 in_test : (o : Ordering) → nat_eq (ordering_index o) 1 ≡ true → is_eq o ≡ true
@@ -89,28 +91,31 @@ labels_rise : (p q n : ℕ) (o first second : Ordering) → ordering_then (nat_c
     → ordering_index (ordering_then (nat_cmp p n) first) ≤ ordering_index (ordering_then (nat_cmp q n) second)
 labels_rise p q n o first second less later = grind (arith, nat_tests)
 
-module _ {K : Type 0} (cmp : K → K → Ordering) (total : IsTotalOrder cmp) where
-  module _ (label : Label) (op : Op) (key : K) where
-    keys_rise : (a b : K) (o : Ordering) → ordering_then (cmp a b) o ≡ Less
-        → ordering_index (side_of op (cmp a key)) ≤ ordering_index (side_of op (cmp b key))
-    keys_rise a b o h =
-        elim (cmp a b) as (λ p. cmp a b ≡ p → ordering_then p o ≡ Less → ordering_index (side_of op (cmp a key)) ≤ ordering_index (side_of op (cmp b key))) [
-          | Less ↦ λ is _. side_of-rises op (cmp a key) (cmp b key) (comparison_rises cmp total a b key is)
-          | Equal ↦ λ is _. side_of-kept op (cmp a key) (cmp b key) (total.congr a b key is)
+module _ (values : List (Oid × Value)) (kind : Kind) where
+  module _ (label : Label) (op : Op) (value : Value) where
+    values_rise : (a b : Value) (o : Ordering) → ordering_then (value_cmp kind a b) o ≡ Less
+        → ordering_index (side_of op (value_cmp kind a value)) ≤ ordering_index (side_of op (value_cmp kind b value))
+    values_rise a b o h =
+        elim (value_cmp kind a b) as (λ p. value_cmp kind a b ≡ p → ordering_then p o ≡ Less
+        → ordering_index (side_of op (value_cmp kind a value)) ≤ ordering_index (side_of op (value_cmp kind b value))) [
+          | Less ↦ λ is _. side_of-rises op (value_cmp kind a value) (value_cmp kind b value) (comparison_rises (value_cmp kind) (value_total kind) a b value is)
+          | Equal ↦ λ is _. side_of-kept op (value_cmp kind a value) (value_cmp kind b value) ((value_total kind).congr a b value is)
           | Greater ↦ λ _ not_less. absurd (omega (arith, ap ordering_index not_less))
         ] refl h
 
-    side_rises : (a b : Entry K) → key_cmp cmp a b ≡ Less
-        → ordering_index (side_in cmp label op key a) ≤ ordering_index (side_in cmp label op key b)
+    side_rises : (a b : Entry) → entry_order values kind a b ≡ Less
+        → ordering_index (side_in values kind label op value a) ≤ ordering_index (side_in values kind label op value b)
     side_rises a b less =
-        labels_rise a.label.0 b.label.0 label.0 (ordering_then (cmp a.key b.key) (nat_cmp a.object.0 b.object.0))
-        (side_of op (cmp a.key key)) (side_of op (cmp b.key key)) less (keys_rise a.key b.key (nat_cmp a.object.0 b.object.0))
+        let first = held values a.object in
+        let second = held values b.object in
+        labels_rise a.label.0 b.label.0 label.0 (ordering_then (value_cmp kind first second) (nat_cmp a.object.0 b.object.0))
+        (side_of op (value_cmp kind first value)) (side_of op (value_cmp kind second value)) less (values_rise first second (nat_cmp a.object.0 b.object.0))
 
-    pub sides_rise : (entries : List (Entry K)) → AscendByKey cmp entries
-        → IsNonDecreasingBy (λ entry. ordering_index (side_in cmp label op key entry)) entries
+    pub sides_rise : (entries : List Entry) → AscendByValue values kind entries
+        → IsNonDecreasingBy (λ entry. ordering_index (side_in values kind label op value entry)) entries
     sides_rise entries ascend i j d le lt = elim (cases_lt i j) [
       | inl before ↦ side_rises (get_or entries i d) (get_or entries j d) (ascend i j d before lt)
-      | inr ge ↦ let same : i ≡ j = omega arith in omega (arith, ap (λ k. ordering_index (side_in cmp label op key (get_or entries k d))) same)
+      | inr ge ↦ let same : i ≡ j = omega arith in omega (arith, ap (λ k. ordering_index (side_in values kind label op value (get_or entries k d))) same)
     ]
 
 -- Which entries stand in a run.
@@ -152,69 +157,67 @@ in_admits Like order probed h = absurd h
 both_are : (p q : ℕ) (o : Ordering) → p ≡ q → o ≡ Equal → is_eq (ordering_then (nat_cmp p q) o) ≡ true
 both_are p q o same equal = grind (arith, nat_tests)
 
-module _ {K : Type 0} (cmp : K → K → Ordering) (label : Label) (op : Op) (key : K) (entries : List (Entry K)) where
+module _ (values : List (Oid × Value)) (kind : Kind) (label : Label) (op : Op) (value : Value) (entries : List Entry) where
   -- which entries stand in the run
-  run-members : IsProbed op → (entry : Entry K) → Contains (run_in cmp label op key entries) entry
-      ↔ (Contains entries entry × (entry.label ≡ label) × Admits op (cmp entry.key key))
+  run-members : IsProbed op → (entry : Entry) → Contains (run_in values kind label op value entries) entry
+      ↔ (Contains entries entry × (entry.label ≡ label) × Admits op (value_cmp kind (held values entry.object) value))
   run-members probed entry = (
     λ at. (
-        let kept = unfiltered (λ e. is_eq (side_in cmp label op key e)) entries entry at in
-        let side = Equal-from_test (side_in cmp label op key entry) kept.1 in
-        let number : entry.label.0 ≡ label.0 = first_same _ _ (side_of op (cmp entry.key key)) side in
-        let order : side_of op (cmp entry.key key) ≡ Equal = rest_equal (nat_cmp entry.label.0 label.0) _ side in
-        (kept.0, ap (λ n. record { 0 = n }) number, admits_in op probed (cmp entry.key key) order)),
-    λ is. Contains-filter (λ e. is_eq (side_in cmp label op key e)) entries entry is.0
-        (both_are entry.label.0 label.0 (side_of op (cmp entry.key key)) (ap (λ (l : Label). l.0) is.1)
-        (in_admits op (cmp entry.key key) probed is.2)),
+        let kept = unfiltered (λ e. is_eq (side_in values kind label op value e)) entries entry at in
+        let own = value_cmp kind (held values entry.object) value in
+        let side = Equal-from_test (side_in values kind label op value entry) kept.1 in
+        let number : entry.label.0 ≡ label.0 = first_same _ _ (side_of op own) side in
+        let order : side_of op own ≡ Equal = rest_equal (nat_cmp entry.label.0 label.0) _ side in
+        (kept.0, ap (λ n. record { 0 = n }) number, admits_in op probed own order)),
+    λ is. Contains-filter (λ e. is_eq (side_in values kind label op value e)) entries entry is.0
+        (both_are entry.label.0 label.0 (side_of op (value_cmp kind (held values entry.object) value)) (ap (λ (l : Label). l.0) is.1)
+        (in_admits op (value_cmp kind (held values entry.object) value) probed is.2)),
   )
 
-  run-ascend : AscendByKey cmp entries → AscendByKey cmp (run_in cmp label op key entries)
-  run-ascend ascend = AllPairs-filter (λ a b. key_cmp cmp a b ≡ Less) (λ entry. is_eq (side_in cmp label op key entry)) entries ascend
+  run-ascend : AscendByValue values kind entries → AscendByValue values kind (run_in values kind label op value entries)
+  run-ascend ascend = AllPairs-filter (λ a b. entry_order values kind a b ≡ Less) (λ entry. is_eq (side_in values kind label op value entry)) entries ascend
 
   module _ (probed : IsProbed op) where
     -- the objects of a run
-    pub run-objects : (oid : Oid) → Contains (objects_in (run_in cmp label op key entries)) oid
-        ↔ ((own : K) × Contains entries (keyed label own oid) × Admits op (cmp own key))
+    pub run-objects : (oid : Oid) → Contains (objects_in (run_in values kind label op value entries)) oid
+        ↔ (Contains entries (naming label oid) × Admits op (value_cmp kind (held values oid) value))
     run-objects oid = (
       λ at. (
-          let entry = Contains-from_map (λ (e : Entry K). e.object) (run_in cmp label op key entries) oid at in
-          let held = (run-members probed entry.0).0 entry.1 in
-          let same : entry.0 ≡ keyed label entry.0.key oid = λ i. record { label = held.1 i; key = entry.0.key; object = entry.2 i } in
-          (entry.0.key, Contains-same entries entry.0 _ same held.0, held.2)),
-      λ found. Contains-map (λ (e : Entry K). e.object) (run_in cmp label op key entries) (keyed label found.0 oid)
-          ((run-members probed (keyed label found.0 oid)).1 (found.1, refl, found.2)),
+          let entry = Contains-from_map (λ (e : Entry). e.object) (run_in values kind label op value entries) oid at in
+          let there = (run-members probed entry.0).0 entry.1 in (
+            Contains-same entries entry.0 (naming label oid) (same_naming entry.0 (naming label oid) there.1 entry.2) there.0,
+            subst (λ (o : Oid). Admits op (value_cmp kind (held values o) value)) entry.2 there.2,
+          )),
+      λ found. Contains-map (λ (e : Entry). e.object) (run_in values kind label op value entries) (naming label oid)
+          ((run-members probed (naming label oid)).1 (found.0, refl, found.1)),
     )
 
-    module _ (total : IsTotalOrder cmp) (ascend : AscendByKey cmp entries)
-        (one : (oid : Oid) (a b : K) → Contains entries (keyed label a oid) → Contains entries (keyed label b oid) → a ≡ b) where
-      apart : (i j : ℕ) (e : Entry K) → i < j → j < length (run_in cmp label op key entries)
-          → (get_or (run_in cmp label op key entries) i e).object ≡ (get_or (run_in cmp label op key entries) j e).object → ⊥
+    module _ (ascend : AscendByValue values kind entries) where
+      apart : (i j : ℕ) (e : Entry) → i < j → j < length (run_in values kind label op value entries)
+          → (get_or (run_in values kind label op value entries) i e).object ≡ (get_or (run_in values kind label op value entries) j e).object → ⊥
       apart i j e lt len same =
-          let run = run_in cmp label op key entries in
+          let run = run_in values kind label op value entries in
           let a = get_or run i e in
           let b = get_or run j e in
           let first = (run-members probed a).0 (Contains-get_or run i e (omega (arith, lt, len))) in
           let second = (run-members probed b).0 (Contains-get_or run j e len) in
-          let a_is : a ≡ keyed label a.key b.object = λ k. record { label = first.1 k; key = a.key; object = same k } in
-          let b_is : b ≡ keyed label b.key b.object = λ k. record { label = second.1 k; key = b.key; object = b.object } in
-          let keys : a.key ≡ b.key = one b.object a.key b.key (Contains-same entries a _ a_is first.0) (Contains-same entries b _ b_is second.0) in
-          let entry : a ≡ b = a_is ∙ ap (λ k. keyed label k b.object) keys ∙ sym b_is in
-          let less : key_cmp cmp a b ≡ Less = run-ascend ascend i j e lt len in
-          let equal : key_cmp cmp a b ≡ Equal = subst (λ x. key_cmp cmp a x ≡ Equal) entry (tied_itself (key_total cmp total) a) in
+          let entry : a ≡ b = same_naming a b (first.1 ∙ sym second.1) same in
+          let less : entry_order values kind a b ≡ Less = run-ascend ascend i j e lt len in
+          let equal : entry_order values kind a b ≡ Equal = subst (λ x. entry_order values kind a x ≡ Equal) entry (tied_itself (order_total values kind) a) in
           let none : Less ≡ Equal = sym less ∙ equal in
           absurd (cc)
 
-      once_at : (i j : ℕ) (d : Oid) → i < j → j < length (objects_in (run_in cmp label op key entries)) → (e : Entry K)
-          → get_or (objects_in (run_in cmp label op key entries)) i d ≢ get_or (objects_in (run_in cmp label op key entries)) j d
+      once_at : (i j : ℕ) (d : Oid) → i < j → j < length (objects_in (run_in values kind label op value entries)) → (e : Entry)
+          → get_or (objects_in (run_in values kind label op value entries)) i d ≢ get_or (objects_in (run_in values kind label op value entries)) j d
       once_at i j d lt len e =
-          let run = run_in cmp label op key entries in
-          let inside : j < length run = omega (arith, len, length-map run (λ (e : Entry K). e.object)) in
-          rw (get_or-map (λ (e : Entry K). e.object) run i e d (omega (arith, lt, inside)), get_or-map (λ (e : Entry K). e.object) run j e d inside)
+          let run = run_in values kind label op value entries in
+          let inside : j < length run = omega (arith, len, length-map run (λ (e : Entry). e.object)) in
+          rw (get_or-map (λ (e : Entry). e.object) run i e d (omega (arith, lt, inside)), get_or-map (λ (e : Entry). e.object) run j e d inside)
           (apart i j e lt inside)
 
-      -- each of them once, where an object has one key
-      pub run-once : AllPairs (λ a b. a ≢ b) (objects_in (run_in cmp label op key entries))
+      -- each of them once
+      pub run-once : AllPairs (λ a b. a ≢ b) (objects_in (run_in values kind label op value entries))
       run-once i j d lt len =
-          let run = run_in cmp label op key entries in
-          let there = Contains-from_map (λ (e : Entry K). e.object) run _ (Contains-get_or (objects_in run) j d len) in
+          let run = run_in values kind label op value entries in
+          let there = Contains-from_map (λ (e : Entry). e.object) run _ (Contains-get_or (objects_in run) j d len) in
           once_at i j d lt len there.0

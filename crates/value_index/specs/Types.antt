@@ -7,3 +7,5 @@ pub use Rattle.lore_base.specs.declared.values.Value.TheVariants.{Whole, Chars, 
 pub use Rattle.lore_base.specs.declared.operators.Op.{Op}
 pub use Rattle.lore_base.specs.declared.operators.Op.TheVariants.{Eq, Ne, Lt, Le, Gt, Ge, Like}
 pub use Rattle.value_index.specs.declared.entry.Entry.{Entry}
+pub use Rattle.value_index.specs.declared.kind.Kind.{Kind}
+pub use Rattle.value_index.specs.declared.kind.Kind.TheVariants.{Wholes, Texts, Flags, Readings, FlagReadings}

@@ -4,9 +4,10 @@ use Rattle.value_index.specs.Types.{ValueEntry, Complex}
 use Rattle.index_traits.specs.Entries.{AreAscendingEntries}
 use Rattle.sorted_list.specs.SortedLists.{IsThen, IsChange, IsLessWith}
 
--- for how many more entries there is room: whole numbers, texts, flags, texts that read as whole numbers, and texts
--- that read as flags
+-- for how many more values there is room, and for how many more entries: of whole numbers, of texts, of flags, of texts
+-- that read as whole numbers, and of texts that read as flags
 pub record EntryRoom : Type 0 where
+  pub values : ℕ
   pub wholes : ℕ
   pub chars : ℕ
   pub flags : ℕ
@@ -26,6 +27,7 @@ pub record PlannedEntries : Type 0 where
 
 -- the index keeps the room free that the change needs
 pub record HasRoom (kept : RoomyEntries) (plan : PlannedEntries) : Type 0 where
+  pub values : plan.needs.values ≤ kept.room.values
   pub wholes : plan.needs.wholes ≤ kept.room.wholes
   pub chars : plan.needs.chars ≤ kept.room.chars
   pub flags : plan.needs.flags ≤ kept.room.flags

@@ -1,53 +1,94 @@
 ghost use Rattle.std.specs.Prelude.{◌≡◌};
-ghost use Rattle.std.specs.Option.{option_copied};
 ghost use Rattle.index_traits.specs.Entries.{IsProbed};
-ghost use Rattle.value_index.specs.inside.Runs.{side_of, side_in, AscendByKey, run_in, run_at};
+ghost use Rattle.value_index.specs.inside.Held.{held, AscendByObject};
+ghost use Rattle.value_index.specs.inside.Kinds.{value_cmp};
+ghost use Rattle.value_index.specs.inside.EntryOrder.{AscendByValue};
+ghost use Rattle.value_index.specs.inside.Runs.{side_of, side_in, run_in, run_at};
 
+use crate::by_value::compare_to;
 use crate::entry::Entry;
-use lore_base::{Label, Op};
+use crate::keys::is_sought;
+use crate::kind::Kind;
+use lore_base::{Label, Oid, Op, Value};
 use std::cmp::Ordering;
 
-// The entries of the label whose key stands so to the one that is sought: one run of the ascending
-// entries, and nothing where no key is sought.
-pub(crate) fn run_of<'a, K: Ord>(
-    entries: &'a [Entry<K>],
+// The entries that are sought: one run of the ascending entries, and nothing where values of the
+// kind aren't compared with this one.
+pub(crate) fn run_of<'a>(
+    entries: &'a [Entry],
+    values: &[(Oid, Value)],
+    kind: Kind,
     label: Label,
     op: Op,
-    sought: Option<&K>,
-) -> &'a [Entry<K>]
-    requires ascend { AscendByKey K.cmp entries.now }
+    value: &Value,
+) -> &'a [Entry]
+    requires objects { AscendByObject values.now }
+    requires ascend { AscendByValue values.now kind entries.now }
     requires op { IsProbed op }
-    ensures { result.now ≡ run_at K.cmp label op (option_copied sought.entry) entries.now }
+    ensures { result.now ≡ run_at values.now kind label op value.now entries.now }
 {
-    match sought {
-        Some(key) => bisected(entries, label, op, key),
-        None => &[],
+    if is_sought(kind, value) {
+        bisected(entries, values, kind, label, op, value)
+    } else {
+        &[]
     }
 }
 
-// The run of a key, whose two ends are found by bisection.
-fn bisected<'a, K: Ord>(entries: &'a [Entry<K>], label: Label, op: Op, key: &K) -> &'a [Entry<K>]
-    requires ascend { AscendByKey K.cmp entries.now }
+// The run of a value, whose two ends are found by bisection.
+fn bisected<'a>(
+    entries: &'a [Entry],
+    values: &[(Oid, Value)],
+    kind: Kind,
+    label: Label,
+    op: Op,
+    value: &Value,
+) -> &'a [Entry]
+    requires objects { AscendByObject values.now }
+    requires ascend { AscendByValue values.now kind entries.now }
     requires op { IsProbed op }
-    ensures { result.now ≡ run_in K.cmp label op key.now entries.now }
+    ensures { result.now ≡ run_in values.now kind label op value.now entries.now }
 {
-    let start = entries.partition_point(|entry| side(entry, label, op, key) == Ordering::Less);
+    let start = entries.partition_point(|entry| side(entry, values, kind, label, op, value)
+        == Ordering::Less);
     let rest = &entries[start..];
-    let len = rest.partition_point(|entry| side(entry, label, op, key) == Ordering::Equal);
+    let len = rest.partition_point(|entry| side(entry, values, kind, label, op, value)
+        == Ordering::Equal);
     &rest[..len]
 }
 
 // On which side of the run the entry stands: `Less` before it, `Equal` in it, `Greater` behind it.
-fn side<K: Ord>(entry: &Entry<K>, label: Label, op: Op, key: &K) -> Ordering
-    ensures { result ≡ side_in K.cmp label op key.now entry.now }
+fn side(
+    entry: &Entry,
+    values: &[(Oid, Value)],
+    kind: Kind,
+    label: Label,
+    op: Op,
+    value: &Value,
+) -> Ordering
+    requires { AscendByObject values.now }
+    ensures { result ≡ side_in values.now kind label op value.now entry.now }
 {
     match entry.label.cmp(&label) {
-        Ordering::Equal => side_of_key(op, entry.key.cmp(key)),
+        Ordering::Equal => side_of_value(values, kind, op, value, entry.object),
         other => other,
     }
 }
 
-// The same among the keys of one label, by how the key compares.
+// The same among the entries of one label.
+fn side_of_value(
+    values: &[(Oid, Value)],
+    kind: Kind,
+    op: Op,
+    value: &Value,
+    object: Oid,
+) -> Ordering
+    requires { AscendByObject values.now }
+    ensures { result ≡ side_of op (value_cmp kind (held values.now object) value.now) }
+{
+    side_of_key(op, compare_to(values, kind, object, value))
+}
+
+// The same by how the value compares.
 fn side_of_key(op: Op, order: Ordering) -> Ordering
     ensures { result ≡ side_of op order }
 {

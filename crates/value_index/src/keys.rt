@@ -1,155 +1,144 @@
-ghost use Rattle.std.specs.Prelude.{◌≡◌, ℕ, ℤ, Bool, List, Some, IfOk, IfSome, IfNone};
-ghost use Rattle.value_index.specs.Types.{Value as TheValue};
-ghost use Rattle.value_index.specs.inside.Keys.{IsWhole, IsText, IsFlag, IsReading, IsFlagReading};
-ghost use Rattle.value_index.specs.inside.Keys.{SeeksWhole, SeeksFlag};
+ghost use Rattle.std.specs.Prelude.{◌≡◌};
+ghost use Rattle.std.specs.Option.{option_copied};
+ghost use Rattle.value_index.specs.inside.Kinds.{is_whole, is_text, is_flag, is_of, is_sought};
+ghost use Rattle.value_index.specs.inside.Kinds.{number_in, text_in, flag_in};
+ghost use Rattle.value_index.specs.inside.Kinds.{number_cmp, text_cmp, flag_cmp, value_cmp};
 
-use lore_base::{NoMemory, OemText, TryCopy, Value};
+use crate::kind::Kind;
+use lore_base::{OemText, Value};
 use oem_atom::{as_flag, as_whole};
-use std::alloc::Global;
+use std::cmp::Ordering;
 
-// A kind of keys: the values that have one stand in an order by it.
-pub(crate) trait KeyKind<K> {
-    ghost has_key: { TheValue → K → Type 0 };
-
-    // The key of the value, if it has one; a value has no two. A text is copied.
-    fn key_of(alloc: Global, value: &Value) -> Result<Option<K>, NoMemory>
-        ensures some { IfOk result (λ key. IfSome key (λ own. has_key value.now own)) }
-        ensures only { IfOk result (λ key. (own : K) → has_key value.now own → key ≡ Some own) };
-}
-
-// Values that are whole numbers, by these.
-pub(crate) struct Wholes;
-
-impl KeyKind<i64> for Wholes {
-    ghost has_key = { IsWhole };
-
-    fn key_of(_alloc: Global, value: &Value) -> Result<Option<i64>, NoMemory> {
-        Ok(whole_of(value))
+// Whether the value is of the kind.
+pub(crate) fn is_of(kind: Kind, value: &Value) -> bool
+    ensures { result ≡ is_of kind value.now }
+{
+    match kind {
+        Kind::Wholes => is_whole(value),
+        Kind::Texts => is_text(value),
+        Kind::Flags => is_flag(value),
+        Kind::Readings => is_text(value) && number_of(value).is_some(),
+        Kind::FlagReadings => is_text(value) && flag_of(value).is_some(),
     }
 }
 
-// Values that are texts, by these.
-pub(crate) struct Texts;
-
-impl KeyKind<OemText> for Texts {
-    ghost has_key = { IsText };
-
-    fn key_of(alloc: Global, value: &Value) -> Result<Option<OemText>, NoMemory> {
-        match text_of(value) {
-            Some(text) => Ok(Some(text.try_copy(alloc)?)),
-            None => Ok(None),
-        }
+// Whether values of the kind are compared with this one.
+pub(crate) fn is_sought(kind: Kind, value: &Value) -> bool
+    ensures { result ≡ is_sought kind value.now }
+{
+    match kind {
+        Kind::Wholes => number_of(value).is_some(),
+        Kind::Texts => is_text(value),
+        Kind::Flags => flag_of(value).is_some(),
+        Kind::Readings => is_whole(value),
+        Kind::FlagReadings => is_flag(value),
     }
 }
 
-// Values that are flags, by these.
-pub(crate) struct Flags;
-
-impl KeyKind<bool> for Flags {
-    ghost has_key = { IsFlag };
-
-    fn key_of(_alloc: Global, value: &Value) -> Result<Option<bool>, NoMemory> {
-        Ok(flag_of(value))
+// How two values stand in the order of the kind.
+pub(crate) fn compare_values(kind: Kind, a: &Value, b: &Value) -> Ordering
+    ensures { result ≡ value_cmp kind a.now b.now }
+{
+    match kind {
+        Kind::Wholes => compare_numbers(a, b),
+        Kind::Texts => compare_texts(a, b),
+        Kind::Flags => compare_flags(a, b),
+        Kind::Readings => compare_numbers(a, b),
+        Kind::FlagReadings => compare_flags(a, b),
     }
 }
 
-// Texts that read as whole numbers, by these.
-pub(crate) struct Readings;
+// How the numbers stand that the values are or read as.
+fn compare_numbers(a: &Value, b: &Value) -> Ordering
+    ensures { result ≡ number_cmp a.now b.now }
+{
+    number_of(a).cmp(&number_of(b))
+}
 
-impl KeyKind<i64> for Readings {
-    ghost has_key = { IsReading };
-
-    fn key_of(_alloc: Global, value: &Value) -> Result<Option<i64>, NoMemory> {
-        Ok(reading_of(value))
+// How the texts stand that the values are.
+fn compare_texts(a: &Value, b: &Value) -> Ordering
+    ensures { result ≡ text_cmp a.now b.now }
+{
+    match (text_of(a), text_of(b)) {
+        (Some(a), Some(b)) => a.cmp(b),
+        (Some(_), None) => Ordering::Greater,
+        (None, Some(_)) => Ordering::Less,
+        (None, None) => Ordering::Equal,
     }
 }
 
-// Texts that read as flags, by these.
-pub(crate) struct FlagReadings;
+// How the flags stand that the values are or read as.
+fn compare_flags(a: &Value, b: &Value) -> Ordering
+    ensures { result ≡ flag_cmp a.now b.now }
+{
+    flag_of(a).cmp(&flag_of(b))
+}
 
-impl KeyKind<bool> for FlagReadings {
-    ghost has_key = { IsFlagReading };
-
-    fn key_of(_alloc: Global, value: &Value) -> Result<Option<bool>, NoMemory> {
-        Ok(flag_reading_of(value))
+fn is_whole(value: &Value) -> bool
+    ensures { result ≡ is_whole value.now }
+{
+    match value {
+        Value::Whole(_) => true,
+        Value::Chars(_) => false,
+        Value::Flag(_) => false,
+        Value::Complex => false,
     }
 }
 
-// The number that the value is.
-pub(crate) fn whole_of(value: &Value) -> Option<i64>
-    ensures some { IfSome result (λ number. IsWhole value.now number) }
-    ensures none { IfNone result ((number : ℤ) → ¬ IsWhole value.now number) }
+fn is_text(value: &Value) -> bool
+    ensures { result ≡ is_text value.now }
+{
+    match value {
+        Value::Whole(_) => false,
+        Value::Chars(_) => true,
+        Value::Flag(_) => false,
+        Value::Complex => false,
+    }
+}
+
+fn is_flag(value: &Value) -> bool
+    ensures { result ≡ is_flag value.now }
+{
+    match value {
+        Value::Whole(_) => false,
+        Value::Chars(_) => false,
+        Value::Flag(_) => true,
+        Value::Complex => false,
+    }
+}
+
+// The number that the value is or reads as.
+fn number_of(value: &Value) -> Option<i64>
+    ensures { result ≡ number_in value.now }
 {
     match value {
         Value::Whole(number) => Some(*number),
-        _ => None,
+        Value::Chars(text) => as_whole(text),
+        Value::Flag(_) => None,
+        Value::Complex => None,
     }
 }
 
 // The text that the value is.
-pub(crate) fn text_of(value: &Value) -> Option<&OemText>
-    ensures some { IfSome result (λ text. IsText value.now text.now) }
-    ensures none { IfNone result ((text : List ℕ) → ¬ IsText value.now text) }
+fn text_of(value: &Value) -> Option<&OemText>
+    ensures { option_copied result ≡ text_in value.now }
 {
     match value {
+        Value::Whole(_) => None,
         Value::Chars(text) => Some(text),
-        _ => None,
+        Value::Flag(_) => None,
+        Value::Complex => None,
     }
 }
 
-// The flag that the value is.
-pub(crate) fn flag_of(value: &Value) -> Option<bool>
-    ensures some { IfSome result (λ flag. IsFlag value.now flag) }
-    ensures none { IfNone result ((flag : Bool) → ¬ IsFlag value.now flag) }
+// The flag that the value is or reads as.
+fn flag_of(value: &Value) -> Option<bool>
+    ensures { result ≡ flag_in value.now }
 {
     match value {
-        Value::Flag(flag) => Some(*flag),
-        _ => None,
-    }
-}
-
-// The number that the value reads as, where it is a text.
-fn reading_of(value: &Value) -> Option<i64>
-    ensures some { IfSome result (λ number. IsReading value.now number) }
-    ensures none { IfNone result ((number : ℤ) → ¬ IsReading value.now number) }
-{
-    match value {
-        Value::Chars(text) => as_whole(text),
-        _ => None,
-    }
-}
-
-// The flag that the value reads as, where it is a text.
-fn flag_reading_of(value: &Value) -> Option<bool>
-    ensures some { IfSome result (λ flag. IsFlagReading value.now flag) }
-    ensures none { IfNone result ((flag : Bool) → ¬ IsFlagReading value.now flag) }
-{
-    match value {
+        Value::Whole(_) => None,
         Value::Chars(text) => as_flag(text),
-        _ => None,
-    }
-}
-
-// The number by which the value compares with whole numbers: the one that it is or reads as.
-pub(crate) fn number_of(value: &Value) -> Option<i64>
-    ensures some { IfSome result (λ number. SeeksWhole value.now number) }
-    ensures none { IfNone result ((number : ℤ) → ¬ SeeksWhole value.now number) }
-{
-    match value {
-        Value::Whole(number) => Some(*number),
-        Value::Chars(text) => as_whole(text),
-        _ => None,
-    }
-}
-
-// The flag by which the value compares with flags: the one that it is or reads as.
-pub(crate) fn truth_of(value: &Value) -> Option<bool>
-    ensures some { IfSome result (λ flag. SeeksFlag value.now flag) }
-    ensures none { IfNone result ((flag : Bool) → ¬ SeeksFlag value.now flag) }
-{
-    match value {
         Value::Flag(flag) => Some(*flag),
-        Value::Chars(text) => as_flag(text),
-        _ => None,
+        Value::Complex => None,
     }
 }

@@ -1,8 +1,9 @@
 //! The atomic values of objects, by the labels of the edges that enter them, searched by bisection.
 //!
-//! Entries stand in five orders: whole numbers, texts, flags, texts that read as whole numbers, and
-//! texts that read as flags. A change comes in three calls: `prepare` sorts what goes and what
-//! comes, `reserve` takes the memory for it, and `commit` puts it in place and cannot fail.
+//! Each object's value stands once. Entries that name objects stand in five orders: those of whole
+//! numbers, of texts, of flags, of texts that read as whole numbers, and of texts that read as
+//! flags; their values are looked up. A change comes in three calls: `prepare` sorts what goes and
+//! what comes, `reserve` takes the memory for it, and `commit` puts it in place and cannot fail.
 #![tactic(auto)]
 
 pub use naive_values::NaiveValues;
@@ -10,10 +11,16 @@ pub use value_index::ValueIndex;
 pub use value_plan::ValuePlan;
 
 mod bisection;
+mod by_value;
 mod entry;
+mod held;
 mod keys;
+mod kind;
+mod leaving;
+mod marks;
 mod naive_values;
 mod orders;
 mod runs;
+mod sorting;
 mod value_index;
 mod value_plan;

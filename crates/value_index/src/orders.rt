@@ -1,50 +1,42 @@
 ghost use Rattle.std.specs.Prelude.{◌≡◌, ◌≢◌, ◌↔◌, All, Contains, IfOk};
-ghost use Rattle.std.specs.List.Sorted.{IsPermutation, IsSorted};
 ghost use Rattle.index_traits.specs.Entries.{AreAscendingEntries};
-ghost use Rattle.sorted_list.specs.SortedLists.{Ascends, IsExact};
-ghost use Rattle.value_index.specs.Types.{Complex};
-ghost use Rattle.value_index.specs.inside.Keys.{ListsKeys};
-ghost use Rattle.value_index.specs.inside.Runs.{AscendByKey};
+ghost use Rattle.value_index.specs.Types.{Complex, Entry as TheEntry};
+ghost use Rattle.value_index.specs.inside.Held.{AscendByObject};
+ghost use Rattle.value_index.specs.inside.Entries.{HasOneValueIn, named_of};
+ghost use Rattle.value_index.specs.inside.EntryOrder.{AscendByValue};
+ghost use Rattle.value_index.specs.inside.Orders.{order_at, in_order, AreSortedOrders};
 
 use crate::entry::Entry;
-use crate::keys::{FlagReadings, Flags, KeyKind, Readings, Texts, Wholes};
+use crate::keys::is_of;
+use crate::kind::Kind;
+use crate::sorting::{held_values, sorted};
 use index_traits::ValueEntry;
-use lore_base::{NoMemory, OemText};
+use lore_base::{NoMemory, Oid, Value};
 use std::alloc::Global;
 use std::marker::Model;
 
-// Entries in five orders, as an index keeps them. Contracts see them as the list of entries in the
-// order of label and object, and how many stand in each order.
+// Values of objects, and in five orders the entries that name these, as an index keeps them.
+// Contracts see them as these lists.
 #[derive(Drop)]
 pub(crate) struct EntryOrders {
-    pub(crate) wholes: Vec<Entry<i64>>,
-    pub(crate) chars: Vec<Entry<OemText>>,
-    pub(crate) flags: Vec<Entry<bool>>,
-    pub(crate) readings: Vec<Entry<i64>>,
-    pub(crate) flag_readings: Vec<Entry<bool>>,
+    pub(crate) values: Vec<(Oid, Value)>,
+    pub(crate) wholes: Vec<Entry>,
+    pub(crate) chars: Vec<Entry>,
+    pub(crate) flags: Vec<Entry>,
+    pub(crate) readings: Vec<Entry>,
+    pub(crate) flag_readings: Vec<Entry>,
 }
 
 impl Model for EntryOrders {
-    ghost use Rattle.std.specs.Prelude.{length};
-    ghost use Rattle.value_index.specs.Values.{RoomyEntries};
-    ghost use Rattle.value_index.specs.inside.Orders.{orders_of, in_order, AreSortedOrders};
+    ghost use Rattle.value_index.specs.inside.Orders.{Orders, orders_of, AreSortedOrders};
 
-    ghost Value = { RoomyEntries };
+    ghost Value = { Orders };
 
-    ghost view = { λ o. record {
-      entries = in_order (orders_of o.wholes.items o.chars.items o.flags.items
-          o.readings.items o.flag_readings.items);
-      room = record {
-        wholes = length o.wholes.items;
-        chars = length o.chars.items;
-        flags = length o.flags.items;
-        readings = length o.readings.items;
-        flag_readings = length o.flag_readings.items;
-      };
-    } };
+    ghost view = { λ o. orders_of o.values.items o.wholes.items o.chars.items o.flags.items
+        o.readings.items o.flag_readings.items };
 
-    ghost invariant = { λ o. AreSortedOrders (orders_of o.wholes.items o.chars.items o.flags.items
-        o.readings.items o.flag_readings.items) };
+    ghost invariant = { λ o. AreSortedOrders (orders_of o.values.items o.wholes.items o.chars.items
+        o.flags.items o.readings.items o.flag_readings.items) };
 }
 
 impl EntryOrders {
@@ -52,14 +44,17 @@ impl EntryOrders {
     pub(crate) fn of(alloc: Global, entries: &[ValueEntry]) -> Result<EntryOrders, NoMemory>
         requires ascend { AreAscendingEntries entries.now }
         requires atomic { All (λ entry. entry.value ≢ Complex) entries.now }
-        ensures { IfOk result (λ orders. orders.entries ≡ entries.now) }
+        requires one_value { HasOneValueIn (Contains entries.now) }
+        ensures { IfOk result (λ orders. in_order orders ≡ entries.now) }
     {
-        let wholes = by_keys::<i64, Wholes>(alloc, entries)?;
-        let chars = by_keys::<OemText, Texts>(alloc, entries)?;
-        let flags = by_keys::<bool, Flags>(alloc, entries)?;
-        let readings = by_keys::<i64, Readings>(alloc, entries)?;
-        let flag_readings = by_keys::<bool, FlagReadings>(alloc, entries)?;
+        let values = held_values(alloc, entries)?;
+        let wholes = order_of(alloc, entries, values.as_slice(), Kind::Wholes)?;
+        let chars = order_of(alloc, entries, values.as_slice(), Kind::Texts)?;
+        let flags = order_of(alloc, entries, values.as_slice(), Kind::Flags)?;
+        let readings = order_of(alloc, entries, values.as_slice(), Kind::Readings)?;
+        let flag_readings = order_of(alloc, entries, values.as_slice(), Kind::FlagReadings)?;
         Ok(EntryOrders {
+            values,
             wholes,
             chars,
             flags,
@@ -67,50 +62,57 @@ impl EntryOrders {
             flag_readings,
         })
     }
+
+    // The order of a kind.
+    pub(crate) fn order(&self, kind: Kind) -> &[Entry]
+        ensures { result.now ≡ order_at self.now kind }
+    {
+        match kind {
+            Kind::Wholes => self.wholes.as_slice(),
+            Kind::Texts => self.chars.as_slice(),
+            Kind::Flags => self.flags.as_slice(),
+            Kind::Readings => self.readings.as_slice(),
+            Kind::FlagReadings => self.flag_readings.as_slice(),
+        }
+    }
+
+    // The values alone.
+    pub(crate) fn into_values(self) -> Vec<(Oid, Value)>
+        ensures values { result.items ≡ self.values }
+        ensures sorted { AreSortedOrders self }
+    {
+        self.values
+    }
 }
 
-// The entries whose values have a key of this kind, in the order of these keys.
-fn by_keys<K: Ord + Drop, Q: KeyKind<K>>(
+// The entries whose values are of the kind, in its order.
+fn order_of(
     alloc: Global,
     entries: &[ValueEntry],
-) -> Result<Vec<Entry<K>>, NoMemory>
-    requires exact { IsExact K.cmp }
-    ensures ascend { IfOk result (λ keyed. AscendByKey K.cmp keyed.items) }
-    ensures members { IfOk result
-        (λ keyed. ListsKeys Q.has_key (Contains entries.now) keyed.items) }
+    values: &[(Oid, Value)],
+    kind: Kind,
+) -> Result<Vec<Entry>, NoMemory>
+    requires { AscendByObject values.now }
+    ensures ascend { IfOk result (λ order. AscendByValue values.now kind order.items) }
+    ensures members { IfOk result (λ order. (entry : TheEntry)
+        → Contains order.items entry ↔ Contains (named_of kind entries.now) entry) }
 {
-    let mut keyed = Vec::new(alloc);
+    let named = named_of(alloc, entries, kind)?;
+    Ok(sorted(named, values, kind))
+}
+
+// The entries whose values are of the kind, without their values.
+fn named_of(alloc: Global, entries: &[ValueEntry], kind: Kind) -> Result<Vec<Entry>, NoMemory>
+    ensures { IfOk result (λ named. named.items ≡ named_of kind entries.now) }
+{
+    let mut named = Vec::new(alloc);
     'entries: for entry in entries {
-        if let Some(key) = Q::key_of(alloc, &entry.value)? {
-            keyed.push(Entry {
+        if is_of(kind, &entry.value) {
+            named.push(Entry {
                 label: entry.label,
-                key,
                 object: entry.object,
             })?;
         }
     }
-    Ok(sorted(keyed))
-}
-
-// The items in ascending order, each once. Takes memory while it sorts, where it can get it.
-fn sorted<T: Ord + Drop>(items: Vec<T>) -> Vec<T>
-    requires exact { IsExact T.cmp }
-    ensures ascend { Ascends T.cmp result.items }
-    ensures members { (item : T) → Contains result.items item ↔ Contains items.items item }
-{
-    let mut items = items;
-    put_in_order(&mut items);
-    items.dedup();
-    items
-}
-
-// Puts the items into ascending order: by the stable sort, which does the values of a load with
-// fewer comparisons, and where that is refused memory by the sort that takes none.
-fn put_in_order<T: Ord>(items: &mut Vec<T>)
-    ensures permutation { IsPermutation items.old.items items.new.items }
-    ensures sorted { IsSorted T.cmp items.new.items }
-{
-    if items.sort().is_err() {
-        items.sort_unstable();
-    }
+    Ok(named)
 }

@@ -3,17 +3,17 @@ ghost use Rattle.lore_base.specs.Lists.{Extends};
 ghost use Rattle.value_index.specs.inside.Runs.{objects_in};
 
 use crate::entry::Entry;
-use lore_base::{NoMemory, OemText, OidBuf};
+use lore_base::{NoMemory, OidBuf};
 use std::marker::Model;
 
 // What a probe finds in each of the five orders. Contracts see it as the list of the objects.
 #[derive(Drop)]
 pub(crate) struct Runs<'a> {
-    pub(crate) wholes: &'a [Entry<i64>],
-    pub(crate) chars: &'a [Entry<OemText>],
-    pub(crate) flags: &'a [Entry<bool>],
-    pub(crate) readings: &'a [Entry<i64>],
-    pub(crate) flag_readings: &'a [Entry<bool>],
+    pub(crate) wholes: &'a [Entry],
+    pub(crate) chars: &'a [Entry],
+    pub(crate) flags: &'a [Entry],
+    pub(crate) readings: &'a [Entry],
+    pub(crate) flag_readings: &'a [Entry],
 }
 
 impl<'a> Model for Runs<'a> {
@@ -53,7 +53,7 @@ impl<'a> Runs<'a> {
 }
 
 // Appends the objects of the entries to `buf`.
-fn push_run<K>(buf: &mut OidBuf, run: &[Entry<K>]) -> Result<(), NoMemory>
+fn push_run(buf: &mut OidBuf, run: &[Entry]) -> Result<(), NoMemory>
     ensures ok { OnOk result (buf.new ≡ buf.old ++ objects_in run.now) }
     ensures err { OnErr result (Extends buf.old buf.new) }
 {

@@ -1,44 +1,53 @@
-ghost use Rattle.std.specs.Prelude.{◌≡◌, ◌<◌, ◌^◌, [], length, IfOk, OnOk};
+ghost use Rattle.std.specs.Prelude.{◌≡◌, ◌<◌, ◌≤◌, ◌^◌, [], length, All, Contains, IfOk, OnOk};
 ghost use Rattle.lore_base.specs.TargetSets.{ListsInOrder};
 ghost use Rattle.index_traits.specs.Entries.{AreAscendingEntries, IsProbed, IsFound};
-ghost use Rattle.sorted_list.specs.SortedLists.{IsLessWith};
+ghost use Rattle.sorted_list.specs.SortedLists.{IsLessWith, AreWithout, AreJoined};
 ghost use Rattle.value_index.specs.Values.{FitsEntries, HasRoom};
+ghost use Rattle.value_index.specs.inside.Held.{AscendByObject};
+ghost use Rattle.value_index.specs.inside.EntryOrder.{entry_order, AscendByValue};
+ghost use Rattle.value_index.specs.inside.Orders.{order_at};
 ghost use Rattle.value_index.specs.inside.Runs.{ListsOnce};
 
 use crate::bisection::run_of;
+use crate::by_value::ByValue;
 use crate::entry::Entry;
-use crate::keys::{flag_of, number_of, text_of, truth_of, whole_of};
+use crate::kind::Kind;
+use crate::leaving::change_values;
 use crate::orders::EntryOrders;
 use crate::runs::Runs;
 use crate::value_plan::ValuePlan;
 use index_traits::{EntryList, Values};
-use lore_base::{Label, NoMemory, OemText, OidBuf, Op, Value};
-use sorted_list::SortedList;
+use lore_base::{Label, NoMemory, Oid, OidBuf, Op, Value};
+use sorted_list::OrderedList;
 use std::alloc::Global;
 use std::marker::Model;
 
-/// Value entries in five orders: whole numbers, texts, flags, texts that read as whole numbers, and
-/// texts that read as flags. Contracts see it as the list of entries in the order of label and
-/// object, and for how many more each order has room.
+/// The values of objects, each once, and in five orders the value entries that name them: of whole
+/// numbers, of texts, of flags, of texts that read as whole numbers, and of texts that read as
+/// flags. Contracts see it as the list of entries in the order of label and object, and for how
+/// many more values and entries it has room.
 #[derive(Drop)]
 pub struct ValueIndex {
-    wholes: SortedList<Entry<i64>>,
-    chars: SortedList<Entry<OemText>>,
-    flags: SortedList<Entry<bool>>,
-    readings: SortedList<Entry<i64>>,
-    flag_readings: SortedList<Entry<bool>>,
+    values: Vec<(Oid, Value)>,
+    wholes: OrderedList<Entry>,
+    chars: OrderedList<Entry>,
+    flags: OrderedList<Entry>,
+    readings: OrderedList<Entry>,
+    flag_readings: OrderedList<Entry>,
 }
 
 impl Model for ValueIndex {
+    ghost use Rattle.std.specs.Prelude.{◌-◌, length, vec_capacity};
     ghost use Rattle.value_index.specs.Values.{RoomyEntries};
     ghost use Rattle.value_index.specs.inside.Orders.{orders_of, in_order, AreCountedOrders};
 
     ghost Value = { RoomyEntries };
 
     ghost view = { λ i. record {
-      entries = in_order (orders_of i.wholes.items i.chars.items i.flags.items
+      entries = in_order (orders_of i.values.items i.wholes.items i.chars.items i.flags.items
           i.readings.items i.flag_readings.items);
       room = record {
+        values = vec_capacity i.values - length i.values.items;
         wholes = i.wholes.room;
         chars = i.chars.room;
         flags = i.flags.room;
@@ -47,8 +56,8 @@ impl Model for ValueIndex {
       };
     } };
 
-    ghost invariant = { λ i. AreCountedOrders (orders_of i.wholes.items i.chars.items i.flags.items
-        i.readings.items i.flag_readings.items) };
+    ghost invariant = { λ i. AreCountedOrders (orders_of i.values.items i.wholes.items
+        i.chars.items i.flags.items i.readings.items i.flag_readings.items) };
 }
 
 impl ValueIndex {
@@ -57,11 +66,12 @@ impl ValueIndex {
         ensures { result.entries ≡ [] }
     {
         ValueIndex {
-            wholes: SortedList::new(alloc),
-            chars: SortedList::new(alloc),
-            flags: SortedList::new(alloc),
-            readings: SortedList::new(alloc),
-            flag_readings: SortedList::new(alloc),
+            values: Vec::new(alloc),
+            wholes: OrderedList::new(alloc),
+            chars: OrderedList::new(alloc),
+            flags: OrderedList::new(alloc),
+            readings: OrderedList::new(alloc),
+            flag_readings: OrderedList::new(alloc),
         }
     }
 
@@ -73,8 +83,8 @@ impl ValueIndex {
         ensures gone { IfOk result (λ plan. plan.gone ≡ gone.now) }
         ensures come { IfOk result (λ plan. plan.come ≡ come.now) }
     {
-        // What goes is kept here, so that its values are atomic.
-        let _kept = &self.wholes;
+        // What goes is kept here, so that its values are atomic, and one for each object.
+        let _kept = &self.values;
         let alloc = come.allocator();
         let gone = EntryOrders::of(alloc, gone.as_slice())?;
         let come = EntryOrders::of(alloc, come.as_slice())?;
@@ -87,6 +97,7 @@ impl ValueIndex {
         ensures room { OnOk result (HasRoom self.new plan.now) }
         ensures same { self.new.entries ≡ self.old.entries }
     {
+        self.values.reserve(plan.come.values.len())?;
         self.wholes.reserve(plan.come.wholes.len())?;
         self.chars.reserve(plan.come.chars.len())?;
         self.flags.reserve(plan.come.flags.len())?;
@@ -103,38 +114,58 @@ impl ValueIndex {
         ensures entries { IsLessWith self.old.entries plan.gone plan.come self.new.entries }
     {
         let ValuePlan { gone, come } = plan;
+        let old = self.values.as_slice();
+        take_from(&mut self.wholes, old, &gone, Kind::Wholes);
+        take_from(&mut self.chars, old, &gone, Kind::Texts);
+        take_from(&mut self.flags, old, &gone, Kind::Flags);
+        take_from(&mut self.readings, old, &gone, Kind::Readings);
+        take_from(&mut self.flag_readings, old, &gone, Kind::FlagReadings);
         let EntryOrders {
+            values,
             wholes,
             chars,
             flags,
             readings,
-            flag_readings,
+            flag_readings: read_flags,
         } = come;
-        self.wholes.change(gone.wholes.as_slice(), wholes);
-        self.chars.change(gone.chars.as_slice(), chars);
-        self.flags.change(gone.flags.as_slice(), flags);
-        self.readings.change(gone.readings.as_slice(), readings);
-        self.flag_readings
-            .change(gone.flag_readings.as_slice(), flag_readings);
+        change_values(
+            &mut self.values,
+            gone.into_values(),
+            values,
+            &self.wholes,
+            &self.chars,
+            &self.flags,
+        );
+        let new = self.values.as_slice();
+        put_into(&mut self.wholes, new, Kind::Wholes, wholes);
+        put_into(&mut self.chars, new, Kind::Texts, chars);
+        put_into(&mut self.flags, new, Kind::Flags, flags);
+        put_into(&mut self.readings, new, Kind::Readings, readings);
+        put_into(&mut self.flag_readings, new, Kind::FlagReadings, read_flags);
     }
 
-    // What a probe finds in each order: there the entries whose key compares so with the one that
-    // the value has there, or is sought by.
+    // What a probe finds in each order: there the entries whose values compare so with this one.
     fn runs(&self, label: Label, op: Op, value: &Value) -> Runs<'_>
         requires op { IsProbed op }
         ensures found { ListsOnce (IsFound self.now.entries label op value.now) result }
         ensures few { length result < 2 ^ 32 }
     {
-        let number = number_of(value);
-        let truth = truth_of(value);
-        let whole = whole_of(value);
-        let flag = flag_of(value);
+        let values = self.values.as_slice();
+        let readings = self.readings.as_slice();
+        let flag_readings = self.flag_readings.as_slice();
         Runs {
-            wholes: run_of(self.wholes.as_slice(), label, op, number.as_ref()),
-            chars: run_of(self.chars.as_slice(), label, op, text_of(value)),
-            flags: run_of(self.flags.as_slice(), label, op, truth.as_ref()),
-            readings: run_of(self.readings.as_slice(), label, op, whole.as_ref()),
-            flag_readings: run_of(self.flag_readings.as_slice(), label, op, flag.as_ref()),
+            wholes: run_of(
+                self.wholes.as_slice(),
+                values,
+                Kind::Wholes,
+                label,
+                op,
+                value,
+            ),
+            chars: run_of(self.chars.as_slice(), values, Kind::Texts, label, op, value),
+            flags: run_of(self.flags.as_slice(), values, Kind::Flags, label, op, value),
+            readings: run_of(readings, values, Kind::Readings, label, op, value),
+            flag_readings: run_of(flag_readings, values, Kind::FlagReadings, label, op, value),
         }
     }
 }
@@ -153,3 +184,35 @@ impl Values for ValueIndex {
         self.runs(label, op, value).len()
     }
 }
+
+// Takes the entries of the kind that go out of their order.
+fn take_from(
+    order: &mut OrderedList<Entry>,
+    values: &[(Oid, Value)],
+    gone: &EntryOrders,
+    kind: Kind,
+)
+    requires objects { AscendByObject values.now }
+    requires ascend { AscendByValue values.now kind order.old.items }
+    ensures without { AreWithout (entry_order values.now kind) (order_at gone.now kind)
+        order.old.items order.new.items }
+    ensures room { order.old.room ≤ order.new.room }
+{
+    let listed = ByValue::new(gone.values.as_slice(), kind);
+    order.take_out(&ByValue::new(values, kind), gone.order(kind), &listed);
+}
+
+// Puts the entries that come, which stand in their order already, into an order.
+fn put_into(order: &mut OrderedList<Entry>, values: &[(Oid, Value)], kind: Kind, come: Vec<Entry>)
+    requires objects { AscendByObject values.now }
+    requires ascend { AscendByValue values.now kind order.old.items }
+    requires come { AscendByValue values.now kind come.items }
+    requires new { All (λ entry. ¬ Contains order.old.items entry) come.items }
+    requires room { length come.items ≤ order.old.room }
+    ensures { AreJoined (entry_order values.now kind) order.old.items come.items order.new.items }
+{
+    order.put_in(&ByValue::new(values, kind), come);
+}
+
+#[cfg(test)]
+mod tests;

@@ -10,13 +10,22 @@ pub struct ValuePlan {
 }
 
 impl Model for ValuePlan {
+    ghost use Rattle.std.specs.Prelude.{length};
     ghost use Rattle.value_index.specs.Values.{PlannedEntries};
+    ghost use Rattle.value_index.specs.inside.Orders.{in_order};
 
     ghost Value = { PlannedEntries };
 
     ghost view = { λ p. record {
-      gone = p.gone.entries;
-      come = p.come.entries;
-      needs = p.come.room;
+      gone = in_order p.gone;
+      come = in_order p.come;
+      needs = record {
+        values = length p.come.values;
+        wholes = length p.come.wholes;
+        chars = length p.come.chars;
+        flags = length p.come.flags;
+        readings = length p.come.readings;
+        flag_readings = length p.come.flag_readings;
+      };
     } };
 }

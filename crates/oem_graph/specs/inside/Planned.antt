@@ -8,10 +8,10 @@ use Rattle.edge_lists.specs.Objects.{object_of}
 use Rattle.edge_lists.specs.Views.{edges_of}
 use Rattle.edge_lists.specs.Commits.{ArePlaces}
 use Rattle.oem_graph.specs.Plans.{with_objects, put_edges}
-use Rattle.oem_graph.specs.inside.EdgeTests.{AreFound}
+use Rattle.edge_layers.specs.EdgeTests.{AreFound}
 use Rattle.oem_graph.specs.inside.Left.{AreAscendingOids, not_dead, edges_left, AreGone}
-use Rattle.oem_graph.specs.inside.Layers.{staying}
-use Rattle.oem_graph.specs.inside.Linked.{AreLists}
+use Rattle.edge_layers.specs.Layers.{staying}
+use Rattle.edge_layers.specs.Lists.{AreLists}
 
 -- each part of the plan ascends; no dead object is given a value, and no edge goes that comes; the places of the edges
 -- that come are told in some order, and there is room for their keys

@@ -3,9 +3,8 @@ ghost use Rattle.oem_graph.specs.Plans.{graph_then};
 ghost use Rattle.oem_graph.specs.inside.Samples.{numbered, sample, sample_objects, edges_before, edges_after};
 
 use super::Graph;
-use crate::edge_changes::copied_edges;
 use crate::graph_plan::GraphPlan;
-use crate::places::places_by_child;
+use edge_layers::{RunStarts, copied_edges, places_by_child};
 use edge_lists::{EdgeRecord, ObjectRecord, Side};
 use index_traits::Adjacent;
 use lore_base::{
@@ -90,6 +89,7 @@ fn planned(alloc: Global) -> Result<GraphPlan, NoMemory>
         likely: Vec::new(alloc),
         by_child,
         keys,
+        starts: RunStarts::none(alloc),
     })
 }
 
@@ -108,8 +108,8 @@ fn head(objects: &[ObjectRecord], side: Side, oid: Oid) -> Option<usize> {
     for object in objects {
         if object.oid == oid {
             return match side {
-                Side::Out => object.first_out,
-                Side::In => object.first_in,
+                Side::Out => object.first_out.key(),
+                Side::In => object.first_in.key(),
             };
         }
     }
@@ -133,11 +133,11 @@ fn listed(alloc: Global, graph: &Graph, side: Side, oid: Oid) -> Result<Vec<(usi
             out_after,
             in_before: _,
             in_after,
-        } = *record;
-        found.push((key, edge))?;
+        } = record;
+        found.push((key, *edge))?;
         next = match side {
-            Side::Out => out_after,
-            Side::In => in_after,
+            Side::Out => out_after.key(),
+            Side::In => in_after.key(),
         };
     }
     Ok(found)
@@ -174,6 +174,16 @@ fn are_edges(rows: &[(usize, Edge)], edges: &[Edge]) -> bool {
     rows.len() == edges.len()
 }
 
+// Whether the keys are the places of the edges in their order.
+fn are_keys_in_order(rows: &[(usize, Edge)]) -> bool {
+    for (place, row) in rows.iter().enumerate() {
+        if row.0 != place {
+            return false;
+        }
+    }
+    true
+}
+
 // Whether each edge that stands in both has one key.
 fn keep_keys(before: &[(usize, Edge)], after: &[(usize, Edge)]) -> bool {
     for old in before {
@@ -203,7 +213,7 @@ fn count_parts(graph: Graph) -> (usize, usize) {
             first_out,
             first_in,
         } = object;
-        if first_out.is_some() && first_in.is_some() {
+        if first_out.key().is_some() && first_in.key().is_some() {
             lists = lists.saturating_add(1);
         }
     }
@@ -211,8 +221,9 @@ fn count_parts(graph: Graph) -> (usize, usize) {
     (lists, held.len())
 }
 
-// One edge goes and another one comes first in the order: the others keep their keys, and the links
-// lead along the lists that readers are given.
+// A graph that is restored has its records in the order of its edges. Then one edge goes and another
+// one comes first in the order: the others keep their keys, and the links lead along the lists that
+// readers are given.
 #[test]
 fn stated_fields(rt: HostRuntime) -> Result<(), Fail> {
     let alloc = rt.alloc();
@@ -223,6 +234,7 @@ fn stated_fields(rt: HostRuntime) -> Result<(), Fail> {
     let entering = all_listed(alloc, &graph, Side::In)?;
     let edges = told::<Brand>(alloc, &graph, Blank::new(1))?;
     assert_eq!(rt; before.len(), 3);
+    assert!(rt; are_keys_in_order(before.as_slice()));
     assert!(rt; keep_keys(before.as_slice(), out.as_slice()));
     assert!(rt; are_edges(out.as_slice(), edges.as_slice()));
     assert!(rt;

@@ -1,10 +1,10 @@
 -- What one step makes of a row.
-use Rattle.std.specs.Prelude.{◌≡◌, ◌≢◌, ◌↔◌, ℕ, ◌<◌, ◌^◌, Bool, true, false, List, [], ◌∷◌, ◌++◌, length, map, reverse, Some, AllPairs, Contains, slice_get, slice_set}
+use Rattle.std.specs.Prelude.{◌≡◌, ◌≢◌, ◌↔◌, ℕ, ◌<◌, ◌^◌, ◌⊎◌, Bool, true, false, List, [], ◌∷◌, ◌++◌, length, map, reverse, drop, Some, AllPairs, Contains, slice_get, slice_set}
 use Rattle.lorel_bound.specs.Plans.{StepTree}
 use Rattle.plan_ops.specs.Types.{Oid, RANGES, PartialRow}
-use Rattle.plan_ops.specs.Steps.{StepsOver, Meets, slot_of}
+use Rattle.plan_ops.specs.Steps.{StepsOver, Meets, Finishes, slot_of}
 use Rattle.plan_ops.specs.declared.offers.Offer.{Offer}
-use Rattle.plan_ops.specs.declared.offers.Offer.TheVariants.{Fill, Keep, Reject}
+pub use Rattle.plan_ops.specs.declared.offers.Offer.TheVariants.{Fill, Lend, Keep, Reject}
 
 -- the other row is the same but in the slot that the step fills
 pub record IsVariant (step : StepTree) (row other : List Oid) : Type 0 where
@@ -16,9 +16,22 @@ pub record AreOffered (over : StepsOver) (step : StepTree) (row : List Oid) (row
   pub exact : (other : List Oid) → Contains rows other ↔ (IsVariant step row other × Meets over step other)
   pub apart : AllPairs (λ a b. a ≢ b) rows
 
+-- no row finishes this one by these steps
+abbrev pub IsHopeless : StepsOver → List StepTree → List Oid → Type 0
+IsHopeless over later partial = (row : List Oid) → Finishes over later partial row → ⊥
+
+-- the same rows, but for some that are hopeless before the later steps
+pub record AreKept (over : StepsOver) (step : StepTree) (later : List StepTree) (row : List Oid)
+    (rows : List (List Oid)) : Type 0 where
+  pub sound : (other : List Oid) → Contains rows other → IsVariant step row other × Meets over step other
+  pub complete : (other : List Oid) → IsVariant step row other → Meets over step other
+      → Contains rows other ⊎ IsHopeless over later other
+  pub apart : AllPairs (λ a b. a ≢ b) rows
+
 -- the rows that an offer makes of a row
 abbrev pub offered : Offer → List Oid → List (List Oid)
 offered (Fill slot oids) row = map (slice_set row slot) oids
+offered (Lend slot oids) row = map (slice_set row slot) oids.now
 offered Keep row = row ∷ []
 offered Reject row = []
 
@@ -30,13 +43,53 @@ tested false = Reject
 -- what an offer fills is a slot
 abbrev pub FillsSlot : Offer → Type 0
 FillsSlot (Fill slot oids) = slot < RANGES
+FillsSlot (Lend slot oids) = slot < RANGES
 FillsSlot Keep = Unit {0}
 FillsSlot Reject = Unit {0}
+
+-- its objects ascend
+abbrev pub FillsInOrder : Offer → Type 0
+FillsInOrder (Fill slot oids) = AllPairs (λ a b. a.0 < b.0) oids
+FillsInOrder (Lend slot oids) = AllPairs (λ a b. a.0 < b.0) oids.now
+FillsInOrder Keep = Unit {0}
+FillsInOrder Reject = Unit {0}
+
+-- and the slot is the step's
+abbrev pub FillsItsSlot : StepTree → Offer → Type 0
+FillsItsSlot step (Fill slot oids) = slot_of step ≡ Some slot
+FillsItsSlot step (Lend slot oids) = slot_of step ≡ Some slot
+FillsItsSlot step Keep = Unit {0}
+FillsItsSlot step Reject = Unit {0}
+
+-- the offer puts these objects into the slot
+abbrev pub HasObjects : Offer → ℕ → List Oid → Type 0
+HasObjects (Fill own objects) slot oids = (own ≡ slot) × (objects ≡ oids)
+HasObjects (Lend own objects) slot oids = (own ≡ slot) × (objects.now ≡ oids)
+HasObjects Keep slot oids = ⊥
+HasObjects Reject slot oids = ⊥
 
 -- the offer is what the step makes of the row
 pub record IsOffer (over : StepsOver) (step : StepTree) (row : List Oid) (offer : Offer) : Type 0 where
   pub fills : FillsSlot offer
+  pub ordered : FillsInOrder offer
+  pub own : FillsItsSlot step offer
   pub rows : AreOffered over step row (offered offer row)
+
+-- the same, but for some hopeless rows
+pub record IsKeptOffer (over : StepsOver) (step : StepTree) (later : List StepTree) (row : List Oid) (offer : Offer)
+    : Type 0 where
+  pub fills : FillsSlot offer
+  pub rows : AreKept over step later row (offered offer row)
+
+-- the offer is what the step at this place of a plan makes of the row
+abbrev pub IsOfferAt : StepsOver → List StepTree → ℕ → List Oid → Offer → Type 0
+IsOfferAt over steps at row offer =
+    (step : StepTree) (later : List StepTree) → drop at steps ≡ step ∷ later → IsOffer over step row offer
+
+-- the same, but for some hopeless rows
+abbrev pub IsKeptAt : StepsOver → List StepTree → ℕ → List Oid → Offer → Type 0
+IsKeptAt over steps at row offer =
+    (step : StepTree) (later : List StepTree) → drop at steps ≡ step ∷ later → IsKeptOffer over step later row offer
 
 -- a row before the step with this number
 abbrev pub partial_at : ℕ → List Oid → PartialRow

@@ -1,9 +1,10 @@
 -- The probes of the program as plain data, and which paths end in a plain label.
 use Rattle.std.specs.Prelude.{◌≡◌, ℕ, List, [], ◌∷◌, ◌++◌}
-use Rattle.lore_base.specs.Paths.{PathTree, path_tree, step, seq, trees_of}
+use Rattle.lore_base.specs.Paths.{PathTree, path_tree, step}
 use Rattle.lorel_bound.specs.Plans as plans
 use Rattle.planner.specs.Types.{Plain}
 use Rattle.planner.specs.declared.probes.Probe.{Probe}
+pub use Rattle.planner.specs.Ends.{EndsIn}
 
 -- what the program's probe asks for
 abbrev pub probe_tree : Probe → plans.Probe
@@ -18,7 +19,3 @@ probe_tree probe = record {
 -- the last of these parts is the plain label with the text
 abbrev pub PartsEndIn : List PathTree → List ℕ → Type 0
 PartsEndIn parts label = (front : List PathTree) × (parts ≡ front ++ step (Plain label) ∷ [])
-
--- the path is made of parts, the last of which is the plain label with the text
-abbrev pub EndsIn : PathTree → List ℕ → Type 0
-EndsIn path label = (front : List PathTree) × (path ≡ seq (trees_of (front ++ step (Plain label) ∷ [])))

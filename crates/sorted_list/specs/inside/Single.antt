@@ -8,17 +8,7 @@ pub record IsWithout {T : Type 0} (cmp : T → T → Ordering) (gone : T) (items
   pub ascend : Ascends cmp less
   pub members : (item : T) → Contains less item ↔ (Contains items item × (item ≢ gone))
 
--- the items but these
-pub record AreWithout {T : Type 0} (cmp : T → T → Ordering) (gone items less : List T) : Type 0 where
-  pub ascend : Ascends cmp less
-  pub members : (item : T) → Contains less item ↔ (Contains items item × (¬ Contains gone item))
-
 -- the items and this one
 pub record IsWith {T : Type 0} (cmp : T → T → Ordering) (new : T) (items more : List T) : Type 0 where
   pub ascend : Ascends cmp more
   pub members : (item : T) → Contains more item ↔ (Contains items item ⊎ (item ≡ new))
-
--- one item less, and one more
-abbrev pub IsExchanged : {T : Type 0} → (T → T → Ordering) → T → T → List T → List T → Type 0
-IsExchanged {T} cmp gone new items after =
-    (between : List T) × IsWithout cmp gone items between × IsWith cmp new between after

@@ -1,6 +1,5 @@
-use Rattle.std.proofs.Common.{◌≡◌, Some, None, List, [], ◌∷◌, ℕ, Contains, sym, ap, ◌∙◌}
+use Rattle.std.proofs.Common.{[], ◌∷◌}
 use Rattle.edge_lists.specs.Types.{Out, In}
-use Rattle.edge_lists.specs.Chains.{AreChained, IsPlace}
 use Rattle.edge_lists.proofs.ChangeLaws.{contains-from, apart_from, next_of_new, joined_chain, other_chain, out_in, once_at}
 use Rattle.edge_lists.proofs.changes.put_in.Goals as goal
 

@@ -1,7 +1,7 @@
-use Rattle.std.proofs.Common.{◌≡◌, Some, None, List, [], ◌∷◌, ℕ, Contains, sym, ap, ◌∙◌}
-use Rattle.edge_lists.specs.Types.{Out, In}
+use Rattle.std.proofs.Common.{[], ◌∷◌}
+use Rattle.edge_lists.specs.Types.{Out}
 use Rattle.edge_lists.proofs.ProbeLaws.{own_among}
-use Rattle.edge_lists.proofs.ChangeLaws.{contains-from, apart_from, next_of_new, IsReady, ready, put_out_all}
+use Rattle.edge_lists.proofs.ChangeLaws.{contains-from, apart_from, next_of_new, ready, put_out_all}
 use Rattle.edge_lists.proofs.changes.put_out.Goals as goal
 
 pub spot_of-spot-requires-clause-chained : goal.spot_of-spot-requires-clause-chained

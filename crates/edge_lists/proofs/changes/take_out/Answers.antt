@@ -1,5 +1,4 @@
-use Rattle.std.proofs.Common.{◌≡◌, Some, None, List, [], ◌∷◌, ℕ, Contains, sym, ap, ◌∙◌}
-use Rattle.edge_lists.specs.Types.{Out, In}
+use Rattle.std.proofs.Common.{[]}
 use Rattle.edge_lists.proofs.ChangeLaws.{contains-from, none_waits, half_taken, take_out_all, live-same}
 use Rattle.edge_lists.proofs.changes.take_out.Goals as goal
 

@@ -1,4 +1,3 @@
-use Rattle.std.proofs.Common.{ℕ, ◌∙◌}
 use Rattle.edge_lists.specs.Types.{Edge}
 use Rattle.edge_lists.proofs.CommitLaws.{all_live, changed_all}
 use Rattle.edge_lists.proofs.commits.commit_edges.Goals as goal

@@ -1,6 +1,6 @@
-use Rattle.std.proofs.Common.{◌≡◌, ℕ, ◌+◌, List, [], ◌∷◌, drop, get_or, Contains, refl, subst, arith}
+use Rattle.std.proofs.Common.{ℕ, ◌+◌, List, ◌∷◌, drop, get_or, Contains, refl, subst, arith}
 use Rattle.std.specs.Option.{IfSome}
-use Rattle.edge_lists.specs.Types.{Edge, Out, In}
+use Rattle.edge_lists.specs.Types.{Edge, In}
 use Rattle.edge_lists.specs.Records.{LiesAt}
 use Rattle.edge_lists.specs.Chains.{StandsAt, AreChained}
 use Rattle.edge_lists.specs.Commits.{AreEntered, key_at, keys_at}

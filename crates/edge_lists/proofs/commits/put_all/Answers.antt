@@ -1,4 +1,4 @@
-use Rattle.std.proofs.Common.{◌≡◌, sym, ap, ◌∙◌, take, ◌++◌, ◌∷◌, []}
+use Rattle.std.proofs.Common.{◌∙◌, []}
 use Rattle.edge_lists.proofs.ChangeLaws.{live-same, none_waits}
 use Rattle.edge_lists.proofs.CommitLaws.{fresh_at, put_step}
 use Rattle.edge_lists.proofs.commits.put_all.Goals as goal

@@ -1,5 +1,5 @@
 use Rattle.edge_lists.specs.Types.{Out, In}
-use Rattle.edge_lists.proofs.CommitLaws.{live_end, taken_one, taken_absent}
+use Rattle.edge_lists.proofs.CommitLaws.{live_end, taken_one}
 use Rattle.edge_lists.proofs.commits.take_edge.Goals as goal
 
 pub take_out-requires-clause-parent : goal.take_out-requires-clause-parent

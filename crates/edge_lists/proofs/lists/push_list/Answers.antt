@@ -1,4 +1,4 @@
-use Rattle.std.proofs.Common.{◌≡◌, ℕ, ◌<◌, Option, Some, None, [], sym, ap, ◌∙◌, subst}
+use Rattle.std.proofs.Common.{ℕ, ◌<◌, Option, Some, None, [], sym, ap, ◌∙◌, subst}
 use Rattle.edge_lists.specs.Types.{After}
 use Rattle.edge_lists.specs.Records.{edge_in, link_in}
 use Rattle.edge_lists.proofs.WalkLaws.{no_record}

@@ -1,4 +1,4 @@
-use Rattle.std.proofs.Common.{ap, rules}
+use Rattle.std.proofs.Common.{rules}
 use Rattle.std.proofs.lemmas.List.Sorted.{answers_always}
 use Rattle.edge_lists.proofs.ObjectLaws.{found_oid, none_live}
 use Rattle.edge_lists.proofs.objects.place_of.Goals as goal

@@ -1,4 +1,4 @@
-use Rattle.std.proofs.Common.{sym, ap, ◌∙◌}
+use Rattle.std.proofs.Common.{sym, ap}
 use Rattle.edge_lists.specs.Records.{edge_in}
 use Rattle.edge_lists.proofs.probes.leads.Goals as goal
 

@@ -1,7 +1,7 @@
-use Rattle.std.proofs.Common.{◌≡◌, Some, None, List, [], sym, ap, ◌∙◌, subst}
+use Rattle.std.proofs.Common.{[], ◌∙◌}
 use Rattle.edge_lists.specs.Types.{Out}
 use Rattle.edge_lists.proofs.ChangeLaws.{next_is, none_waits, not_there}
-use Rattle.edge_lists.proofs.ProbeLaws.{none_among, none_in_empty}
+use Rattle.edge_lists.proofs.ProbeLaws.{none_among}
 use Rattle.edge_lists.proofs.walks.find.Goals as goal
 
 pub spot_of-spot-requires-clause-chained : goal.spot_of-spot-requires-clause-chained

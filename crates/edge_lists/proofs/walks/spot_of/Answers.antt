@@ -1,7 +1,6 @@
-use Rattle.std.proofs.Common.{◌≡◌, Some, None, sym, ap, ◌∙◌, arith}
+use Rattle.std.proofs.Common.{Some, None, sym, ap, ◌∙◌, arith}
 use Rattle.std.proofs.lemmas.Bool.{true≢false}
 use Rattle.edge_lists.specs.Types.{Oid}
-use Rattle.edge_lists.specs.Edges.{owner_of}
 use Rattle.edge_lists.specs.Records.{edge_in}
 use Rattle.edge_lists.specs.Chains.{next_of}
 use Rattle.edge_lists.proofs.WalkLaws.{place_here, next_stands, nearer, past_record, no_record, fewer_from}

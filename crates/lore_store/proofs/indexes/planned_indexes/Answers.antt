@@ -67,4 +67,5 @@ returns-clause-entries g c =
 
 pub returns-clause-reads : goal.returns-clause-reads
 returns-clause-reads g c ascend =
-    rw (c.as_slice.ensures, c.as_slice-2.ensures, c.as_slice-3.ensures, c.delta-delta.ensures) at c.in_ok-entries.ensures.reads ascend
+    rw (c.as_slice.ensures, c.as_slice-2.ensures, c.as_slice-3.ensures, c.delta-delta.ensures, c.then-then.ensures.objects)
+    at c.in_ok-entries.ensures.reads ascend

@@ -3,6 +3,9 @@ use Rattle.oem_graph.proofs.DeadLaws.{found_oid, no_oid}
 use Rattle.oem_graph.proofs.LeftLaws.{among, not_among}
 use Rattle.oem_graph.proofs.dead_oids.is_dead.Goals as goal
 
+pub returns-then-stands_at : goal.returns-then-stands_at
+returns-then-stands_at c = sym (c.stands_at.ensures c.if-stands_at.true)
+
 pub returns-in-Ok : goal.returns-in-Ok
 returns-in-Ok c = sym (among _ _ (found_oid _ _ _ _ c.in-Ok.ensures.bound (c.in-Ok.ensures.position c.args.oid)))
 

@@ -2,8 +2,14 @@ use Rattle.std.proofs.Common.{◌≡◌, [], ◌∷◌, ◌++◌, map, sym, ap, 
 use Rattle.std.proofs.lemmas.List.{append-nil, nil_from_length}
 use Rattle.edge_lists.specs.Objects.{object_of}
 use Rattle.oem_graph.specs.inside.Differing.{AreDiffering}
+use Rattle.edge_layers.proofs.LayerLaws.{none_there}
+use Rattle.oem_graph.proofs.EmptyLaws.{differing-all}
 use Rattle.oem_graph.proofs.DeltaLaws.{differing-none, differing-more}
 use Rattle.oem_graph.proofs.deltas.differing.Goals as goal
+
+pub returns-then-is_empty : goal.returns-then-is_empty
+returns-then-is_empty c = differing-all (map object_of c.args.objects.now) c.args.given
+    (ap (map object_of) (none_there c.args.objects.now c.is_empty.result c.is_empty.ensures c.if-is_empty.true))
 
 pub given-init : goal.given-init
 given-init c = record {

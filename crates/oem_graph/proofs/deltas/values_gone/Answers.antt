@@ -1,8 +1,14 @@
 use Rattle.std.proofs.Common.{List, ◌++◌, map, ap, ◌∙◌}
 use Rattle.edge_lists.specs.Objects.{object_of}
 use Rattle.oem_graph.specs.Types.{Oid, Value}
+use Rattle.edge_layers.proofs.LayerLaws.{none_there}
+use Rattle.oem_graph.proofs.EmptyLaws.{gone-nothing}
 use Rattle.oem_graph.proofs.DeltaLaws.{gone-objects, oids-rise, same_number}
 use Rattle.oem_graph.proofs.deltas.values_gone.Goals as goal
+
+pub returns-then-is_empty : goal.returns-then-is_empty
+returns-then-is_empty c = gone-nothing (map object_of c.args.objects.now) c.args.dead.now c.args.come.now c.new.result
+    (ap (map object_of) (none_there c.args.objects.now c.is_empty.result c.is_empty.ensures c.if-is_empty.true)) c.new.ensures
 
 pub values_of-requires-clause-oids : goal.values_of-requires-clause-oids
 values_of-requires-clause-oids c = rw c.as_slice.ensures (oids-rise c.sort_set.new.self c.sort_set.ensures.ascend)

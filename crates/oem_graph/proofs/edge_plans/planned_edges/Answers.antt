@@ -6,8 +6,8 @@ use Rattle.oem_graph.specs.Types.{Edge}
 use Rattle.oem_graph.specs.inside.Left.{is_among}
 use Rattle.oem_graph.proofs.edge_plans.planned_edges.Goals as goal
 
-pub places_by_child-requires : goal.places_by_child-requires
-places_by_child-requires c = subst (λ (l : List Edge). AreAscendingEdges l) (sym (c.as_slice-7.ensures ∙ c.in_ok-come.ensures))
+pub join_order-requires : goal.join_order-requires
+join_order-requires c = subst (λ (l : List Edge). AreAscendingEdges l) (sym (c.as_slice-3.ensures ∙ c.in_ok-come.ensures))
     (AllPairs-filter (λ a b. edge_cmp a b ≡ Less) (λ (e : Edge). not (is_among c.args.dead.now e.parent)) c.in_ok-added.added.absent c.in_ok-added.ensures.absent_ascend)
 
 pub returns : goal.returns
@@ -18,9 +18,9 @@ returns c = record {
   fresh_there = c.in_ok-added.added.there;
   fresh = c.in_ok-added.added.absent;
   added = rw c.as_slice-2.ensures at c.in_ok-added.ensures;
-  goes = rw (c.in_ok-lost_too.ensures, c.as_slice-3.ensures) at c.in_ok-gone.ensures;
+  goes = c.in_ok-gone.ensures;
   comes = c.in_ok-come.ensures;
-  places = rw c.as_slice-7.ensures at c.in_ok-by_child.ensures;
+  places = rw c.as_slice-3.ensures at c.in_ok-by_child.ensures;
   no_keys = c.in_ok-keys.ensures.items;
   key_room = omega (arith, c.in_ok-keys.ensures.exact, c.len.ensures);
 }

@@ -2,8 +2,8 @@ use Rattle.oem_graph.proofs.GoneLaws.{leaving-none, leaving-more}
 use Rattle.oem_graph.proofs.edges_then.leaving_edges.Goals as goal
 
 pub oids-init : goal.oids-init
-oids-init c = rw c.new-leaving.ensures (leaving-none c.args.records.now)
+oids-init c = rw c.new-edges.ensures (leaving-none c.args.records.now)
 
 pub oids-preserved : goal.oids-preserved
 oids-preserved c = leaving-more c.args.records.now c.args.oids.now c.requires.oids c.oids.oid-index _ c.oids-test.true
-    c.oids.leaving c.push_list.new.found c.oids.invariant c.in_ok-push_list.ensures.ok
+    c.oids.edges c.push_records.new.found c.oids.invariant c.in_ok-push_records.ensures

@@ -1,7 +1,7 @@
 use Rattle.std.proofs.Common.{List, sym, ap, ◌∙◌}
 use Rattle.oem_graph.specs.Types.{Oid}
 use Rattle.oem_graph.specs.inside.Left.{edges_left}
-use Rattle.oem_graph.proofs.LayerLaws.{none_there}
+use Rattle.edge_layers.proofs.LayerLaws.{none_there}
 use Rattle.oem_graph.proofs.LeftLaws.{all-edges-left}
 use Rattle.oem_graph.proofs.edges_then.with_living_parents.Goals as goal
 

@@ -4,8 +4,8 @@ use Rattle.oem_graph.specs.Plans.{PlannedGraph}
 use Rattle.oem_graph.proofs.PlanLaws.{whole-is, plan-whole}
 use Rattle.oem_graph.proofs.linked_graph.whole_plan.Goals as goal
 
-pub places_by_child-requires : goal.places_by_child-requires
-places_by_child-requires c = rw (c.as_slice-2.ensures, c.in_ok-come.ensures, c.as_slice.ensures) c.requires.ordered.edges_ascend
+pub join_order-requires : goal.join_order-requires
+join_order-requires c = rw (c.as_slice-2.ensures, c.in_ok-come.ensures, c.as_slice.ensures) c.requires.ordered.edges_ascend
 
 pub invariant_of-result : goal.invariant_of-result
 invariant_of-result c =

@@ -1,8 +1,15 @@
-use Rattle.std.proofs.Common.{◌≡◌, Contains, subst, arith}
+use Rattle.std.proofs.Common.{◌≡◌, map, ap, Contains, subst, arith}
+use Rattle.edge_layers.proofs.LayerLaws.{none_there}
+use Rattle.edge_lists.specs.Objects.{object_of}
+use Rattle.oem_graph.proofs.EmptyLaws.{count-given}
 use Rattle.oem_graph.proofs.CountLaws.{few-left, given-step}
 use Rattle.edge_lists.specs.Objects.{IsLive}
 use Rattle.oem_graph.specs.Types.{Oid, Value}
 use Rattle.oem_graph.proofs.object_changes.count_objects.Goals as goal
+
+pub returns-then-is_empty : goal.returns-then-is_empty
+returns-then-is_empty c = count-given c.args.dead.now (map object_of c.args.objects.now) c.args.given.now
+    (ap (map object_of) (none_there c.args.objects.now c.is_empty.result c.is_empty.ensures c.if-is_empty.true)) c.requires.given
 
 pub given-init : goal.given-init
 given-init c = record {

@@ -2,7 +2,7 @@ use Rattle.std.proofs.Common.{not, rules}
 use Rattle.std.proofs.lemmas.Fn.{filter_same}
 use Rattle.oem_graph.specs.Types.{ObjectRecord}
 use Rattle.oem_graph.specs.inside.Left.{is_among}
-use Rattle.oem_graph.proofs.LayerLaws.{none_there}
+use Rattle.edge_layers.proofs.LayerLaws.{none_there}
 use Rattle.oem_graph.proofs.RecordLaws.{all-stay}
 use Rattle.oem_graph.proofs.object_changes.drop_objects.Goals as goal
 

@@ -19,4 +19,4 @@ returns-in_default-clause-put c =
 pub returns-clause-put : goal.returns-clause-put
 returns-clause-put c = put-inserted c.args.objects.now.items c.insert.new.self.items c.args.oid c.args.value c.in-Some.place (is_ok c.insert.result) c.requires.ascend
     (subst (λ (l : List ObjectRecord). IsGap l c.args.oid c.in-Some.place) c.as_slice.ensures.value c.in-Some.ensures.gap)
-    c.insert.ensures.items (ap is_ok c.in-Ok.is)
+    (rw c.alone-object.ensures at c.insert.ensures.items) (ap is_ok c.in-Ok.is)

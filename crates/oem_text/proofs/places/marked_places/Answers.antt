@@ -1,30 +1,30 @@
-use Rattle.std.proofs.Common.{◌≡◌, ◌+◌, ◌<◌, true, false, List, length, take, drop, sym, subst, arith}
-use Rattle.std.proofs.lemmas.List.{take-append-drop}
-use Rattle.std.proofs.lemmas.Grind.{common_steps}
+use Rattle.std.proofs.Common.{ℕ, ◌<◌, List, [], length, take, sym, subst, arith}
 use Rattle.oem_text.specs.Literals.{Body}
 use Rattle.oem_text.specs.inside.Views.{bodies_of}
-use Rattle.oem_text.specs.inside.Places.{place_in, AreDouble, ArePlaces}
-use Rattle.oem_text.proofs.LinkLaws.{literals_more, literals_taken}
-use Rattle.oem_text.proofs.PlaceLaws.{double_more}
+use Rattle.oem_text.specs.inside.Places.{AreMarks}
+use Rattle.oem_text.proofs.LinkLaws.{literals_more, literals_taken, literals_all}
+use Rattle.oem_text.proofs.MarkLaws.{marks_none, places_of_marks, double_of_marks}
 use Rattle.oem_text.proofs.places.marked_places.Goals as goal
+
+pub literals-init : goal.literals-init
+literals-init c = subst (λ (l : List (ℕ × ℕ)). AreMarks [] l) (sym c.new-marks.ensures) marks_none
 
 pub literals-preserved : goal.literals-preserved
 literals-preserved c =
     let literals = c.args.literals.now in
     let i = c.literals.place in
     let low : i < length literals = omega arith in
-    let single : c.in_ok-mark_place.field-0 ≡ true = grind (arith, common_steps) in
-    subst (λ (l : List Body). ArePlaces l (place_in c.mark_place.new.places)) (sym (literals_more literals i c.index-literals-place.result low c.index-literals-place.is))
-    (c.in_ok-mark_place.ensures.marked (take i (bodies_of literals)) c.literals.invariant (literals_taken literals i low) single)
+    subst (λ (l : List Body). AreMarks l c.add_mark.new.marks) (sym (literals_more literals i c.index-literals-place.result low c.index-literals-place.is))
+    (c.in_ok-add_mark.ensures (take i (bodies_of literals)) c.literals.invariant (literals_taken literals i low))
 
-pub returns-then-not-branch-clause-none : goal.returns-then-not-branch-clause-none
-returns-then-not-branch-clause-none c =
+pub returns-in_default-clause-none : goal.returns-in_default-clause-none
+returns-in_default-clause-none c =
     let literals = c.args.literals.now in
-    let bodies = bodies_of literals in
-    let i = c.literals.place in
-    let low : i < length literals = omega arith in
-    let single : c.in_ok-mark_place.field-0 ≡ false = grind (arith, common_steps) in
-    let double = c.in_ok-mark_place.ensures.double (take i bodies) c.literals.invariant (literals_taken literals i low) single in
-    subst AreDouble (take-append-drop (i + 1) bodies)
-    (double_more (take (i + 1) bodies) (drop (i + 1) bodies)
-    (subst AreDouble (sym (literals_more literals i c.index-literals-place.result low c.index-literals-place.is)) double))
+    let all = subst (λ (l : List Body). AreMarks l c.literals.marks) (literals_all literals c.literals.place (omega arith)) c.literals.invariant in
+    double_of_marks (bodies_of literals) c.literals.marks all c.in_default.ensures.none
+
+pub returns-clause-some : goal.returns-clause-some
+returns-clause-some c =
+    let literals = c.args.literals.now in
+    let all = subst (λ (l : List Body). AreMarks l c.literals.marks) (literals_all literals c.literals.place (omega arith)) c.literals.invariant in
+    places_of_marks (bodies_of literals) c.literals.marks c.in-Some.places all c.in-Some.ensures.some c.in-Some.ensures.ascend

@@ -1,4 +1,4 @@
-use Rattle.std.proofs.Common.{◌≡◌, true, sym, ◌∙◌, arith}
+use Rattle.std.proofs.Common.{◌≡◌, ℕ, true, List, Some, sym, ap, ◌∙◌, arith}
 use Rattle.std.proofs.lemmas.Grind.{common_steps}
 use Rattle.oem_text.specs.inside.Places.{place_in}
 use Rattle.oem_text.proofs.PlaceLaws.{placed_local}
@@ -9,5 +9,6 @@ returns-in-Some-clause-placed c =
     λ bodies are.
     let link = c.args.link in
     let local : link.is_local ≡ true = grind (arith, common_steps) in
-    placed_local bodies (place_in c.args.places.now) link.parent link.child c.in-Some.place link.label.now link.is_local local
-    (sym c.get.ensures.value ∙ sym c.copied.ensures ∙ c.in-Some.is) are
+    let known : place_in c.args.places.now link.child ≡ Some c.in-Some.place =
+    ap (λ (l : List (ℕ × ℕ)). place_in l link.child) (sym c.as_slice.ensures) ∙ sym c.place_of.ensures ∙ c.in-Some.is in
+    placed_local bodies (place_in c.args.places.now) link.parent link.child c.in-Some.place link.label.now link.is_local local known are

@@ -32,6 +32,18 @@ rows_over-requires-clause-fits g c =
     c.values.result.now.entries c.values.ensures (TellsReached c.new-paths.result)
     (paths_told db (TellsReached c.new-paths.result) c.new-paths.result.labels (c.new-paths.ensures.labels ∙ c.labels-labels.ensures) tells))
 
+pub rows_over-requires-clause-indexed : goal.rows_over-requires-clause-indexed
+rows_over-requires-clause-indexed g c = λ yes.
+    let db = c.args.store.now.db in
+    let names = c.names.ensures ∙ ap (λ (graph : OemGraph). graph.names) c.graph-graph.ensures.graph in
+    let tells = guide_tells db c.guide.result.now c.new-paths.result c.names.result.now names c.guide.ensures.guide c.guide.ensures.guided
+    c.new-paths.ensures.tells in
+    let agrees = its_view db (bound_tree c.args.bound.now) c.labels-labels.result.now c.graph-graph.result.now.graph
+    c.labels-labels.ensures c.graph-graph.ensures.graph c.requires.named c.links.result.now.links c.links.ensures
+    c.values.result.now.entries c.values.ensures (TellsReached c.new-paths.result)
+    (paths_told db (TellsReached c.new-paths.result) c.new-paths.result.labels (c.new-paths.ensures.labels ∙ c.labels-labels.ensures) tells) in
+    record { links_are = agrees.links; entries_are = agrees.entries }
+
 pub returns-clause-rows : goal.returns-clause-rows
 returns-clause-rows g c =
     let db = c.args.store.now.db in

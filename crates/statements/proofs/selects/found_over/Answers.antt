@@ -1,5 +1,6 @@
 use Rattle.std.proofs.Common.{◌≡◌, ℕ, List, inl, subst}
 use Rattle.std.specs.Prelude.{IfOk, IfErr, IfSome}
+use Rattle.std.proofs.lemmas.Bool.{false≢true}
 use Rattle.lorel_bound.specs.Bound.{bound_tree}
 use Rattle.answers.specs.Asked.{AreRows, AreTooMany}
 use Rattle.statements.specs.Types.refusals
@@ -15,6 +16,9 @@ pub rows_over-requires-clause-fits : goal.rows_over-requires-clause-fits
 rows_over-requires-clause-fits g c =
     inl (forward_walks c.labels-labels.result.now (bound_tree c.args.bound.now) c.in_ok-plan.plan c.in_ok-plan.ensures.kind
     (c.in_ok-plan.ensures.steps c.labels-labels.result.now))
+
+pub rows_over-requires-clause-indexed : goal.rows_over-requires-clause-indexed
+rows_over-requires-clause-indexed g c = λ yes. absurd (false≢true yes)
 
 pub returns-clause-rows : goal.returns-clause-rows
 returns-clause-rows g c =

@@ -1,7 +1,7 @@
 use Rattle.std.proofs.Common.{◌≡◌, [], ◌∷◌, Option, IfSome, List, subst}
 use Rattle.oem_labels.specs.Labels.{label_in}
 use Rattle.oem_text.specs.Layouts.{texts_of, edges_from, table_of, with_texts}
-use Rattle.oem_graph.proofs.EdgeLaws.{edge_same}
+use Rattle.edge_layers.proofs.EdgeLaws.{edge_same}
 use Rattle.updates.specs.Types.{Label, Edge}
 use Rattle.updates.proofs.TextLaws.{stamp_is}
 use Rattle.updates.proofs.stamps.stamp_of.Goals as goal

@@ -7,12 +7,12 @@ use Rattle.value_index.proofs.RunLaws.{parted_before, parted_in, run_is, sides_r
 use Rattle.value_index.proofs.bisection.bisected.Goals as goal
 
 pub returns : goal.returns
-returns g c =
+returns c =
     let entries = c.args.entries.now in
     let start = c.partition_point-start.result in
     let len = c.partition_point-len.result in
-    let side = side_in g.K.Ord.cmp c.args.label c.args.op c.args.key.now in
-    let rise = sides_rise g.K.Ord.cmp g.met.K.Ord.total c.args.label c.args.op c.args.key.now entries c.requires.ascend in
+    let side = side_in c.args.values.now c.args.kind c.args.label c.args.op c.args.value.now in
+    let rise = sides_rise c.args.values.now c.args.kind c.args.label c.args.op c.args.value.now entries c.requires.ascend in
     let low = IsPartitionPoint-from_clause (λ e. nat_eq (ordering_index (side e)) 0) entries start
     c.partition_point-start.ensures.partitioned (parted_before side entries rise) (λ a r q k. search rules) in
     let rest = take_rest entries start in

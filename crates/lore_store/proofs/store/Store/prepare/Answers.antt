@@ -1,5 +1,9 @@
-use Rattle.std.proofs.Common.{refl, sym, ap, subst, ◌∙◌, arith}
+use Rattle.std.proofs.Common.{◌≡◌, ℕ, List, refl, sym, ap, subst, ◌∙◌, arith}
 use Rattle.std.proofs.lemmas.Result.{err_from_is_err_and}
+use Rattle.lore_base.specs.declared.edges.Oid.{Oid}
+use Rattle.lore_base.specs.declared.edges.Edge.{Edge}
+use Rattle.lore_base.specs.declared.values.Value.{Value}
+use Rattle.lore_base.specs.declared.deltas.Delta.{Delta}
 use Rattle.lore_base.specs.Databases.{IsValid}
 use Rattle.lore_base.specs.ChangeSets.{FitsGraph, Fits, IsGraphAfter, IsOverlay}
 use Rattle.lore_base.specs.Deltas.{IsDelta}
@@ -8,6 +12,7 @@ use Rattle.oem_changes.proofs.ValidLaws.{rooted_graph}
 use Rattle.oem_changes.proofs.RootedLaws.{rooted_after}
 use Rattle.oem_labels.specs.Labels.{first_uses, LeadsFrom}
 use Rattle.oem_graph.specs.Plans.{graph_then}
+use Rattle.value_changes.specs.Reads.{ReadsChanged}
 use Rattle.lore_store.specs.Faults.{refusal_of}
 use Rattle.lore_store.specs.Indexes.{AreIndexed}
 use Rattle.lore_store.specs.Stores.{RoomyDatabase, PlannedDatabase, database_of, order}
@@ -178,6 +183,13 @@ returns-in_err-guide-clause-refused g c =
     explored_within db.graph changes overlay.edges overlay.lost overlay.fresh (rooted_graph db valid) c.requires.fits.graph over (graph_then db.graph plan) after
     _ _ _ c.in_ok-dead.ensures.spent (c.in_err-guide.ensures.refused other))
 
+-- what was read for the entries, as the view of the store tells it
+seen_reads : (inner seen : RoomyDatabase) → inner ≡ seen → (delta : Delta) → (edges : List Edge) → (objects_then : RoomyDatabase → List (Oid × Value)) → (old now : ℕ)
+    → ReadsChanged edges delta.edges_gone delta.edges_come delta.objects_come inner.db.graph.objects (objects_then inner) old now
+    → ReadsChanged edges delta.edges_gone delta.edges_come delta.objects_come seen.db.graph.objects (objects_then seen) old now
+seen_reads inner seen is delta edges objects_then old now reads =
+    subst (λ (store : RoomyDatabase). ReadsChanged edges delta.edges_gone delta.edges_come delta.objects_come store.db.graph.objects (objects_then store) old now) is reads
+
 pub returns-clause-reads : goal.returns-clause-reads
 returns-clause-reads g c =
     let db = c.args.self.now.db in
@@ -189,7 +201,9 @@ returns-clause-reads g c =
     let after = subst (λ (store : RoomyDatabase). IsGraphAfter store.db.graph changes (graph_then store.db.graph plan)) c.self.view_is c.in_ok-graph.ensures.after in
     let differ = subst (λ (store : RoomyDatabase). IsDelta store.db.graph (graph_then store.db.graph plan) plan.delta) c.self.view_is c.in_ok-graph.ensures.delta in
     prepared_within db.graph changes overlay.edges overlay.lost overlay.fresh (rooted_graph db valid) c.requires.fits.graph over (graph_then db.graph plan) after
-    plan.delta differ _ _ _ _ c.in_ok-dead.ensures.spent c.in_ok-guide.ensures.spent (c.in_ok-indexes.ensures.reads over.linked.ascend)
+    plan.delta differ _ _ _ _ c.in_ok-dead.ensures.spent c.in_ok-guide.ensures.spent
+    (seen_reads _ _ c.self.view_is plan.delta overlay.edges (λ store. (graph_then store.db.graph plan).objects) _ _
+    (c.in_ok-indexes.ensures.reads over.linked.ascend))
 
 pub returns-clause-delta : goal.returns-clause-delta
 returns-clause-delta g c =

@@ -4,7 +4,7 @@ use Rattle.edge_lists.specs.Views.{edges_of, those_there}
 use Rattle.oem_graph.specs.Types.{Edge}
 use Rattle.oem_graph.specs.Graphs.{RoomyGraph}
 use Rattle.oem_graph.specs.Plans.{PlannedGraph, graph_then, put_edges, AreEdgeChanges}
-use Rattle.oem_graph.specs.inside.Layers.{staying}
+use Rattle.edge_layers.specs.Layers.{staying}
 use Rattle.oem_graph.proofs.ChangeLaws.{changes-are}
 use Rattle.oem_graph.proofs.linked_graph.Graph.edge_changes.Goals as goal
 

@@ -1,7 +1,7 @@
 use Rattle.std.proofs.Common.{length, ap, subst, arith}
 use Rattle.oem_graph.specs.Graphs.{RoomyGraph, IsIndexable}
 use Rattle.oem_graph.proofs.GraphLaws.{few-records}
-use Rattle.oem_graph.proofs.ViewLaws.{count-edges}
+use Rattle.edge_layers.proofs.ViewLaws.{count-edges}
 use Rattle.oem_graph.proofs.linked_graph.Graph.edges.Goals as goal
 
 pub overflow_cast-result : goal.overflow_cast-result

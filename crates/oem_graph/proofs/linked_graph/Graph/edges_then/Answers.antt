@@ -5,7 +5,7 @@ use Rattle.oem_graph.specs.Graphs.{RoomyGraph}
 use Rattle.oem_graph.specs.Plans.{PlannedGraph, graph_then}
 use Rattle.oem_graph.proofs.ChangeLaws.{length-left, length-then}
 use Rattle.oem_graph.proofs.GraphLaws.{few-records}
-use Rattle.oem_graph.proofs.ViewLaws.{count-edges}
+use Rattle.edge_layers.proofs.ViewLaws.{count-edges}
 use Rattle.oem_graph.proofs.linked_graph.Graph.edges_then.Goals as goal
 
 pub overflow_sub-result : goal.overflow_sub-result

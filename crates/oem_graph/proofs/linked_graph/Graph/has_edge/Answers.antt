@@ -3,7 +3,7 @@ use Rattle.lore_base.specs.ChangeSets.{HasChildren}
 use Rattle.edge_lists.specs.Objects.{head_of}
 use Rattle.oem_graph.specs.Types.{Out, ObjectRecord}
 use Rattle.oem_graph.specs.Graphs.{RoomyGraph}
-use Rattle.oem_graph.proofs.ViewLaws.{has-children}
+use Rattle.edge_layers.proofs.ViewLaws.{has-children}
 use Rattle.oem_graph.proofs.linked_graph.Graph.has_edge.Goals as goal
 
 pub returns : goal.returns

@@ -5,7 +5,7 @@ use Rattle.edge_lists.specs.Views.{edges_of}
 use Rattle.oem_graph.specs.Types.{Oid, Edge, Value}
 use Rattle.oem_graph.specs.Graphs.{RoomyGraph}
 use Rattle.oem_graph.specs.Plans.{PlannedGraph, graph_then, put_edges, with_objects}
-use Rattle.oem_graph.specs.inside.Layers.{staying}
+use Rattle.edge_layers.specs.Layers.{staying}
 use Rattle.oem_graph.specs.inside.Left.{not_dead}
 use Rattle.oem_graph.proofs.PlanLaws.{read-then}
 use Rattle.oem_graph.proofs.linked_graph.Graph.then.Goals as goal

@@ -2,7 +2,7 @@ use Rattle.std.proofs.Common.{[], ◌∷◌, ap, ◌∙◌, refl, arith}
 use Rattle.oem_graph.specs.Types.{Edge}
 use Rattle.oem_graph.specs.Plans.{PlannedGraph}
 use Rattle.oem_graph.specs.inside.Samples.{numbered}
-use Rattle.oem_graph.proofs.EdgeLaws.{ascend-one}
+use Rattle.edge_layers.proofs.EdgeLaws.{ascend-one}
 use Rattle.oem_graph.proofs.SampleLaws.{sample-plan, sample-then}
 use Rattle.oem_graph.proofs.linked_graph.tests.planned.Goals as goal
 

@@ -6,6 +6,7 @@ use Rattle.plan_ops.specs.Steps.{steps_over}
 use Rattle.plan_ops.specs.inside.Ready.{CanBeReady}
 use Rattle.plan_ops.proofs.ReadyLaws.{steps_can, first_of, first_machine}
 use Rattle.plan_ops.proofs.DescribeLawsToCome.{top_to_come, sought_to_come}
+use Rattle.plan_ops.proofs.ToldLaws.{unasked_told}
 use Rattle.plan_ops.proofs.rows.Rows.new.Goals as goal
 
 pub ready_steps-requires : goal.ready_steps-requires
@@ -17,8 +18,8 @@ pub invariant_of-result : goal.invariant_of-result
 invariant_of-result g c =
     let over = steps_over c.args.labels.now (g.A.Adjacent.edges c.args.graph.now) (g.K.Links.edges c.args.links.now) (g.V.Values.entries c.args.values.now)
     (g.P.Paths.reaches c.args.paths.now) (g.T.RowTest.passes c.args.test.now) in
-    first_machine over c.args.labels.now (bound_tree c.args.bound.now) c.args.plan.now.kind (steps_of c.args.plan.now) c.in_ok-ready.ready.items c.push.new.self.items
-    c.requires.runnable c.requires.plan (c.in_ok-ready.ensures.trees ∙ ap (map step_tree) c.as_slice.ensures) c.in_ok-ready.ensures.found
+    first_machine over c.args.labels.now (bound_tree c.args.bound.now) c.args.plan.now.kind (steps_of c.args.plan.now) c.in_ok-ready.ready.items c.in_ok-told.told.items c.push.new.self.items
+    c.requires.runnable c.requires.plan (c.in_ok-ready.ensures.trees ∙ ap (map step_tree) c.as_slice.ensures) c.in_ok-ready.ensures.found (unasked_told over.passes c.in_ok-told.told.items c.in_ok-told.ensures)
     (first_of c.new-partials.result.items c.push.new.self.items c.new.result c.new-partials.ensures.items c.in_ok-push.ensures.items c.new.ensures)
 
 pub returns-clause-rows : goal.returns-clause-rows

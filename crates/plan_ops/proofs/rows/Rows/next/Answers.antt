@@ -19,6 +19,9 @@ pub next_row-requires-clause-found : goal.next_row-requires-clause-found
 next_row-requires-clause-found g c =
     subst (λ (r : List ReadyStep). All (HasFound (g.P.Paths.reaches c.self.inside.sources.paths.now)) r) (sym c.as_slice.ensures.value) c.self.invariant.found
 
+pub next_row-requires-clause-told : goal.next_row-requires-clause-told
+next_row-requires-clause-told g c = c.self.invariant.told_are
+
 pub returns-clause-row : goal.returns-clause-row
 returns-clause-row g c =
     let inside = c.self.inside in

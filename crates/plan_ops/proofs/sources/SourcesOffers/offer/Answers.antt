@@ -1,16 +1,16 @@
 use Rattle.std.proofs.Common.{refl}
 use Rattle.plan_ops.specs.Steps.{steps_over}
-use Rattle.plan_ops.proofs.OfferLaws.{forward_offers, guide_offers, value_offers, none_found, back_offers, test_offers, check_tells}
+use Rattle.plan_ops.proofs.OfferLaws.{forward_offers, guide_offers, lent, value_offers, none_found, back_offers, test_offers, check_tells}
 use Rattle.plan_ops.proofs.sources.SourcesOffers.offer.Goals as goal
 
 pub returns-in_ok-oids-in-Forward-clause-rows : goal.returns-in_ok-oids-in-Forward-clause-rows
 returns-in_ok-oids-in-Forward-clause-rows g c =
     rw c.in-Forward.is (forward_offers _ _ _ _ _ _ _ (rw c.in-Forward.is at c.requires.stands) c.requires.eight c.object-from.ensures c.in_ok-oids-in-Forward.ensures)
 
-pub returns-in_ok-oids-in-FromGuide-clause-rows : goal.returns-in_ok-oids-in-FromGuide-clause-rows
-returns-in_ok-oids-in-FromGuide-clause-rows g c =
-    rw c.in-FromGuide.is (guide_offers _ _ _ _ _ _ _ c.in_ok-oids-in-FromGuide.ensures (rw c.in-FromGuide.is at c.requires.stands) c.requires.eight
-    (rw c.in-FromGuide.is at c.requires.found))
+pub returns-in-FromGuide-clause-rows : goal.returns-in-FromGuide-clause-rows
+returns-in-FromGuide-clause-rows g c =
+    rw c.in-FromGuide.is (lent _ _ _ _ _ _ (refl, refl)
+    (guide_offers _ _ _ _ _ _ (rw c.in-FromGuide.is at c.requires.stands) c.requires.eight (rw c.in-FromGuide.is at c.requires.found)))
 
 pub returns-in_ok-oids-in-FromValue-clause-rows : goal.returns-in_ok-oids-in-FromValue-clause-rows
 returns-in_ok-oids-in-FromValue-clause-rows g c =

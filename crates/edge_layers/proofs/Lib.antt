@@ -1,0 +1,12 @@
+pub mod EdgeLaws
+pub mod SearchLaws
+pub mod LayerLaws
+pub mod OverlayLaws
+pub mod FoundLaws
+pub mod TurnLaws
+pub mod EnterLaws
+pub mod RunLaws
+pub mod CutLaws
+pub mod PlaceLaws
+pub mod BackLaws
+pub mod ViewLaws

@@ -1,0 +1,5 @@
+pub mod ClueLaws
+pub mod EndLaws
+pub mod MadeLaws
+pub mod TestLaws
+pub mod TurnedLaws

@@ -1,0 +1,7 @@
+use Rattle.std.proofs.Common.{sym, ap, ◌∙◌}
+use Rattle.std.proofs.lemmas.Bool.{false≢true}
+use Rattle.lore_base.specs.Databases.{is_complex}
+use Rattle.index_eval.proofs.ends.count_of_ends.Goals as goal
+
+pub probe_count-requires-clause-value : goal.probe_count-requires-clause-value
+probe_count-requires-clause-value g c = λ same. false≢true (sym c.if-is_complex.false ∙ c.is_complex.ensures ∙ ap is_complex same)

@@ -1,0 +1,178 @@
+ghost use Rattle.std.specs.Prelude.{◌≡◌, ◌≢◌, ◌≤◌, All, AllPairs, option_map, IfOk};
+ghost use Rattle.std.specs.Option.{option_copied};
+ghost use Rattle.lorel_bound.specs.Bound.{bound_cond};
+ghost use Rattle.lorel_bound.specs.Conditions.{paths_in};
+ghost use Rattle.lorel_bound.specs.SlotRows.{HoldsOver};
+ghost use Rattle.lorel_eval.specs.Tests.{rest_leaves};
+ghost use Rattle.index_eval.specs.Types.{LEAVES};
+ghost use Rattle.index_eval.specs.Indexes.{AreIndexes};
+ghost use Rattle.index_eval.specs.inside.Clues.{IsClueIn};
+
+use crate::choosing::clue_for;
+use crate::clues::{Clue, clues_of};
+use crate::ends::{Readers, objects_by};
+use index_traits::{Adjacent, Links, Row, RowTest, ValueOf, Values};
+use lore_base::limits::RANGES;
+use lore_base::{NoMemory, OidBuf, Steps};
+use lorel_bound::BoundCond;
+use lorel_eval::Test;
+use oem_labels::LabelTable;
+use std::alloc::Global;
+use std::marker::Model;
+use std::sync::ledger::Ledger;
+
+/// A bound condition over a graph with indexes of its edges and values, which tell early which
+/// objects fit a slot; or over a graph alone. Contracts see the label texts, the edges, the objects
+/// with their values, and the condition.
+#[derive(Drop)]
+pub struct IndexedTest<'a, G: Adjacent + ValueOf, K: Links, V: Values> {
+    test: Test<'a, G, G>,
+    graph: &'a G,
+    labels: &'a LabelTable,
+    links: &'a K,
+    values: &'a V,
+    clues: Vec<Clue<'a>>,
+}
+
+impl<'a, G: Adjacent + ValueOf, K: Links, V: Values> Model for IndexedTest<'a, G, K, V> {
+    ghost use Rattle.std.specs.Coded.{codes};
+    ghost use Rattle.lorel_bound.specs.contracts.conditions.BoundCond as bound_cond_contract;
+    ghost use Rattle.lorel_eval.specs.Tests.{CondOver};
+    ghost use Rattle.index_eval.specs.inside.Clues.{IsServed};
+
+    ghost Value = { CondOver };
+
+    ghost coded = { Prim.hlevel (codes, bound_cond_contract.the_row.coded) };
+
+    ghost view = { λ t. t.test };
+
+    ghost invariant = { λ t. IsServed t.test t.labels.now (G.edges t.graph.now)
+        (G.objects t.graph.now) (K.edges t.links.now) (V.entries t.values.now) t.clues.items };
+}
+
+impl<'a, G: Adjacent + ValueOf, K: Links, V: Values> IndexedTest<'a, G, K, V> {
+    /// The test of this condition over a graph, its table of labels, and the indexes of its links
+    /// and of its values. The rests of the condition's paths have at most 64 leaves together.
+    pub fn new(
+        alloc: Global,
+        cond: Option<&'a BoundCond>,
+        graph: &'a G,
+        labels: &'a LabelTable,
+        links: &'a K,
+        values: &'a V,
+    ) -> Result<IndexedTest<'a, G, K, V>, NoMemory>
+        requires leaves { rest_leaves (paths_in (option_map bound_cond (option_copied cond)))
+            ≤ LEAVES }
+        requires indexes { AreIndexes (G.objects graph.now) (G.edges graph.now)
+            (K.edges links.now) (V.entries values.now) }
+        ensures labels { IfOk result (λ test. test.labels ≡ labels.now) }
+        ensures edges { IfOk result (λ test. test.edges ≡ G.edges graph.now) }
+        ensures objects { IfOk result (λ test. test.objects ≡ G.objects graph.now) }
+        ensures cond { IfOk result (λ test. test.cond ≡ option_copied cond.entry) }
+    {
+        let test = Test::ready(alloc, cond, graph, graph, labels)?;
+        let clues = clues_in(alloc, cond, labels)?;
+        Ok(IndexedTest {
+            test,
+            graph,
+            labels,
+            links,
+            values,
+            clues,
+        })
+    }
+
+    /// The same without help of the links and values, which may be any.
+    pub fn plain(
+        alloc: Global,
+        cond: Option<&'a BoundCond>,
+        graph: &'a G,
+        labels: &'a LabelTable,
+        links: &'a K,
+        values: &'a V,
+    ) -> Result<IndexedTest<'a, G, K, V>, NoMemory>
+        requires { rest_leaves (paths_in (option_map bound_cond (option_copied cond))) ≤ LEAVES }
+        ensures labels { IfOk result (λ test. test.labels ≡ labels.now) }
+        ensures edges { IfOk result (λ test. test.edges ≡ G.edges graph.now) }
+        ensures objects { IfOk result (λ test. test.objects ≡ G.objects graph.now) }
+        ensures cond { IfOk result (λ test. test.cond ≡ option_copied cond.entry) }
+    {
+        let test = Test::ready(alloc, cond, graph, graph, labels)?;
+        Ok(IndexedTest {
+            test,
+            graph,
+            labels,
+            links,
+            values,
+            clues: Vec::new(alloc),
+        })
+    }
+}
+
+impl<'a, G: Adjacent + ValueOf, K: Links, V: Values> RowTest for IndexedTest<'a, G, K, V> {
+    ghost passes = { λ test row.
+        HoldsOver test.labels test.edges test.objects row (option_map bound_cond test.cond) };
+
+    fn holds<L: Ledger>(
+        &self,
+        alloc: Global,
+        row: &Row,
+        steps: &mut Steps<L>,
+    ) -> Result<bool, NoMemory> {
+        self.test.holds(alloc, row, steps)
+    }
+
+    fn rules_out<L: Ledger>(
+        &self,
+        alloc: Global,
+        known: &[bool; RANGES],
+        row: &Row,
+        steps: &mut Steps<L>,
+    ) -> Result<bool, NoMemory> {
+        self.test.rules_out(alloc, known, row, steps)
+    }
+
+    fn fitting<L: Ledger>(
+        &self,
+        alloc: Global,
+        known: &[bool; RANGES],
+        slot: u32,
+        row: &Row,
+        steps: &mut Steps<L>,
+    ) -> Result<Option<OidBuf>, NoMemory> {
+        let Some(clue) = clue_for(self.values, self.clues.as_slice(), known, slot) else {
+            return Ok(None);
+        };
+        note_distinct(self.labels);
+        let readers = Readers {
+            graph: self.graph,
+            labels: self.labels,
+            links: self.links,
+            values: self.values,
+        };
+        objects_by(alloc, &readers, clue, row, steps)
+    }
+}
+
+// The clues of a condition, if there is one.
+fn clues_in<'a>(
+    alloc: Global,
+    cond: Option<&'a BoundCond>,
+    labels: &LabelTable,
+) -> Result<Vec<Clue<'a>>, NoMemory>
+    requires { rest_leaves (paths_in (option_map bound_cond (option_copied cond))) ≤ LEAVES }
+    ensures { IfOk result (λ clues.
+        All (IsClueIn labels.now (option_copied cond.entry)) clues.items) }
+{
+    match cond {
+        Some(cond) => clues_of(alloc, cond, labels),
+        None => Ok(Vec::new(alloc)),
+    }
+}
+
+// The texts of a table of labels are distinct. Nothing is done.
+fn note_distinct(labels: &LabelTable)
+    ensures { AllPairs (λ a b. a ≢ b) labels.now }
+{
+    let _count = labels.len();
+}

@@ -1,0 +1,10 @@
+//! Conditions tested on rows over a database with indexes: which objects fit a slot of a row is found
+//! from the values that the condition compares, and from there back along its paths.
+#![tactic(auto)]
+
+pub use indexed_test::IndexedTest;
+
+mod choosing;
+mod clues;
+mod ends;
+mod indexed_test;

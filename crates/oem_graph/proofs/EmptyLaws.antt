@@ -1,0 +1,48 @@
+-- What comes and what goes where there is nothing yet, or where nothing is lost.
+use Rattle.std.proofs.Common.{◌≡◌, List, [], length, Contains, sym, ap, inl, inr, subst, arith}
+use Rattle.slab.specs.Slab.{Slab}
+use Rattle.lore_base.specs.Databases.{AreAscendingObjects}
+use Rattle.lore_base.proofs.MemberLaws.{Contains-none}
+use Rattle.oem_graph.specs.Types.{Oid, Edge, Value, EdgeRecord}
+use Rattle.oem_graph.specs.Plans.{with_objects}
+use Rattle.oem_graph.specs.inside.Left.{not_dead, AreLeaving, AreGone}
+use Rattle.oem_graph.specs.inside.Differing.{AreDiffering, AreGoneObjects}
+use Rattle.oem_graph.proofs.PlanLaws.{all-given}
+
+-- where there was none, all of the given come
+pub differing-all : (old given : List (Oid × Value)) → old ≡ [] → AreDiffering old given given
+differing-all old given none = record {
+  ascend = λ up. up;
+  exact = λ o at. (at, λ there. Contains-none o (subst (λ (l : List (Oid × Value)). Contains l o) none there));
+  either = λ o at. inl at;
+}
+
+-- where there was none, there are as many as are given
+pub count-given : (dead : List Oid) (old given : List (Oid × Value)) → old ≡ [] → AreAscendingObjects given
+    → length given ≡ length (with_objects (not_dead dead old) given)
+count-given dead old given none ascend =
+    subst (λ (l : List (Oid × Value)). length given ≡ length (with_objects (not_dead dead l) given)) (sym none)
+    (sym (ap (λ (l : List (Oid × Value)). length l) (all-given given ascend)))
+
+-- where there was none, none goes
+pub gone-nothing : (old : List (Oid × Value)) (dead : List Oid) (come gone : List (Oid × Value)) → old ≡ [] → gone ≡ [] → AreGoneObjects old dead come gone
+gone-nothing old dead come gone empty none = record {
+  ascend = subst AreAscendingObjects (sym none) (λ i j d lt len. absurd (omega (arith, len)));
+  exact = λ o. (
+    λ at. absurd (Contains-none o (subst (λ (l : List (Oid × Value)). Contains l o) none at)),
+    λ both. absurd (Contains-none o (subst (λ (l : List (Oid × Value)). Contains l o) empty both.0)),
+  );
+}
+
+-- where none is lost those that leave dead objects go
+pub gone-leaving : (records : Slab EdgeRecord) (lost leaving : List Edge) (dead : List Oid) → lost ≡ [] → AreLeaving records dead leaving → AreGone records lost dead leaving
+gone-leaving records lost leaving dead none are = record {
+  ascend = are.ascend;
+  exact = λ edge. (
+    λ at. inr ((are.exact edge).0 at),
+    λ either. elim either [
+      | inl loses ↦ absurd (Contains-none edge (subst (λ (l : List Edge). Contains l edge) none loses))
+      | inr leaves ↦ (are.exact edge).1 leaves
+    ],
+  );
+}

@@ -1,9 +1,0 @@
-use Rattle.std.proofs.Common.{◌≡◌, ◌++◌, drop, not}
-use Rattle.std.specs.List.{filter}
-use Rattle.oem_graph.specs.inside.EdgeTests.{is_listed}
-use Rattle.oem_graph.proofs.edge_sets.without_kept.Given as goal
-
-abbrev pub invariant-edges : goal.invariant-edges
-invariant-edges l =
-    l.fresh ++ filter (λ edge. not (is_listed l.fn.kept edge)) (drop l.edge-index l.fn.more)
-    ≡ filter (λ edge. not (is_listed l.fn.kept edge)) l.fn.more

@@ -1,6 +1,0 @@
-use Rattle.std.proofs.Common.{take}
-use Rattle.oem_graph.specs.inside.Places.{ArePlaced}
-use Rattle.oem_graph.proofs.places.placed_edges.Given as goal
-
-abbrev pub invariant-edges : goal.invariant-edges
-invariant-edges l = ArePlaced (take l.place l.edges) l.placed

@@ -1,6 +1,0 @@
-use Rattle.std.proofs.Common.{◌≡◌, take, map}
-use Rattle.oem_graph.specs.declared.places.Placed.{Placed}
-use Rattle.oem_graph.proofs.places.places_of.Given as goal
-
-abbrev pub invariant-placed : goal.invariant-placed
-invariant-placed l = l.places.items ≡ map (λ (p : Placed). p.place) (take l.one-index l.placed)

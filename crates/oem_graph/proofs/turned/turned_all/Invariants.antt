@@ -1,6 +1,0 @@
-use Rattle.std.proofs.Common.{◌≡◌, take, map}
-use Rattle.oem_graph.specs.inside.Turned.{turn}
-use Rattle.oem_graph.proofs.turned.turned_all.Given as goal
-
-abbrev pub invariant-edges : goal.invariant-edges
-invariant-edges l = l.all ≡ map (turn l.side) (take l.edge-index l.edges)

@@ -1,0 +1,106 @@
+ghost use Rattle.std.specs.Prelude.{◌≡◌};
+ghost use Rattle.std.specs.Ordering.{nat_cmp, ordering_then};
+ghost use Rattle.value_index.specs.inside.Kinds.{value_cmp};
+ghost use Rattle.value_index.specs.inside.Held.{held, AscendByObject};
+ghost use Rattle.value_index.specs.inside.EntryOrder.{entry_order, order_total};
+
+use crate::entry::Entry;
+use crate::held::value_of;
+use crate::keys::compare_values;
+use crate::kind::Kind;
+use lore_base::{Oid, Value};
+use sorted_list::Order;
+use std::cmp::Ordering;
+use std::marker::Model;
+
+// The order of entries of a kind by label, value and object. Contracts see it as the values and the
+// kind.
+#[derive(Drop)]
+pub(crate) struct ByValue<'a> {
+    values: &'a [(Oid, Value)],
+    kind: Kind,
+}
+
+impl<'a> Model for ByValue<'a> {
+    ghost use Rattle.value_index.specs.inside.Held.{AscendByObject};
+    ghost use Rattle.value_index.specs.inside.EntryOrder.{ValueOrder};
+
+    ghost Value = { ValueOrder };
+
+    ghost view = { λ o. record { values = o.values.now; kind = o.kind } };
+
+    ghost invariant = { λ o. AscendByObject o.values.now };
+}
+
+impl<'a> ByValue<'a> {
+    // The order by these values.
+    pub(crate) fn new(values: &'a [(Oid, Value)], kind: Kind) -> ByValue<'a>
+        requires { AscendByObject values.now }
+        ensures values { result.values ≡ values.now }
+        ensures kind { result.kind ≡ kind }
+    {
+        ByValue { values, kind }
+    }
+}
+
+impl<'a> Order<Entry> for ByValue<'a> {
+    ghost order_of = { λ o. entry_order o.values o.kind };
+
+    ghost total = { λ o. order_total o.values o.kind };
+
+    fn compare(&self, first: &Entry, second: &Entry) -> Ordering {
+        compare_entries(self.values, self.kind, first, second)
+    }
+}
+
+// How the one entry stands to the other.
+fn compare_entries(values: &[(Oid, Value)], kind: Kind, a: &Entry, b: &Entry) -> Ordering
+    requires { AscendByObject values.now }
+    ensures { result ≡ entry_order values.now kind a.now b.now }
+{
+    match a.label.cmp(&b.label) {
+        Ordering::Equal => compare_objects(values, kind, a.object, b.object),
+        other => other,
+    }
+}
+
+// The same of entries of one label.
+fn compare_objects(values: &[(Oid, Value)], kind: Kind, a: Oid, b: Oid) -> Ordering
+    requires { AscendByObject values.now }
+    ensures { result ≡ ordering_then (value_cmp kind (held values.now a) (held values.now b))
+        (nat_cmp a.0 b.0) }
+{
+    match compare_held(values, kind, a, b) {
+        Ordering::Equal => a.cmp(&b),
+        other => other,
+    }
+}
+
+// How the values of two objects stand; that of an object without one is complex.
+fn compare_held(values: &[(Oid, Value)], kind: Kind, a: Oid, b: Oid) -> Ordering
+    requires { AscendByObject values.now }
+    ensures { result ≡ value_cmp kind (held values.now a) (held values.now b) }
+{
+    let none = Value::Complex;
+    match value_of(values, b) {
+        Some(value) => compare_to(values, kind, a, value),
+        None => compare_to(values, kind, a, &none),
+    }
+}
+
+// How the value of an object stands to this one.
+pub(crate) fn compare_to(
+    values: &[(Oid, Value)],
+    kind: Kind,
+    object: Oid,
+    value: &Value,
+) -> Ordering
+    requires { AscendByObject values.now }
+    ensures { result ≡ value_cmp kind (held values.now object) value.now }
+{
+    let none = Value::Complex;
+    match value_of(values, object) {
+        Some(own) => compare_values(kind, own, value),
+        None => compare_values(kind, &none, value),
+    }
+}
