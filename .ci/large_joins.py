@@ -7,6 +7,7 @@ from large_scripts import Case, braces, ok, rows
 
 EACH = 60_000  # members on each side of a join
 SCATTER = 7_919  # has no divisor with EACH in common
+REFERS_TO_58 = 50_764  # the one place that refers to 58: by the text "58"
 
 
 def key_of(place):
@@ -43,19 +44,44 @@ def join_case(loads, state):
     places = sorted((place, key) for key in range(EACH) for place in found[key])
     by_place = [f"{right_member(place)} | {left_member(key)}" for place, key in places]
     asked = ["select X, Y from A.x X, B.y Y where X.k = Y.ref;", "select X, Y from B.y Y, A.x X where Y.ref = X.k;",
-             "select Y, X from A.x X, B.y Y where X.k = Y.ref and Y.ref = X.k;"]
-    return Case("a join of tens of thousands with as many", [*loads, *asked], 0, state + rows(by_key) * 2 + rows(by_place))
+             "select Y, X from A.x X, B.y Y where X.k = Y.ref and Y.ref = X.k;",
+             "select X, Y from A.x X, B.y Y where Y.ref = X.k;", "select X, Y from A.x X, B.y Y where Y.ref = 58;"]
+    to_all = [f"{left_member(key)} | {right_member(REFERS_TO_58)}" for key in range(EACH)]
+    return Case("a join of tens of thousands with as many", [*loads, *asked], 0,
+                state + rows(by_key) * 2 + rows(by_place) + rows(by_key) + rows(to_all))
 
 
 def filter_case(loads, state):
     pairs = [rows(f"{left_member(key)} | {right_member(place)}" for place in range(EACH)) for key in (0, 7)]
-    asked = ["select X, Y from A.x X, B.y Y where X.k = 7;", "select X, Y from A.x X, B.y Y where X.k < 1;"]
+    asked = ["select X, Y from A.x X, B.y Y where X.k = 7;", "select X, Y from A.x X, B.y Y where X.k < 1;",
+             "select X, Y from A.x X, B.y Y where not X.k != 7;"]
+    found = pairs[1] + pairs[0] + pairs[1]
     return Case("a condition on one of tens of thousands, beside as many, by two plans",
-                [*loads, *asked, "set plan top;", *asked], 0,
-                state + pairs[1] + pairs[0] + state.splitlines(True)[1] + pairs[1] + pairs[0])
+                [*loads, *asked, "set plan top;", *asked], 0, state + found + state.splitlines(True)[1] + found)
+
+
+def shared_case():
+    shared = ", ".join(f"m {i}" for i in range(EACH))
+    records = [f"x {{ s &1 {{ {shared} }} }}", *["x { s &1 }"] * (EACH - 1)]
+    asked = f"set plan top; select X from A.x X where X.s.m = {EACH};"
+    return Case("a condition on what tens of thousands share", [braces("A", records), asked], 0,
+                ok(2 * EACH + 2, 3 * EACH, 4) * 2 + rows([]))
+
+
+def passing_case():
+    """The condition, of which no index tells, is met by the first members: few beside those that fail it."""
+    first, others = 70, 1_000
+    rest = 2 * EACH + 3  # the number of the first member of C
+    loads = [braces("A", (f"x {{ k {i} }}" for i in range(EACH))), braces("C", ["y {}"] * others)]
+    found = rows(f"&{2 + 2 * i} {{}} | &{rest + j} {{}}" for i in range(first) for j in range(others))
+    return Case("a condition that is met before it isn't, beside a thousand",
+                [*loads, f"select X, Y from A.x X, C.y Y where not X.k >= {first};"], 0,
+                ok(2 * EACH + 1, 2 * EACH, 3) + ok(rest + others - 1, 2 * EACH + others, 5) + found)
 
 
 def join_cases():
     loads, state = two_sides()
     yield join_case(loads, state)
     yield filter_case(loads, state)
+    yield shared_case()
+    yield passing_case()

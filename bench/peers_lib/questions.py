@@ -118,23 +118,6 @@ NONE = Work(
 )
 
 ONE = Work(
-    "none",
-    "how many are of an age that nobody has",
-    "select X from People.person X where X.age = 99;",
-    "[.persons[] | select((.age | tonumber) == 99)] | length",
-    "select count(*) from person where age = 99;",
-    counted=True,
-)
-
-OPTIONAL = Work(
-    "optional",
-    "each person with the phone, where there is one",
-    "select X.name, X.phone from People.person X; select X.name from People.person X where not exists Y in X.phone : Y == Y;",
-    ".persons[] | [.name, .phone] | @tsv",
-    "select name, phone from person;",
-)
-
-ONE = Work(
     "one",
     "one person by id",
     "select X.name from People.person X where X.id = ONE;",

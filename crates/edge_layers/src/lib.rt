@@ -6,7 +6,7 @@
 //! list and not by the graph.
 #![tactic(auto)]
 
-pub use edge_changes::{EdgeChanges, copied_edges};
+pub use edge_copies::copied_edges;
 pub use edge_overlay::Overlay;
 pub use edge_runs::run_of;
 pub use edge_sets::sifted_set;
@@ -15,7 +15,7 @@ pub use layers::push_leaving;
 pub use places::places_by_child;
 pub use run_starts::RunStarts;
 
-mod edge_changes;
+mod edge_copies;
 mod edge_overlay;
 mod edge_runs;
 mod edge_sets;

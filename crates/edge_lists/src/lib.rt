@@ -13,7 +13,7 @@ pub use lists::{push_list, push_records};
 pub use objects::{ObjectRecord, has_list, place_of};
 pub use records::EdgeRecord;
 pub use sides::{Side, Way};
-pub use sifts::{Sifted, count_there, found_edges, sift};
+pub use sifts::{Sifted, count_there, sift};
 
 mod chains;
 mod changes;

@@ -68,31 +68,6 @@ fn note(sifted: &mut Sifted, edge: &Edge, found: Found) -> Result<Option<usize>,
     }
 }
 
-/// Which of these edges are there, in the same order; where their records may lie is told beside
-/// them.
-pub fn found_edges(
-    alloc: Global,
-    objects: &[ObjectRecord],
-    records: &Slab<EdgeRecord>,
-    edges: &[Edge],
-    likely: &[usize],
-) -> Result<EdgeBuf, NoMemory>
-    requires ascend { AreAscendingObjects objects.now }
-    requires chained { AreChained Out objects.now records.now [] }
-    ensures { IfOk result (λ found. found ≡ those_there records.now edges.now) }
-{
-    let mut found = EdgeBuf::with_capacity(alloc, edges.len())?;
-    let mut last = None;
-    'edges: for (place, edge) in edges.iter().enumerate() {
-        let record = record_of(objects, records, edge, likely.get(place).copied(), last);
-        if record.is_some() {
-            last = record;
-            found.push(*edge)?;
-        }
-    }
-    Ok(found)
-}
-
 /// How many of these edges are there; where their records may lie is told beside them. Takes no
 /// memory.
 pub fn count_there(

@@ -1,7 +1,8 @@
 -- Restored databases: what a graph has in place of the new one, and that the store of one is whole.
-use Rattle.std.proofs.Common.{◌≡◌, ℕ, ◌+◌, ◌<◌, ◌^◌, List, [], length, refl, sym, ap, subst, ◌∙◌, arith}
+use Rattle.std.proofs.Common.{◌≡◌, ◌↔◌, ℕ, ◌+◌, ◌<◌, ◌^◌, List, [], length, Contains, refl, sym, ap, subst, ◌∙◌, arith}
 use Rattle.lore_base.specs.declared.edges.Oid.{Oid}
 use Rattle.lore_base.specs.declared.edges.Edge.{Edge}
+use Rattle.lore_base.specs.Deltas.{IsOnlyIn}
 use Rattle.lore_base.specs.GuideLimits.{FitsGuide}
 use Rattle.lore_base.specs.Databases.{OemGraph, Database, IsRooted, AreAscendingEdges, new_graph, new_database}
 use Rattle.lore_base.proofs.MemberLaws.{Contains-none}
@@ -10,7 +11,6 @@ use Rattle.oem_labels.specs.Labels.{AreLabels, first_uses}
 use Rattle.oem_labels.proofs.TextSetLaws.{first_uses-apart}
 use Rattle.oem_graph.specs.Graphs.{IsIndexable}
 use Rattle.oem_graph.proofs.GraphLaws.{linked_ends}
-use Rattle.oem_graph.specs.Plans.{AreEdgeChanges}
 use Rattle.lore_base.specs.Databases.{IsRestorable}
 use Rattle.index_traits.specs.declared.entries.ValueEntry.{ValueEntry}
 use Rattle.index_traits.specs.Entries.{AreLinks}
@@ -40,13 +40,17 @@ none_ascend = λ i j d low within. absurd (omega (arith, within))
 
 -- of the new graph no edge is lost, and all edges are fresh
 module _ (graph : OemGraph) (rooted : IsRooted graph) (lost fresh : List Edge) (none : lost ≡ []) (all : fresh ≡ graph.edges) where
-  pub first_edges : AreEdgeChanges [] graph.edges lost fresh
-  first_edges = rw (none, all) (record {
-    lost_ascend = none_ascend;
-    lost_exact = λ edge. (λ at. absurd (Contains-none edge at), λ only. absurd (Contains-none edge only.0));
-    fresh_ascend = rooted.well_formed.ordered.edges_ascend;
-    fresh_exact = λ edge. (λ at. (at, Contains-none edge), λ only. only.0);
-  })
+  pub lost_ascend : AreAscendingEdges lost
+  lost_ascend = rw none none_ascend
+
+  pub none_lost : (edge : Edge) → Contains lost edge ↔ IsOnlyIn [] graph.edges edge
+  none_lost = rw none (λ edge. (λ at. absurd (Contains-none edge at), λ only. absurd (Contains-none edge only.0)))
+
+  pub fresh_ascend : AreAscendingEdges fresh
+  fresh_ascend = rw all rooted.well_formed.ordered.edges_ascend
+
+  pub all_fresh : (edge : Edge) → Contains fresh edge ↔ IsOnlyIn graph.edges [] edge
+  all_fresh = rw all (λ edge. (λ at. (at, Contains-none edge), λ only. only.0))
 
 -- over links of no edge none is read
 none_read : (links : List Edge) → AreLinks [] links → AreRead links [] [] []
@@ -60,8 +64,8 @@ module _ (graph : OemGraph) (rooted : IsRooted graph) (links fresh : List Edge) 
   pub first_entries : (gone come : List ValueEntry) → IsFound new_graph graph links [] [] fresh [] gone come
       → AreEntryChanges (state_of new_graph) (state_of graph) gone come
   first_entries gone come found =
-      let differ = first_edges graph rooted [] fresh refl all in
-      found_changes new_graph graph links [] [] fresh [] new_rooted rooted differ.lost_exact differ.fresh_exact (new_keeps graph)
+      found_changes new_graph graph links [] [] fresh [] new_rooted rooted (none_lost graph rooted [] fresh refl all)
+      (all_fresh graph rooted [] fresh refl all) (new_keeps graph)
       (none_read links stands) gone come found
 
 -- distinct texts all come to a table of none

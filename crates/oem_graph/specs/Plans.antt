@@ -1,10 +1,9 @@
 -- Plans of changes: what becomes of a graph, and which graph a plan leads to.
-use Rattle.std.specs.Prelude.{ℕ, ◌≤◌, ◌↔◌, cond, nat_eq, nat_lt, List, [], ◌∷◌, length, Contains}
+use Rattle.std.specs.Prelude.{ℕ, ◌≤◌, cond, nat_eq, nat_lt, List, [], ◌∷◌, length}
 use Rattle.std.specs.Ordering.{is_lt}
 use Rattle.oem_graph.specs.Types.{Oid, Edge, Value, Delta}
 use Rattle.lore_base.specs.Walks.{edge_cmp}
-use Rattle.lore_base.specs.Databases.{OemGraph, AreAscendingEdges}
-use Rattle.lore_base.specs.Deltas.{IsOnlyIn}
+use Rattle.lore_base.specs.Databases.{OemGraph}
 use Rattle.oem_graph.specs.Graphs.{RoomyGraph}
 use Rattle.oem_graph.specs.inside.Left.{not_dead}
 use Rattle.edge_layers.specs.Layers.{staying}
@@ -60,10 +59,3 @@ graph_then before plan = record {
 pub record HasRoom (kept : RoomyGraph) (plan : PlannedGraph) : Type 0 where
   pub objects : length plan.delta.objects_come ≤ kept.object_room
   pub edges : length plan.delta.edges_come ≤ kept.edge_room
-
--- the edges that are lost in the second list, and those that are fresh in it, each in ascending order
-pub record AreEdgeChanges (edges then lost fresh : List Edge) : Type 0 where
-  pub lost_ascend : AreAscendingEdges lost
-  pub lost_exact : (edge : Edge) → Contains lost edge ↔ IsOnlyIn edges then edge
-  pub fresh_ascend : AreAscendingEdges fresh
-  pub fresh_exact : (edge : Edge) → Contains fresh edge ↔ IsOnlyIn then edges edge

@@ -7,7 +7,7 @@
 //! and by the lists concerned.
 #![tactic(auto)]
 
-pub use edge_layers::{EdgeChanges, Overlay};
+pub use edge_layers::Overlay;
 pub use graph_plan::GraphPlan;
 pub use graph_then::GraphThen;
 pub use linked_graph::Graph;

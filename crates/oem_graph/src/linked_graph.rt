@@ -9,7 +9,7 @@ ghost use Rattle.lore_base.specs.ChangeSets.{HasChildren, FitsGraph, IsOverlay, 
 ghost use Rattle.lore_base.specs.ChangeSets.{AreDead};
 ghost use Rattle.lore_base.specs.Deltas.{IsDelta};
 ghost use Rattle.oem_graph.specs.Graphs.{IsIndexable, graph_from};
-ghost use Rattle.oem_graph.specs.Plans.{graph_then, HasRoom, AreEdgeChanges};
+ghost use Rattle.oem_graph.specs.Plans.{graph_then, HasRoom};
 
 use crate::deltas::{differing, names_only_in, values_gone};
 use crate::edge_plans::planned_edges;
@@ -18,10 +18,8 @@ use crate::graph_then::GraphThen;
 use crate::object_changes::{count_objects, drop_objects, put_objects};
 use crate::object_lists::value_of;
 use crate::objects_then::objects_given;
-use edge_layers::{EdgeChanges, Overlay, RunStarts, copied_edges, join_order, sifted_set};
-use edge_lists::{
-    EdgeRecord, ObjectRecord, Side, commit_edges, count_there, found_edges, has_list, push_list,
-};
+use edge_layers::{Overlay, RunStarts, copied_edges, join_order, sifted_set};
+use edge_lists::{EdgeRecord, ObjectRecord, Side, commit_edges, count_there, has_list, push_list};
 use index_traits::{Adjacent, ValueOf};
 use lore_base::{
     Changes, Delta, EdgeBuf, Names, NoMemory, ObjectList, OemText, Oid, OidBuf, Steps, TryCopy,
@@ -238,25 +236,6 @@ impl Graph {
             plan.likely.as_slice(),
         );
         self.records.len() - gone + plan.delta.edges_come.as_slice().len()
-    }
-
-    /// The edges that the plan takes away and those that it brings, each in ascending order. No
-    /// step is counted.
-    pub fn edge_changes(&self, plan: &GraphPlan) -> Result<EdgeChanges, NoMemory>
-        requires { AreAscendingEdges (graph_then self.now.graph plan.now).edges }
-        ensures { IfOk result (λ changes. AreEdgeChanges self.now.graph.edges
-            (graph_then self.now.graph plan.now).edges changes.lost changes.fresh) }
-    {
-        let alloc = *self.objects.allocator();
-        let lost = found_edges(
-            alloc,
-            self.objects.as_slice(),
-            &self.records,
-            plan.delta.edges_gone.as_slice(),
-            plan.likely.as_slice(),
-        )?;
-        let fresh = copied_edges(alloc, plan.delta.edges_come.as_slice())?;
-        Ok(EdgeChanges { lost, fresh })
     }
 
     /// The objects and the edges that the plan leads to, for readers before it is put in place.

@@ -14,7 +14,7 @@ use crate::known_slots::{is_filled_next, is_tested_later, known_with, knows_some
 use crate::offers::{Offer, Offers};
 use crate::ready_steps::ReadyStep;
 use crate::step_objects::common;
-use crate::tallies::{Tally, is_worth, note};
+use crate::tallies::{Tally, is_worth, note, note_left};
 use crate::told::{Told, ask_once, told_of};
 use index_traits::Row;
 use lore_base::limits::RANGES;
@@ -269,6 +269,7 @@ fn narrowed_by_tests<S: Offers, L: Ledger>(
         return Ok(None);
     }
     if !is_worth(tallies.as_slice(), place.slot) {
+        note_left(tallies, place.slot, oids.len());
         return Ok(None);
     }
     let kept = not_ruled_out(alloc, place, oids.as_slice(), tallies, steps)?;
@@ -311,6 +312,7 @@ fn is_out<S: Offers, L: Ledger>(
         place.now.known.now place.now.slot place.now.row.now oid) }
 {
     if !is_worth(tallies.as_slice(), place.slot) {
+        note_left(tallies, place.slot, 1);
         return Ok(false);
     }
     let out = is_ruled_out(alloc, place, oid, steps)?;

@@ -9,18 +9,30 @@ const FIRST: usize = 64;
 // more in the end.
 const ENOUGH: usize = 2;
 
-/// How many rows were tested with an object in a slot, and how many of these were ruled out.
+// Where they aren't, so many rows are left untested before some are tested again.
+const PAUSE: usize = 4_096;
+
+/// How many rows were tested with an object in a slot, how many of these were ruled out, and how many
+/// were left untested since the tests weren't worth it.
 #[derive(Clone, Copy)]
 pub(crate) struct Tally {
     tested: usize,
     out: usize,
+    left: usize,
 }
+
+// No row was tested.
+const NONE: Tally = Tally {
+    tested: 0,
+    out: 0,
+    left: 0,
+};
 
 /// Nothing was tested for any slot.
 pub(crate) fn no_tallies(alloc: Global) -> Result<Vec<Tally>, NoMemory> {
     let mut tallies = Vec::with_capacity(alloc, RANGES)?;
     'slots: for _ in 0..RANGES {
-        tallies.push(Tally { tested: 0, out: 0 })?;
+        tallies.push(NONE)?;
     }
     Ok(tallies)
 }
@@ -44,5 +56,20 @@ pub(crate) fn note(tallies: &mut Vec<Tally>, slot: u32, is_out: bool) {
     tally.tested = tally.tested.saturating_add(1);
     if is_out {
         tally.out = tally.out.saturating_add(1);
+    }
+}
+
+/// Notes that so many rows were left untested. Behind enough of them the tally begins anew: objects
+/// may come that the tests rule out.
+pub(crate) fn note_left(tallies: &mut Vec<Tally>, slot: u32, count: usize) {
+    let place = slot as usize;
+    if place >= tallies.len() {
+        return;
+    }
+    let left = tallies[place].left.saturating_add(count);
+    if left < PAUSE {
+        tallies[place].left = left;
+    } else {
+        tallies[place] = NONE;
     }
 }

@@ -49,13 +49,6 @@ impl<T> OrderedList<T> {
     {
         self.items.as_slice()
     }
-
-    /// The number of items.
-    pub fn len(&self) -> usize
-        ensures { result ≡ length self.now.items }
-    {
-        self.items.len()
-    }
 }
 
 impl<T: Drop> OrderedList<T> {

@@ -1,16 +1,16 @@
 -- The order of entries by label, value and object.
-use Rattle.std.proofs.Common.{◌≡◌, ◌<◌, ℕ, Bool, true, ◌==◌, ◌&&◌, nat_cmp, Equal, List, AllPairs, length, get_or, Contains, refl, sym, ap, ◌∙◌, subst, arith}
+use Rattle.std.proofs.Common.{◌≡◌, ◌<◌, ℕ, Bool, true, ◌==◌, ◌&&◌, nat_cmp, Equal, List, length, get_or, Contains, sym, ap, subst, arith}
 use Rattle.std.specs.declared.cmp.Ordering.{Ordering}
 use Rattle.std.specs.declared.cmp.Ordering.TheVariants.{Less}
 use Rattle.std.specs.Ordering.{ordering_then, is_eq, eq_by_cmp}
-use Rattle.std.specs.Cmp.{IsTotalOrder, both_ways}
+use Rattle.std.specs.Cmp.{both_ways}
 use Rattle.std.proofs.lemmas.Bool.{and_from, and_parts}
 use Rattle.std.proofs.lemmas.Bool.Decides.{nat_tests}
 use Rattle.std.proofs.lemmas.Cmp.{tied_itself}
 use Rattle.std.proofs.lemmas.List.Elements.{Contains-get_or}
 use Rattle.list_laws.proofs.OrderLaws.{same_from_cmp, eqb_itself, Equal-from_test}
 use Rattle.index_traits.proofs.ObjectLaws.{same_oid, same_label}
-use Rattle.sorted_list.specs.SortedLists.{Ascends, IsExact}
+use Rattle.sorted_list.specs.SortedLists.{IsExact}
 use Rattle.value_index.specs.Types.{Oid, Value, Entry, Kind}
 use Rattle.value_index.specs.inside.Kinds.{value_cmp}
 use Rattle.value_index.specs.inside.Held.{held}

@@ -9,6 +9,7 @@ pub mod HeldLaws
 pub mod NameLaws
 pub mod OrderLaws
 pub mod SplitLaws
+pub mod SortLaws
 pub mod ChangeLaws
 pub mod CountLaws
 pub mod ProbeLaws

@@ -6,9 +6,9 @@ use Rattle.std.specs.declared.cmp.Ordering.{Ordering}
 use Rattle.std.specs.Ordering.{ordering_then, ordering_index, is_eq}
 use Rattle.std.specs.List.{filter, AllWithin}
 use Rattle.std.specs.List.Sorted.{IsNonDecreasingBy, IsPartitionedBy, IsPartitionPoint}
-use Rattle.std.proofs.lemmas.Bool.{cases_lt}
+use Rattle.std.proofs.lemmas.Bool.{cases_lt, true≢false}
 use Rattle.std.proofs.lemmas.Bool.Decides.{nat_tests}
-use Rattle.std.proofs.lemmas.List.{append-nil, get_or-drop, take-append-drop}
+use Rattle.std.proofs.lemmas.List.{append-nil, get_or-drop, get_or-take, length-take, take-append-drop}
 use Rattle.std.proofs.lemmas.List.Elements.{filter-append}
 use Rattle.value_index.specs.Types.{Oid, Label, Value, Op, Eq, Ne, Lt, Le, Gt, Ge, Like, Entry, Kind}
 use Rattle.value_index.specs.inside.Kinds.{value_cmp}
@@ -77,6 +77,37 @@ module _ {X : Type 0} (side : X → Ordering) (xs : List X) where
       let parts : filter p xs ≡ filter p (take start xs) ++ filter p rest = ap (filter p) (sym (take-append-drop start xs)) ∙ filter-append p (take start xs) rest in
       let parts_rest : filter p rest ≡ filter p (take len rest) ++ filter p (drop len rest) = ap (filter p) (sym (take-append-drop len rest)) ∙ filter-append p (take len rest) (drop len rest) in
       sym (parts ∙ ap (λ l. l ++ filter p rest) before ∙ parts_rest ∙ ap (λ l. filter p (take len rest) ++ l) behind ∙ append-nil _ ∙ run)
+
+-- the first item that fails a test is found among so many at the front, where the one behind these fails it
+module _ {X : Type 0} (p : X → Bool) (xs : List X) (parted : IsPartitionedBy p xs) (bound : ℕ) (within : bound ≤ length xs)
+    (end : bound < length xs → (d : X) → p (get_or xs bound d) ≡ false) where
+  pub front-parted : IsPartitionedBy p (take bound xs)
+  front-parted i j d le lt at =
+      let inside : j < bound = omega (arith, lt, length-take bound xs) in
+      let there = subst (λ (x : X). p x ≡ true) (get_or-take bound xs j d inside) at in
+      subst (λ (x : X). p x ≡ true) (sym (get_or-take bound xs i d (omega (arith, le, inside)))) (parted i j d le (omega (arith, inside, within)) there)
+
+  pub reached : (len : ℕ) → len ≤ bound → IsPartitionPoint (λ x. p x ≡ true) (λ x. p x ≡ false) (take bound xs) len
+      → IsPartitionPoint (λ x. p x ≡ true) (λ x. p x ≡ false) xs len
+  reached len few point = (
+    λ k d low lt. subst (λ (x : X). p x ≡ true) (get_or-take bound xs k d (omega (arith, lt, few))) (point.0 k d low lt),
+    λ k d low lt. elim (cases_lt k bound) [
+      | inl front ↦ subst (λ (x : X). p x ≡ false) (get_or-take bound xs k d front) (point.1 k d low (omega (arith, front, within, length-take bound xs)))
+      | inr behind ↦ not_passed (p (get_or xs k d)) (λ yes. true≢false (sym (parted bound k d (omega (arith, behind)) lt yes) ∙ end (omega (arith, behind, lt)) d))
+    ],
+  )
+    where
+      not_passed : (b : Bool) → (b ≡ true → ⊥) → b ≡ false
+      not_passed true never = absurd (never refl)
+      not_passed false never = refl
+
+not_equal : (o : Ordering) → o ≢ Equal → nat_eq (ordering_index o) 1 ≡ false
+not_equal Less h = refl
+not_equal Equal h = absurd (h refl)
+not_equal Greater h = refl
+
+pub end_fails : {X : Type 0} (side : X → Ordering) (x : X) → side x ≢ Equal → nat_eq (ordering_index (side x)) 1 ≡ false
+end_fails side x h = not_equal (side x) h
 
 -- sides rise with the order that the operator asks for
 side_of-rises : (op : Op) (o p : Ordering) → ordering_index o ≤ ordering_index p → ordering_index (side_of op o) ≤ ordering_index (side_of op p)

@@ -1,4 +1,6 @@
-ghost use Rattle.std.specs.Prelude.{◌≡◌};
+ghost use Rattle.std.specs.Prelude.{◌≡◌, ◌≢◌, ◌<◌, ◌≤◌, length};
+ghost use Rattle.std.specs.List.{HoldsAt};
+ghost use Rattle.std.specs.declared.cmp.Ordering.TheVariants.{Equal};
 ghost use Rattle.index_traits.specs.Entries.{IsProbed};
 ghost use Rattle.value_index.specs.inside.Held.{held, AscendByObject};
 ghost use Rattle.value_index.specs.inside.Kinds.{value_cmp};
@@ -51,9 +53,35 @@ fn bisected<'a>(
     let start = entries.partition_point(|entry| side(entry, values, kind, label, op, value)
         == Ordering::Less);
     let rest = &entries[start..];
-    let len = rest.partition_point(|entry| side(entry, values, kind, label, op, value)
+    let near = &rest[..reach(rest, values, kind, label, op, value)];
+    let len = near.partition_point(|entry| side(entry, values, kind, label, op, value)
         == Ordering::Equal);
-    &rest[..len]
+    &near[..len]
+}
+
+// A place that the run at the front of these entries doesn't go beyond. It is looked for in steps that
+// double, since a run is most often short.
+fn reach(
+    entries: &[Entry],
+    values: &[(Oid, Value)],
+    kind: Kind,
+    label: Label,
+    op: Op,
+    value: &Value,
+) -> usize
+    requires { AscendByObject values.now }
+    ensures bound { result ≤ length entries.now }
+    ensures end { result < length entries.now → HoldsAt (λ entry. side_in values.now kind label op
+        value.now entry ≢ Equal) entries.now result }
+{
+    let mut place: usize = 1;
+    'steps: while place < entries.len() {
+        if side(&entries[place], values, kind, label, op, value) != Ordering::Equal {
+            return place;
+        }
+        place = place.saturating_mul(2);
+    }
+    entries.len()
 }
 
 // On which side of the run the entry stands: `Less` before it, `Equal` in it, `Greater` behind it.

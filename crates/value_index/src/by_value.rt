@@ -2,12 +2,13 @@ ghost use Rattle.std.specs.Prelude.{◌≡◌};
 ghost use Rattle.std.specs.Ordering.{nat_cmp, ordering_then};
 ghost use Rattle.value_index.specs.inside.Kinds.{value_cmp};
 ghost use Rattle.value_index.specs.inside.Held.{held, AscendByObject};
-ghost use Rattle.value_index.specs.inside.EntryOrder.{entry_order, order_total};
+ghost use Rattle.value_index.specs.inside.EntryOrder.{entry_order, order_total, valued_order};
 
 use crate::entry::Entry;
 use crate::held::value_of;
 use crate::keys::compare_values;
 use crate::kind::Kind;
+use index_traits::ValueEntry;
 use lore_base::{Oid, Value};
 use sorted_list::Order;
 use std::cmp::Ordering;
@@ -85,6 +86,27 @@ fn compare_held(values: &[(Oid, Value)], kind: Kind, a: Oid, b: Oid) -> Ordering
     match value_of(values, b) {
         Some(value) => compare_to(values, kind, a, value),
         None => compare_to(values, kind, a, &none),
+    }
+}
+
+// How the one entry stands to the other, by the values that they have.
+pub(crate) fn compare_valued(kind: Kind, a: &ValueEntry, b: &ValueEntry) -> Ordering
+    ensures { result ≡ valued_order kind a.now b.now }
+{
+    match a.label.cmp(&b.label) {
+        Ordering::Equal => compare_in_label(kind, a, b),
+        other => other,
+    }
+}
+
+// The same of entries of one label.
+fn compare_in_label(kind: Kind, a: &ValueEntry, b: &ValueEntry) -> Ordering
+    ensures { result ≡ ordering_then (value_cmp kind (a.now).value (b.now).value)
+        (nat_cmp (a.now).object.0 (b.now).object.0) }
+{
+    match compare_values(kind, &a.value, &b.value) {
+        Ordering::Equal => a.object.cmp(&b.object),
+        other => other,
     }
 }
 

@@ -1,8 +1,8 @@
-ghost use Rattle.std.specs.Prelude.{◌≡◌, ◌≢◌, ◌↔◌, All, Contains, IfOk};
+ghost use Rattle.std.specs.Prelude.{◌≡◌, ◌≢◌, ◌↔◌, List, All, Contains, IfOk};
 ghost use Rattle.index_traits.specs.Entries.{AreAscendingEntries};
-ghost use Rattle.value_index.specs.Types.{Complex, Entry as TheEntry};
-ghost use Rattle.value_index.specs.inside.Held.{AscendByObject};
-ghost use Rattle.value_index.specs.inside.Entries.{HasOneValueIn, named_of};
+ghost use Rattle.value_index.specs.Types.{Complex, Oid as TheOid, Value as TheValue, Entry as TheEntry};
+ghost use Rattle.value_index.specs.inside.Entries.{HasOneValueIn, HoldTheirs, entries_of, named_of};
+ghost use Rattle.value_index.specs.inside.Entries.{seen};
 ghost use Rattle.value_index.specs.inside.EntryOrder.{AscendByValue};
 ghost use Rattle.value_index.specs.inside.Orders.{order_at, in_order, AreSortedOrders};
 
@@ -48,11 +48,11 @@ impl EntryOrders {
         ensures { IfOk result (λ orders. in_order orders ≡ entries.now) }
     {
         let values = held_values(alloc, entries)?;
-        let wholes = order_of(alloc, entries, values.as_slice(), Kind::Wholes)?;
-        let chars = order_of(alloc, entries, values.as_slice(), Kind::Texts)?;
-        let flags = order_of(alloc, entries, values.as_slice(), Kind::Flags)?;
-        let readings = order_of(alloc, entries, values.as_slice(), Kind::Readings)?;
-        let flag_readings = order_of(alloc, entries, values.as_slice(), Kind::FlagReadings)?;
+        let wholes = order_of(alloc, entries, Kind::Wholes)?;
+        let chars = order_of(alloc, entries, Kind::Texts)?;
+        let flags = order_of(alloc, entries, Kind::Flags)?;
+        let readings = order_of(alloc, entries, Kind::Readings)?;
+        let flag_readings = order_of(alloc, entries, Kind::FlagReadings)?;
         Ok(EntryOrders {
             values,
             wholes,
@@ -86,33 +86,30 @@ impl EntryOrders {
 }
 
 // The entries whose values are of the kind, in its order.
-fn order_of(
-    alloc: Global,
-    entries: &[ValueEntry],
-    values: &[(Oid, Value)],
-    kind: Kind,
-) -> Result<Vec<Entry>, NoMemory>
-    requires { AscendByObject values.now }
-    ensures ascend { IfOk result (λ order. AscendByValue values.now kind order.items) }
+fn order_of(alloc: Global, entries: &[ValueEntry], kind: Kind) -> Result<Vec<Entry>, NoMemory>
+    ensures ascend { IfOk result (λ order. (values : List (TheOid × TheValue))
+        → HoldTheirs values entries.now → AscendByValue values kind order.items) }
     ensures members { IfOk result (λ order. (entry : TheEntry)
         → Contains order.items entry ↔ Contains (named_of kind entries.now) entry) }
 {
-    let named = named_of(alloc, entries, kind)?;
-    Ok(sorted(named, values, kind))
+    let own = entries_of(alloc, entries, kind)?;
+    let order = sorted(alloc, own, kind)?;
+    Ok(order)
 }
 
-// The entries whose values are of the kind, without their values.
-fn named_of(alloc: Global, entries: &[ValueEntry], kind: Kind) -> Result<Vec<Entry>, NoMemory>
-    ensures { IfOk result (λ named. named.items ≡ named_of kind entries.now) }
+// The entries whose values are of the kind.
+fn entries_of<'a>(
+    alloc: Global,
+    entries: &'a [ValueEntry],
+    kind: Kind,
+) -> Result<Vec<&'a ValueEntry>, NoMemory>
+    ensures { IfOk result (λ own. seen own.items ≡ entries_of kind entries.now) }
 {
-    let mut named = Vec::new(alloc);
+    let mut own = Vec::new(alloc);
     'entries: for entry in entries {
         if is_of(kind, &entry.value) {
-            named.push(Entry {
-                label: entry.label,
-                object: entry.object,
-            })?;
+            own.push(entry)?;
         }
     }
-    Ok(named)
+    Ok(own)
 }

@@ -1,6 +1,7 @@
 -- Entries that name an object, whose value stands elsewhere.
 use Rattle.std.specs.Prelude.{◌≡◌, ◌==◌, Bool, List, [], map, filter, Contains}
 use Rattle.std.specs.List.{list_any}
+use denote.Ref.{Bor}
 use Rattle.index_traits.specs.Entries.{entry_of}
 use Rattle.value_index.specs.Types.{Oid, Label, Value, Whole, Chars, Flag, Complex, ValueEntry, Entry, Kind}
 use Rattle.value_index.specs.inside.Kinds.{is_of}
@@ -18,6 +19,18 @@ named entry = naming entry.label entry.object
 abbrev pub held_of : ValueEntry → Oid × Value
 held_of entry = (entry.object, entry.value)
 
+-- the entries that are referred to
+abbrev pub seen : List (Bor ValueEntry) → List ValueEntry
+seen entries = map (λ entry. entry.now) entries
+
+-- those of the entries whose values are of the kind
+abbrev pub entries_of : Kind → List ValueEntry → List ValueEntry
+entries_of kind entries = filter (λ entry. is_of kind entry.value) entries
+
+-- the objects of the entries have their values there
+abbrev pub HoldTheirs : List (Oid × Value) → List ValueEntry → Type 0
+HoldTheirs values entries = (entry : ValueEntry) → Contains entries entry → held values entry.object ≡ entry.value
+
 -- each object has one value in all of its entries
 abbrev pub HasOneValueIn : (ValueEntry → Type 0) → Type 0
 HasOneValueIn IsEntry = (a b : ValueEntry) → IsEntry a → IsEntry b → a.object ≡ b.object → a.value ≡ b.value
@@ -33,7 +46,7 @@ entry_in values entry = entry_of entry.label (held values entry.object) entry.ob
 
 -- the entries of a kind, without their values
 abbrev pub named_of : Kind → List ValueEntry → List Entry
-named_of kind entries = map named (filter (λ entry. is_of kind entry.value) entries)
+named_of kind entries = map named (entries_of kind entries)
 
 -- whether some entry names the object
 abbrev pub names : List Entry → Oid → Bool

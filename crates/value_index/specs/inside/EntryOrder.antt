@@ -6,7 +6,7 @@ use Rattle.std.specs.Cmp.Lexicographic.{options_total, nat_list_cmp_total}
 use Rattle.std.specs.declared.cmp.Ordering.{Ordering}
 use Rattle.std.proofs.lemmas.Cmp.{nat_cmp_total, int_cmp_total, on_total, then_total}
 use Rattle.sorted_list.specs.SortedLists.{Ascends}
-use Rattle.value_index.specs.Types.{Oid, Value, Entry, Kind, Wholes, Texts, Flags, Readings, FlagReadings}
+use Rattle.value_index.specs.Types.{Oid, Value, ValueEntry, Entry, Kind, Wholes, Texts, Flags, Readings, FlagReadings}
 use Rattle.value_index.specs.inside.Kinds.{number_in, text_in, flag_in, value_cmp}
 use Rattle.value_index.specs.inside.Held.{held, object_cmp}
 
@@ -14,6 +14,12 @@ abbrev pub entry_order : List (Oid × Value) → Kind → Entry → Entry → Or
 entry_order values kind a b =
     ordering_then (nat_cmp a.label.0 b.label.0)
     (ordering_then (value_cmp kind (held values a.object) (held values b.object)) (nat_cmp a.object.0 b.object.0))
+
+-- the same order, of entries that have their values
+abbrev pub valued_order : Kind → ValueEntry → ValueEntry → Ordering
+valued_order kind a b =
+    ordering_then (nat_cmp a.label.0 b.label.0)
+    (ordering_then (value_cmp kind a.value b.value) (nat_cmp a.object.0 b.object.0))
 
 abbrev pub AscendByValue : List (Oid × Value) → Kind → List Entry → Type 0
 AscendByValue values kind entries = Ascends (entry_order values kind) entries
@@ -35,6 +41,12 @@ order_total values kind =
     then_total (on_total (λ (e : Entry). e.label.0) nat_cmp_total)
     (then_total (on_total (λ (e : Entry). held values e.object) (value_total kind))
     (on_total (λ (e : Entry). e.object.0) nat_cmp_total))
+
+pub valued_total : (kind : Kind) → IsTotalOrder (valued_order kind)
+valued_total kind =
+    then_total (on_total (λ (e : ValueEntry). e.label.0) nat_cmp_total)
+    (then_total (on_total (λ (e : ValueEntry). e.value) (value_total kind))
+    (on_total (λ (e : ValueEntry). e.object.0) nat_cmp_total))
 
 -- the values by which entries of a kind stand in their order
 pub record ValueOrder : Type 0 where
