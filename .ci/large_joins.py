@@ -63,9 +63,12 @@ def filter_case(loads, state):
 def shared_case():
     shared = ", ".join(f"m {i}" for i in range(EACH))
     records = [f"x {{ s &1 {{ {shared} }} }}", *["x { s &1 }"] * (EACH - 1)]
-    asked = f"set plan top; select X from A.x X where X.s.m = {EACH};"
-    return Case("a condition on what tens of thousands share", [braces("A", records), asked], 0,
-                ok(2 * EACH + 2, 3 * EACH, 4) * 2 + rows([]))
+    some = [f"select X from A.x X where exists S in X.s : (S.m < {EACH} and S.m = {EACH});",
+            f"select X from A.x X where exists S in X.s : S.m = {EACH};", f"select X from A.x X where exists M in X.s.m : M = {EACH};",
+            "select X from A.x X where X.s.m == S;"]
+    asked = ["name S := A.x.s;", *some, "set plan top;", *some, f"select X from A.x X where X.s.m = {EACH};"]
+    state, none = ok(2 * EACH + 2, 3 * EACH, 4), rows([])
+    return Case("a condition on what tens of thousands share", [braces("A", records), *asked], 0, state * 2 + none * 4 + state + none * 5)
 
 
 def passing_case():
@@ -79,9 +82,34 @@ def passing_case():
                 ok(2 * EACH + 1, 2 * EACH, 3) + ok(rest + others - 1, 2 * EACH + others, 5) + found)
 
 
+def meeting_case():
+    """Each member leads to one, and one leads to each: joins of objects and not of values, from either side."""
+    leads = [place * SCATTER % EACH for place in range(EACH)]
+    load = braces("A", (f"x &{place} {{ to &{to} }}" for place, to in enumerate(leads)))
+    members = [f"&{2 + place} {{}}" for place in range(EACH)]
+    led = rows(f"{members[place]} | {members[to]}" for place, to in enumerate(leads))
+    back = rows(f"{members[to]} | {members[place]}" for to, place in sorted((to, place) for place, to in enumerate(leads)))
+    asked = ["select X, Y from A.x X, A.x Y where X.to == Y;", "select X, Y from A.x X, A.x Y where Y == X.to;",
+             "select Y, X from A.x Y, A.x X where X.to == Y;", "select X, Y from A.x X, A.x Y where exists T in Y.to : T == X;"]
+    return Case("a join of tens of thousands with what they lead to", [load, *asked], 0, ok(EACH + 1, 2 * EACH, 2) + led * 2 + back * 2)
+
+
+def ranked_case():
+    """All are of one kind, which tells nothing, and each refers to one by its key, which tells all, whichever stands first."""
+    refers = [place * SCATTER % EACH for place in range(EACH)]
+    load = braces("A", ["kind &1 {}", *(f"x {{ kind &1, part {{ k {place} }}, ref {ref} }}" for place, ref in enumerate(refers))])
+    pairs = rows(f"&{3 + 4 * place} {{}} | &{3 + 4 * ref} {{}}" for place, ref in enumerate(refers))
+    key, kind, part = "X.ref = Y.part.k", "X.kind == Y.kind", "(exists P in Y.part : P.k = X.ref)"
+    asked = [f"select X, Y from A.x X, A.x Y where {both};" for both in (f"{kind} and {key}", f"{key} and {kind}", part)]
+    return Case("a join of tens of thousands by a key, of which one kind tells nothing", [load, *asked], 0,
+                ok(4 * EACH + 2, 5 * EACH + 1, 6) + pairs * 3)
+
+
 def join_cases():
     loads, state = two_sides()
     yield join_case(loads, state)
     yield filter_case(loads, state)
     yield shared_case()
     yield passing_case()
+    yield meeting_case()
+    yield ranked_case()

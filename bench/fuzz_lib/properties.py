@@ -268,7 +268,7 @@ def as_dumped(runner, _printer, statements):
 def by_blocks(runner, _printer, statements):
     """Selects answer the same by blocks, and selects by blocks the same without them."""
     turned = {"select": lambda each: Statement("blocks", ["blocks", *each.tokens]),
-              "blocks": lambda each: Statement("select", each.tokens[1:]) if each.tokens[1:] else each}
+              "blocks": lambda each: Statement("select", each.tokens[1:]) if each.tokens[1:2] == ["select"] else each}
     others = [turned.get(each.kind, lambda it: it)(each) for each in statements]
     return differing(runner.run(text_of(others)).written, runner.run(text_of(statements)).written, "selects by blocks and without")
 

@@ -1,18 +1,22 @@
 ghost use Rattle.std.specs.Prelude.{◌≡◌, true, Some, Contains, slice_get, IsTrue, IfSome};
-ghost use Rattle.index_eval.specs.inside.Clues.{IsGivenBy, IsStartGiven};
+ghost use Rattle.index_eval.specs.inside.Clues.{IsGivenBy, IsStartGiven, IsEndGiven};
 
-use crate::clues::{Clue, Given, is_probed};
+use crate::clues::{Clue, Comparison, End, Given};
+use crate::sides::is_probed;
 use index_traits::Values;
 use lore_base::limits::RANGES;
 use lorel_bound::BoundStart;
 
-// Where more objects have a value that a member asks for, the objects of the slot are tested one by
-// one: the way back from so many may cost more.
-const MOST_ENDS: u32 = 2_048;
+// Where more objects are at the end of a clue, those of the slot are tested one by one: the way
+// back from so many may cost more.
+const MOST_ENDS: usize = 2_048;
 
-/// The clue to go by for the slot. Where no slot is known, it is one that compares with a value, and
-/// of these the one with the fewest objects; else one that compares with what a known slot leads to.
-pub(crate) fn clue_for<'c, 'a, V: Values>(
+// The same for a row: it is asked only where at least as many stand for the slot.
+const MOST_FOR_A_ROW: usize = 64;
+
+/// The clue of the slot that compares with a value which the fewest objects have; None where a slot
+/// is known, or too many have each.
+pub(crate) fn clue_by_value<'c, 'a, V: Values>(
     values: &V,
     clues: &'c [Clue<'a>],
     known: &[bool; RANGES],
@@ -20,53 +24,83 @@ pub(crate) fn clue_for<'c, 'a, V: Values>(
 ) -> Option<&'c Clue<'a>>
     ensures member { IfSome result (λ clue. Contains clues.now clue.now) }
     ensures slot { IfSome result (λ clue. clue.now.slot ≡ slot) }
-    ensures given { IfSome result (λ clue. IsGivenBy known.now clue.now.given) }
+    ensures given { IfSome result (λ clue. IsEndGiven known.now clue.now.end) }
 {
-    let place = place_for(values, clues, known, slot);
-    let Some(clue) = clues.get(place) else {
+    if knows_some(known) {
+        return None;
+    }
+    let Some(clue) = clues.get(place_of_fewest(values, clues, slot)) else {
         return None;
     };
     if clue.slot != slot {
         return None;
     }
-    if !is_given(&clue.given, known) {
+    if !is_end_given(&clue.end, known) {
         return None;
     }
     Some(clue)
 }
 
-// The place of the clue to go by; a place behind them where there is none.
-fn place_for<V: Values>(
-    values: &V,
-    clues: &[Clue<'_>],
-    known: &[bool; RANGES],
-    slot: u32,
-) -> usize {
-    if knows_some(known) {
-        return place_by_known(clues, known, slot);
+/// Whether the clue is one to ask for the slot: its end is found from known slots, or, where none
+/// is known, from a named object. What is found from that one alone is not asked for each row.
+pub(crate) fn is_asked(clue: &Clue<'_>, known: &[bool; RANGES], slot: u32) -> bool
+    ensures slot { IsTrue result → clue.now.slot ≡ slot }
+    ensures given { IsTrue result → IsEndGiven known.now clue.now.end }
+{
+    if clue.slot != slot {
+        return false;
     }
-    place_of_fewest(values, clues, slot)
+    if !is_in_turn(&clue.end, known) {
+        return false;
+    }
+    is_end_given(&clue.end, known)
+}
+
+/// How many objects may be at the end of a clue.
+pub(crate) fn most_ends(known: &[bool; RANGES]) -> usize {
+    if knows_some(known) {
+        MOST_FOR_A_ROW
+    } else {
+        MOST_ENDS
+    }
 }
 
 fn knows_some(known: &[bool; RANGES]) -> bool {
     known.as_slice().contains(&true)
 }
 
-// The place of the first clue that compares with what a known slot leads to; a place behind them
-// where there is none.
-fn place_by_known(clues: &[Clue<'_>], known: &[bool; RANGES], slot: u32) -> usize {
-    'clues: for place in 0..clues.len() {
-        let clue = &clues[place];
-        if clue.slot == slot && depends(&clue.given) && is_given(&clue.given, known) {
-            return place;
-        }
+// Whether the end starts at a slot, or at a name where no slot is known.
+fn is_in_turn(end: &End<'_>, known: &[bool; RANGES]) -> bool {
+    match start_of(end) {
+        Some(BoundStart::Named(_)) => !knows_some(known),
+        Some(_) => true,
+        None => false,
     }
-    clues.len()
 }
 
-// Whether what is given depends on a row.
-fn depends(given: &Given<'_>) -> bool {
-    matches!(given, Given::At { .. })
+// Where the path starts that leads to what is at the end; None where that is a value.
+fn start_of(end: &End<'_>) -> Option<BoundStart> {
+    match end {
+        End::Compared(comparison) => start_of_given(&comparison.given),
+        End::Met(meeting) => Some(meeting.start),
+    }
+}
+
+fn start_of_given(given: &Given<'_>) -> Option<BoundStart> {
+    match given {
+        Given::Atom(_) => None,
+        Given::At { start, .. } => Some(*start),
+    }
+}
+
+// Whether the end depends on known slots alone.
+fn is_end_given(end: &End<'_>, known: &[bool; RANGES]) -> bool
+    ensures { IsTrue result → IsEndGiven known.now end.now }
+{
+    match end {
+        End::Compared(comparison) => is_given(&comparison.given, known),
+        End::Met(meeting) => is_start_given(meeting.start, known),
+    }
 }
 
 // Whether what is given depends on known slots alone.
@@ -106,7 +140,7 @@ fn place_of_fewest<V: Values>(values: &V, clues: &[Clue<'_>], slot: u32) -> usiz
     'clues: for place in 0..clues.len() {
         let clue = &clues[place];
         if clue.slot == slot {
-            let count = count_of(values, clue);
+            let count = count_of(values, &clue.end);
             if count < fewest {
                 fewest = count;
                 best = place;
@@ -116,19 +150,26 @@ fn place_of_fewest<V: Values>(values: &V, clues: &[Clue<'_>], slot: u32) -> usiz
     best
 }
 
-// How many objects have the value that the clue compares with; the limit where it is no value.
-fn count_of<V: Values>(values: &V, clue: &Clue<'_>) -> u32 {
-    let Given::Atom(value) = &clue.given else {
+// How many objects have the value that is compared with; the limit where none is.
+fn count_of<V: Values>(values: &V, end: &End<'_>) -> usize {
+    match end {
+        End::Compared(comparison) => count_of_compared(values, comparison),
+        End::Met(_) => MOST_ENDS,
+    }
+}
+
+fn count_of_compared<V: Values>(values: &V, comparison: &Comparison<'_>) -> usize {
+    let Given::Atom(value) = &comparison.given else {
         return MOST_ENDS;
     };
-    let Some(label) = clue.label else {
+    let Some(label) = comparison.label else {
         return 0;
     };
     if value.is_complex() {
         return MOST_ENDS;
     }
-    if !is_probed(clue.op) {
+    if !is_probed(comparison.op) {
         return MOST_ENDS;
     }
-    values.probe_count(label, clue.op, value)
+    values.probe_count(label, comparison.op, value) as usize
 }

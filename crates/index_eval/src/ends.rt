@@ -1,39 +1,67 @@
-ghost use Rattle.std.specs.Prelude.{◌≡◌, [], Some, IfOk, IfSome, OnOk, slice_get};
+ghost use Rattle.std.specs.Prelude.{◌≡◌, [], Some, All, IfOk, IfSome, OnOk, slice_get};
 ghost use Rattle.index_traits.specs.Entries.{IsProbed};
 ghost use Rattle.lorel_bound.specs.SlotRows.{BoundStartsAt};
 ghost use Rattle.index_eval.specs.Types.{Oid as TheOid};
 ghost use Rattle.lore_base.specs.Paths.{path_tree};
+ghost use Rattle.lore_base.specs.TargetSets.{ListsInOrder};
+ghost use Rattle.product_walk.specs.ProductWalks.{ReachesInto};
 ghost use Rattle.lorel_bound.specs.Conditions.{at};
 ghost use Rattle.index_eval.specs.inside.Clues.{TakesEnds, TakesEndsFor, TakesEndsOf};
-ghost use Rattle.index_eval.specs.inside.Clues.{HasEnds, HasEndsBy, LeadToEnds};
+ghost use Rattle.index_eval.specs.inside.Clues.{HasComparedBy, HasCompared, HasMet, HasEnds};
+ghost use Rattle.index_eval.specs.inside.Clues.{IsProbedEnd, LeadToEnds, AreTold};
 
-use crate::clues::{Clue, Given};
+use crate::choosing::is_asked;
+use crate::clues::{Clue, Comparison, End, Given, Meeting};
 use index_traits::{Adjacent, Links, Row, ValueOf, Values};
 use lore_base::limits::RANGES;
 use lore_base::{NoMemory, Oid, OidBuf, Steps, Value};
 use lorel_bound::BoundStart;
 use oem_labels::LabelTable;
-use product_walk::Route;
+use product_walk::{Route, WayBack};
 use std::alloc::Global;
 use std::sync::ledger::Ledger;
 
-// Where more objects compare so with what one row gives, the objects of the slot are tested one by
-// one: it is asked only where at least as many stand for the slot.
-const MOST_FOR_A_ROW: usize = 64;
-
 const LAST_SLOT: u32 = RANGES as u32 - 1;
 
-/// What the objects of a clue are found in.
+/// What the objects of a clue are found in, and how many may be at its end.
 #[derive(Drop)]
 pub(crate) struct Readers<'r, G, K, V> {
     pub(crate) graph: &'r G,
     pub(crate) labels: &'r LabelTable,
     pub(crate) links: &'r K,
     pub(crate) values: &'r V,
+    pub(crate) most: usize,
 }
 
-/// The objects from which the clue's path leads to one that compares so with what is given; None
-/// where too many compare so.
+/// The objects that the first clue tells, of those to be asked for the slot, at whose end aren't
+/// too many; None where no clue tells them.
+pub(crate) fn objects_in_turn<G: Adjacent + ValueOf, K: Links, V: Values, L: Ledger>(
+    alloc: Global,
+    readers: &Readers<'_, G, K, V>,
+    clues: &[Clue<'_>],
+    known: &[bool; RANGES],
+    slot: u32,
+    row: &Row,
+    steps: &mut Steps<L>,
+) -> Result<Option<OidBuf>, NoMemory>
+    requires { All (λ clue. IsProbedEnd clue.end) clues.now }
+    ensures { IfOk result (λ found. IfSome found (AreTold readers.now.labels.now
+        (G.edges readers.now.graph.now) (G.objects readers.now.graph.now)
+        (K.edges readers.now.links.now) (V.entries readers.now.values.now)
+        clues.now known.now slot row.now)) }
+{
+    'clues: for clue in clues {
+        if is_asked(clue, known, slot) {
+            let found = objects_by(alloc, readers, clue, row, steps)?;
+            if found.is_some() {
+                return Ok(found);
+            }
+        }
+    }
+    Ok(None)
+}
+
+/// The objects from which the clue's path leads to its end; None where too many objects are there.
 pub(crate) fn objects_by<G: Adjacent + ValueOf, K: Links, V: Values, L: Ledger>(
     alloc: Global,
     readers: &Readers<'_, G, K, V>,
@@ -41,43 +69,100 @@ pub(crate) fn objects_by<G: Adjacent + ValueOf, K: Links, V: Values, L: Ledger>(
     row: &Row,
     steps: &mut Steps<L>,
 ) -> Result<Option<OidBuf>, NoMemory>
-    requires { IsProbed clue.now.op }
+    requires { IsProbedEnd clue.now.end }
     ensures { IfOk result (λ found. IfSome found (LeadToEnds readers.now.labels.now
         (G.edges readers.now.graph.now) (G.objects readers.now.graph.now)
         (K.edges readers.now.links.now) (V.entries readers.now.values.now) row.now clue.now)) }
 {
-    let Some(ends) = ends_of(alloc, readers, clue, row, steps)? else {
+    let Some(ends) = ends_of(alloc, readers, &clue.end, row, steps)? else {
         return Ok(None);
     };
-    let mut oids = OidBuf::new(alloc);
-    clue.way.reach_back(
-        alloc,
-        readers.links,
-        readers.labels,
-        &ends,
-        &mut oids,
-        steps,
-    )?;
-    Ok(Some(oids))
+    let found = objects_back(alloc, readers, &clue.way, &ends, steps)?;
+    match &clue.through {
+        Some(first) => {
+            let oids = objects_back(alloc, readers, first, &found, steps)?;
+            Ok(Some(oids))
+        }
+        None => Ok(Some(found)),
+    }
 }
 
-// The objects that the clue's label enters whose values compare so with what is given; None where
-// there are too many.
+// The objects from which the way leads to one of these.
+fn objects_back<G, K: Links, V, L: Ledger>(
+    alloc: Global,
+    readers: &Readers<'_, G, K, V>,
+    way: &WayBack<'_>,
+    to: &OidBuf,
+    steps: &mut Steps<L>,
+) -> Result<OidBuf, NoMemory>
+    ensures { IfOk result (ListsInOrder (ReachesInto readers.now.labels.now
+        (K.edges readers.now.links.now) (path_tree way.now) to.now)) }
+{
+    let mut oids = OidBuf::new(alloc);
+    way.reach_back(alloc, readers.links, readers.labels, to, &mut oids, steps)?;
+    Ok(oids)
+}
+
+// The objects at the end of a clue; None where there are too many.
 fn ends_of<G: Adjacent + ValueOf, K, V: Values, L: Ledger>(
     alloc: Global,
     readers: &Readers<'_, G, K, V>,
-    clue: &Clue<'_>,
+    end: &End<'_>,
     row: &Row,
     steps: &mut Steps<L>,
 ) -> Result<Option<OidBuf>, NoMemory>
-    requires { IsProbed clue.now.op }
+    requires { IsProbedEnd end.now }
     ensures { IfOk result (λ found. IfSome found (HasEnds readers.now.labels.now
         (G.edges readers.now.graph.now) (G.objects readers.now.graph.now)
-        (V.entries readers.now.values.now) row.now clue.now)) }
+        (V.entries readers.now.values.now) row.now end.now)) }
 {
-    match &clue.given {
-        Given::Atom(value) => ends_of_value(alloc, readers, clue, value),
-        Given::At { start, route } => ends_of_path(alloc, readers, clue, *start, route, row, steps),
+    match end {
+        End::Compared(comparison) => ends_compared(alloc, readers, comparison, row, steps),
+        End::Met(meeting) => ends_met(alloc, readers, meeting, row, steps),
+    }
+}
+
+// The objects that the other path reaches; None where there are too many.
+fn ends_met<G: Adjacent, K, V, L: Ledger>(
+    alloc: Global,
+    readers: &Readers<'_, G, K, V>,
+    meeting: &Meeting<'_>,
+    row: &Row,
+    steps: &mut Steps<L>,
+) -> Result<Option<OidBuf>, NoMemory>
+    ensures { IfOk result (λ found. IfSome found (HasMet readers.now.labels.now
+        (G.edges readers.now.graph.now) row.now meeting.now)) }
+{
+    let Some(from) = object_of(meeting.start, row) else {
+        return Ok(None);
+    };
+    let mut ends = OidBuf::new(alloc);
+    meeting.route.reach(alloc, readers.graph, readers.labels, from, &mut ends, steps)?;
+    if ends.len() > readers.most {
+        return Ok(None);
+    }
+    Ok(Some(ends))
+}
+
+// The objects that the label enters whose values compare so with what is given; None where
+// there are too many.
+fn ends_compared<G: Adjacent + ValueOf, K, V: Values, L: Ledger>(
+    alloc: Global,
+    readers: &Readers<'_, G, K, V>,
+    comparison: &Comparison<'_>,
+    row: &Row,
+    steps: &mut Steps<L>,
+) -> Result<Option<OidBuf>, NoMemory>
+    requires { IsProbed comparison.now.op }
+    ensures { IfOk result (λ found. IfSome found (HasCompared readers.now.labels.now
+        (G.edges readers.now.graph.now) (G.objects readers.now.graph.now)
+        (V.entries readers.now.values.now) row.now comparison.now)) }
+{
+    match &comparison.given {
+        Given::Atom(value) => ends_of_value(alloc, readers, comparison, value),
+        Given::At { start, route } => {
+            ends_of_path(alloc, readers, comparison, *start, route, row, steps)
+        }
     }
 }
 
@@ -85,15 +170,15 @@ fn ends_of<G: Adjacent + ValueOf, K, V: Values, L: Ledger>(
 fn ends_of_value<G, K, V: Values>(
     alloc: Global,
     readers: &Readers<'_, G, K, V>,
-    clue: &Clue<'_>,
+    comparison: &Comparison<'_>,
     value: &Value,
 ) -> Result<Option<OidBuf>, NoMemory>
-    requires { IsProbed clue.now.op }
+    requires { IsProbed comparison.now.op }
     ensures { IfOk result (λ found. IfSome found
-        (TakesEnds (V.entries readers.now.values.now) clue.now value.now [])) }
+        (TakesEnds (V.entries readers.now.values.now) comparison.now value.now [])) }
 {
     let mut ends = OidBuf::new(alloc);
-    append_ends(readers.values, clue, value, &mut ends)?;
+    append_ends(readers.values, comparison, value, &mut ends)?;
     Ok(Some(ends))
 }
 
@@ -101,16 +186,16 @@ fn ends_of_value<G, K, V: Values>(
 fn ends_of_path<G: Adjacent + ValueOf, K, V: Values, L: Ledger>(
     alloc: Global,
     readers: &Readers<'_, G, K, V>,
-    clue: &Clue<'_>,
+    comparison: &Comparison<'_>,
     start: BoundStart,
     route: &Route<'_>,
     row: &Row,
     steps: &mut Steps<L>,
 ) -> Result<Option<OidBuf>, NoMemory>
-    requires { IsProbed clue.now.op }
-    ensures { IfOk result (λ found. IfSome found (HasEndsBy readers.now.labels.now
+    requires { IsProbed comparison.now.op }
+    ensures { IfOk result (λ found. IfSome found (HasComparedBy readers.now.labels.now
         (G.edges readers.now.graph.now) (G.objects readers.now.graph.now)
-        (V.entries readers.now.values.now) row.now clue.now
+        (V.entries readers.now.values.now) row.now comparison.now
         (at (record { start = start; rest = path_tree route.now })))) }
 {
     let Some(from) = object_of(start, row) else {
@@ -125,27 +210,27 @@ fn ends_of_path<G: Adjacent + ValueOf, K, V: Values, L: Ledger>(
         &mut found,
         steps,
     )?;
-    ends_of_each(alloc, readers, clue, found.as_slice())
+    ends_of_each(alloc, readers, comparison, found.as_slice())
 }
 
 // The ends for the values of all these objects.
 fn ends_of_each<G: ValueOf, K, V: Values>(
     alloc: Global,
     readers: &Readers<'_, G, K, V>,
-    clue: &Clue<'_>,
+    comparison: &Comparison<'_>,
     found: &[Oid],
 ) -> Result<Option<OidBuf>, NoMemory>
-    requires { IsProbed clue.now.op }
+    requires { IsProbed comparison.now.op }
     ensures { IfOk result (λ ends. IfSome ends (TakesEndsOf (G.objects readers.now.graph.now)
-        (V.entries readers.now.values.now) clue.now found.now)) }
+        (V.entries readers.now.values.now) comparison.now found.now)) }
 {
     let mut ends = OidBuf::new(alloc);
     'found: for oid in found {
-        let count = count_of_ends(readers, clue, *oid);
-        if ends.len().saturating_add(count as usize) > MOST_FOR_A_ROW {
+        let count = count_of_ends(readers, comparison, *oid);
+        if ends.len().saturating_add(count as usize) > readers.most {
             return Ok(None);
         }
-        append_ends_of(readers, clue, *oid, &mut ends)?;
+        append_ends_of(readers, comparison, *oid, &mut ends)?;
     }
     Ok(Some(ends))
 }
@@ -153,12 +238,12 @@ fn ends_of_each<G: ValueOf, K, V: Values>(
 // How many ends there are for the value of an object. None is listed.
 fn count_of_ends<G: ValueOf, K, V: Values>(
     readers: &Readers<'_, G, K, V>,
-    clue: &Clue<'_>,
+    comparison: &Comparison<'_>,
     from: Oid,
 ) -> u32
-    requires { IsProbed clue.now.op }
+    requires { IsProbed comparison.now.op }
 {
-    let Some(label) = clue.label else {
+    let Some(label) = comparison.label else {
         return 0;
     };
     let Some(value) = readers.graph.value_of(from) else {
@@ -167,22 +252,22 @@ fn count_of_ends<G: ValueOf, K, V: Values>(
     if value.is_complex() {
         return 0;
     }
-    readers.values.probe_count(label, clue.op, value)
+    readers.values.probe_count(label, comparison.op, value)
 }
 
 // Appends the ends for the value of an object.
 fn append_ends_of<G: ValueOf, K, V: Values>(
     readers: &Readers<'_, G, K, V>,
-    clue: &Clue<'_>,
+    comparison: &Comparison<'_>,
     from: Oid,
     ends: &mut OidBuf,
 ) -> Result<(), NoMemory>
-    requires { IsProbed clue.now.op }
+    requires { IsProbed comparison.now.op }
     ensures { OnOk result (TakesEndsFor (G.objects readers.now.graph.now)
-        (V.entries readers.now.values.now) clue.now from ends.old ends.new) }
+        (V.entries readers.now.values.now) comparison.now from ends.old ends.new) }
 {
     match readers.graph.value_of(from) {
-        Some(value) => append_ends(readers.values, clue, value, ends),
+        Some(value) => append_ends(readers.values, comparison, value, ends),
         None => Ok(()),
     }
 }
@@ -191,21 +276,21 @@ fn append_ends_of<G: ValueOf, K, V: Values>(
 // has.
 fn append_ends<V: Values>(
     values: &V,
-    clue: &Clue<'_>,
+    comparison: &Comparison<'_>,
     value: &Value,
     ends: &mut OidBuf,
 ) -> Result<(), NoMemory>
-    requires { IsProbed clue.now.op }
+    requires { IsProbed comparison.now.op }
     ensures { OnOk result
-        (TakesEnds (V.entries values.now) clue.now value.now ends.old ends.new) }
+        (TakesEnds (V.entries values.now) comparison.now value.now ends.old ends.new) }
 {
-    let Some(label) = clue.label else {
+    let Some(label) = comparison.label else {
         return Ok(());
     };
     if value.is_complex() {
         return Ok(());
     }
-    values.probe(label, clue.op, value, ends)
+    values.probe(label, comparison.op, value, ends)
 }
 
 // The object of a start; None where the row has none.

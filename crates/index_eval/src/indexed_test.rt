@@ -8,9 +8,9 @@ ghost use Rattle.index_eval.specs.Types.{LEAVES};
 ghost use Rattle.index_eval.specs.Indexes.{AreIndexes};
 ghost use Rattle.index_eval.specs.inside.Clues.{IsClueIn};
 
-use crate::choosing::clue_for;
+use crate::choosing::{clue_by_value, most_ends};
 use crate::clues::{Clue, clues_of};
-use crate::ends::{Readers, objects_by};
+use crate::ends::{Readers, objects_by, objects_in_turn};
 use index_traits::{Adjacent, Links, Row, RowTest, ValueOf, Values};
 use lore_base::limits::RANGES;
 use lore_base::{NoMemory, OidBuf, Steps};
@@ -140,17 +140,19 @@ impl<'a, G: Adjacent + ValueOf, K: Links, V: Values> RowTest for IndexedTest<'a,
         row: &Row,
         steps: &mut Steps<L>,
     ) -> Result<Option<OidBuf>, NoMemory> {
-        let Some(clue) = clue_for(self.values, self.clues.as_slice(), known, slot) else {
-            return Ok(None);
-        };
         note_distinct(self.labels);
+        let clues = self.clues.as_slice();
         let readers = Readers {
             graph: self.graph,
             labels: self.labels,
             links: self.links,
             values: self.values,
+            most: most_ends(known),
         };
-        objects_by(alloc, &readers, clue, row, steps)
+        match clue_by_value(self.values, clues, known, slot) {
+            Some(clue) => objects_by(alloc, &readers, clue, row, steps),
+            None => objects_in_turn(alloc, &readers, clues, known, slot, row, steps),
+        }
     }
 }
 

@@ -1,4 +1,5 @@
 ghost use Rattle.std.specs.Prelude.{◌≡◌};
+ghost use Rattle.lore_store.specs.inside.Parts.{plan_with};
 
 use crate::indexes::IndexPlan;
 use dataguide::GuideDelta;
@@ -14,6 +15,14 @@ pub struct Prepared {
     pub(crate) labels: LabelPlan,
     pub(crate) indexes: IndexPlan,
     // What becomes of the guide, where it doesn't stay.
+    pub(crate) guide: Option<GuideDelta>,
+}
+
+// What a plan has beside that of the graph.
+#[derive(Drop)]
+pub(crate) struct OtherParts {
+    pub(crate) labels: LabelPlan,
+    pub(crate) indexes: IndexPlan,
     pub(crate) guide: Option<GuideDelta>,
 }
 
@@ -38,5 +47,22 @@ impl Prepared {
         ensures { result.now ≡ self.now.graph.delta }
     {
         self.graph.delta()
+    }
+}
+
+// The plan of these parts.
+pub(crate) fn prepared_of(graph: GraphPlan, parts: OtherParts) -> Prepared
+    ensures { result ≡ plan_with graph parts }
+{
+    let OtherParts {
+        labels,
+        indexes,
+        guide,
+    } = parts;
+    Prepared {
+        graph,
+        labels,
+        indexes,
+        guide,
     }
 }

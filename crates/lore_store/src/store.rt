@@ -1,4 +1,4 @@
-ghost use Rattle.std.specs.Prelude.{◌≡◌, ◌↔◌, ◌*◌, IsTrue, IfSome, IfOk, IfErr, OnOk, OnErr};
+ghost use Rattle.std.specs.Prelude.{◌≡◌, ◌↔◌, ◌*◌, ◌++◌, IsTrue, IfSome, IfOk, IfErr, OnOk, OnErr};
 ghost use Rattle.lore_base.specs.Databases.{IsValid, new_database};
 ghost use Rattle.lore_base.specs.ChangeSets.{FitsGraph, Fits, IsAfter, IsGraphAfter, IsOverlay};
 ghost use Rattle.lore_base.specs.ChangeSets.{AreDead};
@@ -13,7 +13,8 @@ ghost use Rattle.read_costs.specs.Concerned.{IsInDoubt, IsTouched};
 ghost use Rattle.oem_graph.specs.Plans.{graph_then};
 ghost use Rattle.dataguide.specs.Deltas.{IsReady};
 ghost use Rattle.lore_base.specs.Restores.{IsWhole, database_from};
-ghost use Rattle.oem_labels.specs.Labels.{AreLabels};
+ghost use Rattle.oem_labels.specs.Labels.{AreLabels, LeadsFrom, first_uses};
+ghost use Rattle.value_changes.specs.Reads.{ReadsChanged};
 ghost use Rattle.index_traits.specs.Entries.{AreLinks, AreValueEntries};
 ghost use Rattle.lore_store.specs.declared.faults.StoreFault.TheVariants as fault;
 ghost use Rattle.lore_store.specs.Faults.{refusal_of, RestoreCause};
@@ -21,18 +22,22 @@ ghost use Rattle.lore_store.specs.Reads.{ReadsWithinWork};
 ghost use Rattle.lore_store.specs.Stores as spec;
 ghost use Rattle.lore_store.specs.Stores.{database_then, LeadsOn, HasRoomFor, IsGuided};
 ghost use Rattle.lore_store.specs.Stores.{IsLimit, order};
+ghost use Rattle.lore_store.specs.Indexes.{AreIndexed};
+ghost use Rattle.lore_store.specs.inside.Parts.{plan_with, StaysWithinWork};
 ghost use Rattle.lore_store.specs.inside.Sizes.{SizeCause, SetsCause, sets_order};
 ghost use Rattle.lore_store.specs.inside.Unlinked.{LinkNothing};
 
 use crate::faults::{RestoreFault, StoreFault};
-use crate::indexes::{Indexes, built_indexes, commit_indexes, planned_indexes, reserve_indexes};
-use crate::prepared::Prepared;
+use crate::indexes::{
+    IndexPlan, Indexes, built_indexes, commit_indexes, planned_indexes, reserve_indexes,
+};
+use crate::prepared::{OtherParts, Prepared, prepared_of};
 use dataguide::{Guide, GuideDelta};
 use link_index::LinkIndex;
 use lore_base::limits::{EDGES, NAMES, NODES, OBJECTS, START_NODES};
 use lore_base::{Changes, Mode, NoMemory, OidBuf, Restored, Steps, TextList};
 use oem_graph::{Graph, GraphPlan, Overlay};
-use oem_labels::LabelTable;
+use oem_labels::{LabelPlan, LabelTable};
 use oem_reach::dead_objects;
 use std::alloc::Global;
 use std::marker::Model;
@@ -189,19 +194,9 @@ impl Store {
             → ReadsWithinWork self.now.db.graph changes.now steps.old steps.new) }
     {
         let overlay = self.graph.overlay(changes)?;
-        let dead = self.dead(alloc, changes, &overlay, steps)?;
-        let graph = self.graph.prepare(changes, &dead)?;
-        self.check_sizes(&graph)?;
-        let guide = self.guide_then(changes, &graph, steps)?;
-        let labels = self.labels.plan_new(&changes.labels)?;
-        let (links, values) = (&self.links, &self.values);
-        let indexes = planned_indexes(alloc, links, values, &self.graph, &overlay, &graph, steps)?;
-        Ok(Prepared {
-            graph,
-            labels,
-            indexes,
-            guide,
-        })
+        let prepared = self.prepare_over(alloc, changes, &overlay, steps);
+        drop(overlay);
+        prepared
     }
 
     /// Takes the memory that `commit` needs for this plan. The database stays equal, whatever the
@@ -283,6 +278,127 @@ impl Store {
             limit,
             mode: restored.mode,
         })
+    }
+
+    // `prepare` over the edges that there are once the changes are made. Large values are let go in
+    // words: what is let go at each way out of a function is proved there each time, at length.
+    fn prepare_over<L: Ledger>(
+        &self,
+        alloc: Global,
+        changes: &Changes,
+        overlay: &Overlay,
+        steps: &mut Steps<L>,
+    ) -> Result<Prepared, StoreFault>
+        requires fits { Fits self.now.db changes.now }
+        requires overlay { IsOverlay self.now.db.graph.edges changes.now overlay.now.edges
+            overlay.now.lost overlay.now.fresh }
+        ensures after { IfOk result (λ plan.
+            IsAfter self.now.db changes.now (database_then self.now.db plan)) }
+        ensures leads { IfOk result (λ plan. LeadsOn self.now.db self.now.guide plan) }
+        ensures delta { IfOk result (λ plan. IsDelta self.now.db.graph
+            (database_then self.now.db plan).graph plan.graph.delta) }
+        ensures ok { OnOk result (IsClear (DatabaseCause self.now.db changes.now) order) }
+        ensures err { let cause = DatabaseCause self.now.db changes.now in
+            IfErr result (λ fault. IsToldBy cause order (refusal_of fault)) }
+        ensures reads { OnOk result
+            (ReadsWithinWork self.now.db.graph changes.now steps.old steps.new) }
+        ensures refused { IfErr result (λ given. (given ≡ fault.NoMemory → ⊥)
+            → ReadsWithinWork self.now.db.graph changes.now steps.old steps.new) }
+    {
+        let dead = self.dead(alloc, changes, overlay, steps)?;
+        let planned = self.graph.prepare(changes, &dead);
+        drop(dead);
+        let graph = planned?;
+        match self.other_parts(alloc, changes, overlay, &graph, steps) {
+            Ok(parts) => Ok(prepared_of(graph, parts)),
+            Err(fault) => {
+                drop(graph);
+                Err(fault)
+            }
+        }
+    }
+
+    // What a plan has beside that of the graph.
+    fn other_parts<L: Ledger>(
+        &self,
+        alloc: Global,
+        changes: &Changes,
+        overlay: &Overlay,
+        plan: &GraphPlan,
+        steps: &mut Steps<L>,
+    ) -> Result<OtherParts, StoreFault>
+        requires fits { Fits self.now.db changes.now }
+        requires overlay { IsOverlay self.now.db.graph.edges changes.now overlay.now.edges
+            overlay.now.lost overlay.now.fresh }
+        requires after { IsGraphAfter self.now.db.graph changes.now
+            (graph_then self.now.db.graph plan.now) }
+        requires delta { IsDelta self.now.db.graph (graph_then self.now.db.graph plan.now)
+            plan.now.delta }
+        ensures after { IfOk result (λ parts. IsAfter self.now.db changes.now
+            (database_then self.now.db (plan_with plan.now parts))) }
+        ensures leads { IfOk result (λ parts.
+            LeadsOn self.now.db self.now.guide (plan_with plan.now parts)) }
+        ensures ok { OnOk result (IsClear (DatabaseCause self.now.db changes.now) order) }
+        ensures err { let cause = DatabaseCause self.now.db changes.now in
+            IfErr result (λ fault. IsToldBy cause order (refusal_of fault)) }
+        ensures reads { OnOk result (StaysWithinWork self.now.db.graph changes.now
+            overlay.now.edges steps.old steps.new) }
+        ensures refused { IfErr result (λ given. (given ≡ fault.NoMemory → ⊥)
+            → StaysWithinWork self.now.db.graph changes.now overlay.now.edges steps.old
+            steps.new) }
+    {
+        // That the database is valid is known where its graph is looked at.
+        let _valid = self.graph();
+        self.check_sizes(plan)?;
+        let guide = self.guide_then(changes, plan, steps)?;
+        match self.labels_and_entries(alloc, changes, overlay, plan, steps) {
+            Ok((labels, indexes)) => Ok(OtherParts {
+                labels,
+                indexes,
+                guide,
+            }),
+            Err(error) => {
+                drop(guide);
+                Err(StoreFault::from(error))
+            }
+        }
+    }
+
+    // The labels that come with the changes, and the entries of the indexes that go and come.
+    fn labels_and_entries<L: Ledger>(
+        &self,
+        alloc: Global,
+        changes: &Changes,
+        overlay: &Overlay,
+        plan: &GraphPlan,
+        steps: &mut Steps<L>,
+    ) -> Result<(LabelPlan, IndexPlan), NoMemory>
+        requires fits { Fits self.now.db changes.now }
+        requires overlay { IsOverlay self.now.db.graph.edges changes.now overlay.now.edges
+            overlay.now.lost overlay.now.fresh }
+        requires after { IsGraphAfter self.now.db.graph changes.now
+            (graph_then self.now.db.graph plan.now) }
+        requires delta { IsDelta self.now.db.graph (graph_then self.now.db.graph plan.now)
+            plan.now.delta }
+        requires sized { IsClear (SizeCause (graph_then self.now.db.graph plan.now)) order }
+        ensures come { IfOk result (λ parts.
+            parts.0.come ≡ first_uses self.now.db.labels changes.now.labels) }
+        ensures leads { IfOk result (λ parts. LeadsFrom self.now.db.labels parts.0) }
+        ensures entries { IfOk result (λ parts. AreIndexed self.now.db.graph
+            (graph_then self.now.db.graph plan.now) parts.1) }
+        ensures reads { OnOk result (ReadsChanged overlay.now.edges plan.now.delta.edges_gone
+            plan.now.delta.edges_come plan.now.delta.objects_come self.now.db.graph.objects
+            (graph_then self.now.db.graph plan.now).objects steps.old steps.new) }
+    {
+        let labels = self.labels.plan_new(&changes.labels)?;
+        let (links, values) = (&self.links, &self.values);
+        match planned_indexes(alloc, links, values, &self.graph, overlay, plan, steps) {
+            Ok(indexes) => Ok((labels, indexes)),
+            Err(error) => {
+                drop(labels);
+                Err(error)
+            }
+        }
     }
 
     // The objects that no name walks to once the changes are made, whose edges the overlay has. Where
@@ -404,10 +520,25 @@ fn table_of(alloc: Global, texts: &TextList) -> Result<LabelTable, NoMemory>
     requires { AreLabels texts.now }
     ensures { IfOk result (λ table. table ≡ texts.now) }
 {
-    let mut table = LabelTable::new(alloc);
-    let plan = table.plan_new(texts)?;
+    let table = LabelTable::new(alloc);
+    let planned = table.plan_new(texts);
+    match planned {
+        Ok(plan) => Ok(with_labels(table, plan)),
+        Err(error) => {
+            drop(table);
+            Err(error)
+        }
+    }
+}
+
+// The table with the labels of its plan.
+fn with_labels(table: LabelTable, plan: LabelPlan) -> LabelTable
+    requires { LeadsFrom table plan }
+    ensures { result ≡ table ++ plan.come }
+{
+    let mut table = table;
     table.commit_new(plan);
-    Ok(table)
+    table
 }
 
 #[cfg(test)]

@@ -1,6 +1,6 @@
 ghost use Rattle.std.specs.Prelude.{◌≡◌, ◌+◌, ◌≤◌, List, length, map, option_map, MatchOption};
-ghost use Rattle.std.specs.Prelude.{IfOk};
-ghost use Rattle.lore_base.specs.Paths.{path_tree, seq, trees_of};
+ghost use Rattle.std.specs.Prelude.{◌++◌, IfOk, OnOk};
+ghost use Rattle.lore_base.specs.Paths.{path_tree, path_trees, seq, trees_of};
 ghost use Rattle.lorel_trees.specs.Trees.{cond_tree, conds_from, operand_tree, rooted_tree};
 ghost use Rattle.lorel_trees.specs.Trees as t;
 ghost use Rattle.lorel_bind.specs.Types.{NESTING};
@@ -195,8 +195,21 @@ fn sequence(alloc: Global, parts: &[Path]) -> Result<Path, NoMemory>
     ensures { IfOk result (λ path. path_tree path ≡ seq (trees_of (map path_tree parts.now))) }
 {
     let mut list = PathList::new(alloc);
+    match push_copies(alloc, parts, &mut list) {
+        Ok(()) => Ok(Path::Seq(list)),
+        Err(error) => {
+            drop(list);
+            Err(error)
+        }
+    }
+}
+
+// Puts copies of the parts behind those that are there.
+fn push_copies(alloc: Global, parts: &[Path], list: &mut PathList) -> Result<(), NoMemory>
+    ensures { OnOk result (path_trees list.new ≡ path_trees list.old ++ map path_tree parts.now) }
+{
     'parts: for part in parts {
         list.push(part.try_copy(alloc)?)?;
     }
-    Ok(Path::Seq(list))
+    Ok(())
 }

@@ -10,10 +10,27 @@ fn copied_objects(alloc: Global, objects: &ObjectList) -> Result<Vec<(Oid, Value
     ensures { IfOk result (λ copy. copy.items ≡ objects.now) }
 {
     let mut copy = Vec::with_capacity(alloc, objects.len())?;
-    'objects: for object in objects.as_slice() {
+    match push_copies(alloc, objects.as_slice(), &mut copy) {
+        Ok(()) => Ok(copy),
+        Err(error) => {
+            drop(copy);
+            Err(error)
+        }
+    }
+}
+
+// Puts copies of the objects behind those that are there.
+fn push_copies(
+    alloc: Global,
+    objects: &[(Oid, Value)],
+    copy: &mut Vec<(Oid, Value)>,
+) -> Result<(), NoMemory>
+    ensures { OnOk result (copy.new.items ≡ copy.old.items ++ objects.now) }
+{
+    'objects: for object in objects {
         copy.push(object.try_copy(alloc)?)?;
     }
-    Ok(copy)
+    Ok(())
 }
 
 // The given values by ascending objects.

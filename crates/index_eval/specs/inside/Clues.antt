@@ -1,61 +1,77 @@
--- What clues of a condition tell: a path leads from the object in a slot to a value that compares so with a given one.
-use Rattle.std.specs.Prelude.{◌≡◌, ℕ, Bool, true, List, [], Option, Some, option_map, Contains, slice_get}
-use Rattle.lore_base.specs.Paths.{path_tree}
+-- What clues of a condition tell of the object in a slot: a path leads on to a value that compares so with a given one, or to an
+-- object that another path reaches.
+use Rattle.std.specs.Prelude.{◌≡◌, ℕ, Bool, true, List, [], Option, None, Some, option_map, All, Contains, slice_get}
+use Rattle.lore_base.specs.Paths.{PathTree, path_tree}
 use Rattle.lore_base.specs.Comparisons.{Compares}
 use Rattle.lore_base.specs.TargetSets.{ListsInOrder}
 use Rattle.product_walk.specs.ProductWalks.{ReachesInto}
 use Rattle.index_traits.specs.Entries.{IsProbed}
 use Rattle.lorel_bound.specs.Bound.{BoundPathTree, bound_cond}
-use Rattle.lorel_bound.specs.Conditions.{OperandOf, constant, at, CondOf, compare}
+use Rattle.lorel_bound.specs.Conditions.{OperandOf, CondOf}
 use Rattle.lorel_bound.specs.Holding.{Gives}
-use Rattle.lorel_bound.specs.SlotRows.{MeetsBy, HoldsOver}
+use Rattle.lorel_bound.specs.SlotRows.{MeetsBy}
 use Rattle.lorel_bound.specs.Plans.{IsLabelOf, IsCandidate}
 use Rattle.planner.specs.Ends.{EndsIn}
 use Rattle.lorel_eval.specs.Tests.{CondOver}
 use Rattle.index_eval.specs.Indexes.{AreIndexes}
-use Rattle.index_eval.specs.Types.{Oid, Edge, Value, ValueEntry, BoundStart, BoundCond}
+use Rattle.index_eval.specs.Types.{Oid, Edge, Value, ValueEntry, Path, BoundStart, BoundCond}
 use Rattle.index_eval.specs.Types.bound_starts
+use Rattle.index_eval.specs.inside.Asked.{given_operand, other_path, asked_of, IsOutside, IsOperandOutside, Follows}
 use Rattle.index_eval.specs.declared.clues.Clue.{Clue}
+use Rattle.index_eval.specs.declared.clues.End.{End}
+use Rattle.index_eval.specs.declared.clues.End.TheVariants as e
+use Rattle.index_eval.specs.declared.clues.Comparison.{Comparison}
 use Rattle.index_eval.specs.declared.clues.Given.{Given}
 use Rattle.index_eval.specs.declared.clues.Given.TheVariants as given
+use Rattle.index_eval.specs.declared.clues.Meeting.{Meeting}
 
--- the path that is sought, from the slot on
-abbrev pub sought_path : Clue → BoundPathTree
-sought_path clue = record { start = bound_starts.Slot clue.slot; rest = path_tree clue.way }
-
--- what is given, as a side of a comparison
-abbrev pub given_operand : Given → OperandOf BoundPathTree
-given_operand (given.Atom value) = constant value.now
-given_operand (given.At start route) = at (record { start = start; rest = path_tree route })
-
--- the other condition holds wherever the first one does
-abbrev pub Follows : List (List ℕ) → CondOf BoundPathTree → CondOf BoundPathTree → Type 0
-Follows labels condition other =
-    (edges : List Edge) (objects : List (Oid × Value)) (slots : List Oid)
-    → HoldsOver labels edges objects slots (Some condition) → HoldsOver labels edges objects slots (Some other)
-
--- the condition asks for the comparison, whose sought path ends in the label
-pub record IsClueOf (labels : List (List ℕ)) (condition : CondOf BoundPathTree) (clue : Clue) : Type 0 where
-  pub follows : Follows labels condition (compare (at (sought_path clue)) clue.op (given_operand clue.given))
-  pub probed : IsProbed clue.op
+-- what compares so can be sought: the path ends in the label, and no quantifier tells what is given
+pub record CanBeSought (labels : List (List ℕ)) (rest : PathTree) (own : Comparison) : Type 0 where
+  pub probed : IsProbed own.op
   pub text : List ℕ
-  pub ends : EndsIn (path_tree clue.way) text
-  pub labelled : IsLabelOf labels text clue.label
+  pub ends : EndsIn rest text
+  pub labelled : IsLabelOf labels text own.label
+  pub outside : IsOperandOutside (given_operand own.given)
+
+-- and so for the end of a path; what is met starts at no quantifier
+abbrev pub IsEnd : List (List ℕ) → PathTree → End → Type 0
+IsEnd labels rest (e.Compared own) = CanBeSought labels rest own
+IsEnd labels rest (e.Met own) = IsOutside own.start
+
+-- the condition asks for what the clue tells
+pub record IsClueOf (labels : List (List ℕ)) (condition : CondOf BoundPathTree) (clue : Clue) : Type 0 where
+  pub follows : Follows labels condition (asked_of clue.slot clue.through clue.way clue.end)
+  pub end_is : IsEnd labels (path_tree clue.way) clue.end
 
 -- and so does each condition of which this one follows
 abbrev pub IsClueBy : List (List ℕ) → CondOf BoundPathTree → Clue → Type 0
 IsClueBy labels condition clue = (whole : CondOf BoundPathTree) → Follows labels whole condition → IsClueOf labels whole clue
 
--- a start is no slot, or a known one
+-- beside the old clues are some of the condition, and so of each of which it follows
+abbrev pub AddsCluesOf : List (List ℕ) → CondOf BoundPathTree → List Clue → List Clue → Type 0
+AddsCluesOf labels condition old new =
+    (whole : CondOf BoundPathTree) → Follows labels whole condition → All (IsClueOf labels whole) old → All (IsClueOf labels whole) new
+
+-- a start is a name, or a known slot
 abbrev pub IsStartGiven : List Bool → BoundStart → Type 0
 IsStartGiven known (bound_starts.Slot slot) = slice_get known slot ≡ Some true
 IsStartGiven known (bound_starts.Named named) = Unit {0}
-IsStartGiven known (bound_starts.Quantified depth) = Unit {0}
+IsStartGiven known (bound_starts.Quantified depth) = ⊥
 
 -- what is given depends on known slots alone
 abbrev pub IsGivenBy : List Bool → Given → Type 0
 IsGivenBy known (given.Atom value) = Unit {0}
 IsGivenBy known (given.At start route) = IsStartGiven known start
+
+-- and so for the end of a clue
+abbrev pub IsEndGiven : List Bool → End → Type 0
+IsEndGiven known (e.Compared own) = IsGivenBy known own.given
+IsEndGiven known (e.Met own) = IsStartGiven known own.start
+
+-- values at the end can be probed for
+abbrev pub IsProbedEnd : End → Type 0
+IsProbedEnd (e.Compared own) = IsProbed own.op
+IsProbedEnd (e.Met own) = Unit {0}
 
 -- a side of a comparison gives the value where the slots hold these objects
 abbrev pub GivesFor : List (List ℕ) → List Edge → List (Oid × Value) → List Oid → OperandOf BoundPathTree → Value → Type 0
@@ -63,40 +79,65 @@ GivesFor labels edges objects slots operand value =
     Gives (MeetsBy labels edges slots) (λ oid other. Contains objects (oid, other)) Compares [] operand value
 
 -- these are objects beside others, among them all that compare so with the value
-pub record TakesEnds (entries : List ValueEntry) (clue : Clue) (value : Value) (old new : List Oid) : Type 0 where
+pub record TakesEnds (entries : List ValueEntry) (own : Comparison) (value : Value) (old new : List Oid) : Type 0 where
   pub kept : (oid : Oid) → Contains old oid → Contains new oid
-  pub taken : (oid : Oid) → IsCandidate entries clue.label clue.op value oid → Contains new oid
+  pub taken : (oid : Oid) → IsCandidate entries own.label own.op value oid → Contains new oid
 
 -- and so for the value of an object
-pub record TakesEndsFor (objects : List (Oid × Value)) (entries : List ValueEntry) (clue : Clue) (from : Oid)
+pub record TakesEndsFor (objects : List (Oid × Value)) (entries : List ValueEntry) (own : Comparison) (from : Oid)
     (old new : List Oid) : Type 0 where
   pub kept : (oid : Oid) → Contains old oid → Contains new oid
   pub taken : (oid : Oid) (value : Value) → Contains objects (from, value)
-      → IsCandidate entries clue.label clue.op value oid → Contains new oid
+      → IsCandidate entries own.label own.op value oid → Contains new oid
 
 -- among these are all objects that compare so with the value of one of the objects found
-abbrev pub TakesEndsOf : List (Oid × Value) → List ValueEntry → Clue → List Oid → List Oid → Type 0
-TakesEndsOf objects entries clue found ends =
+abbrev pub TakesEndsOf : List (Oid × Value) → List ValueEntry → Comparison → List Oid → List Oid → Type 0
+TakesEndsOf objects entries own found ends =
     (from oid : Oid) (value : Value) → Contains found from → Contains objects (from, value)
-    → IsCandidate entries clue.label clue.op value oid → Contains ends oid
+    → IsCandidate entries own.label own.op value oid → Contains ends oid
 
 -- among these are all objects that compare so with a value which this side of the comparison gives
-abbrev pub HasEndsBy :
-    List (List ℕ) → List Edge → List (Oid × Value) → List ValueEntry → List Oid → Clue → OperandOf BoundPathTree → List Oid → Type 0
-HasEndsBy labels edges objects entries slots clue operand ends =
+abbrev pub HasComparedBy :
+    List (List ℕ) → List Edge → List (Oid × Value) → List ValueEntry → List Oid → Comparison → OperandOf BoundPathTree → List Oid → Type 0
+HasComparedBy labels edges objects entries slots own operand ends =
     (value : Value) (oid : Oid) → GivesFor labels edges objects slots operand value
-    → IsCandidate entries clue.label clue.op value oid → Contains ends oid
+    → IsCandidate entries own.label own.op value oid → Contains ends oid
 
 -- and so for what is given
-abbrev pub HasEnds : List (List ℕ) → List Edge → List (Oid × Value) → List ValueEntry → List Oid → Clue → List Oid → Type 0
-HasEnds labels edges objects entries slots clue = HasEndsBy labels edges objects entries slots clue (given_operand clue.given)
+abbrev pub HasCompared : List (List ℕ) → List Edge → List (Oid × Value) → List ValueEntry → List Oid → Comparison → List Oid → Type 0
+HasCompared labels edges objects entries slots own = HasComparedBy labels edges objects entries slots own (given_operand own.given)
 
--- these ascend, and are all objects from which the clue's path leads to one of some ends, among which are all that
--- compare so
+-- among these are all objects that the other path reaches
+abbrev pub HasMet : List (List ℕ) → List Edge → List Oid → Meeting → List Oid → Type 0
+HasMet labels edges slots own ends = (oid : Oid) → MeetsBy labels edges slots [] (other_path own) oid → Contains ends oid
+
+-- among these are all objects at the end
+abbrev pub HasEnds : List (List ℕ) → List Edge → List (Oid × Value) → List ValueEntry → List Oid → End → List Oid → Type 0
+HasEnds labels edges objects entries slots (e.Compared own) ends = HasCompared labels edges objects entries slots own ends
+HasEnds labels edges objects entries slots (e.Met own) ends = HasMet labels edges slots own ends
+
+-- these ascend, and are all objects from which the way leads to one of the ends, or, where there is a path to go through
+-- first, from which that one leads to an object from which the way does
+abbrev pub LeadBack : List (List ℕ) → List Edge → Option Path → Path → List Oid → List Oid → Type 0
+LeadBack labels links None way ends oids = ListsInOrder (ReachesInto labels links (path_tree way) ends) oids
+LeadBack labels links (Some first) way ends oids =
+    (between : List Oid) × ListsInOrder (ReachesInto labels links (path_tree way) ends) between
+    × ListsInOrder (ReachesInto labels links (path_tree first) between) oids
+
+-- and so by a clue, to objects among which are all at its end
 abbrev pub LeadToEnds : List (List ℕ) → List Edge → List (Oid × Value) → List Edge → List ValueEntry → List Oid → Clue → List Oid → Type 0
 LeadToEnds labels edges objects links entries slots clue oids =
-    (ends : List Oid) × HasEnds labels edges objects entries slots clue ends
-    × ListsInOrder (ReachesInto labels links (path_tree clue.way) ends) oids
+    (ends : List Oid) × HasEnds labels edges objects entries slots clue.end ends
+    × LeadBack labels links clue.through clue.way ends oids
+
+-- these are told by a clue of the slot whose end depends on known slots alone
+pub record AreTold (labels : List (List ℕ)) (edges : List Edge) (objects : List (Oid × Value)) (links : List Edge) (entries : List ValueEntry)
+    (clues : List Clue) (known : List Bool) (slot : ℕ) (slots oids : List Oid) : Type 0 where
+  pub clue : Clue
+  pub among : Contains clues clue
+  pub slot_is : clue.slot ≡ slot
+  pub given : IsEndGiven known clue.end
+  pub leads : LeadToEnds labels edges objects links entries slots clue oids
 
 -- the clue is one of the condition, which there is
 pub record IsClueIn (labels : List (List ℕ)) (cond : Option BoundCond) (clue : Clue) : Type 0 where

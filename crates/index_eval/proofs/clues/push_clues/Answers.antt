@@ -1,21 +1,23 @@
-use Rattle.std.proofs.Common.{arith, subst}
-use Rattle.lorel_bound.specs.Bound.{BoundPathTree}
-use Rattle.lorel_bound.specs.Conditions.{CondOf}
-use Rattle.lorel_bound.proofs.BoundLaws.{compare_cond}
-use Rattle.index_eval.specs.inside.Clues.{Follows}
-use Rattle.index_eval.proofs.MadeLaws.{few_sides}
+use Rattle.std.proofs.Common.{◌≡◌, ◌≤◌, List, map, sym, ap, ◌∙◌, subst}
+use Rattle.lorel_bound.specs.Bound.{BoundPathTree, bound_cond, conds_from}
+use Rattle.lorel_bound.specs.Conditions.{CondOf, and, paths_of}
+use Rattle.lorel_eval.specs.Tests.{rest_leaves}
+use Rattle.index_eval.specs.Types.{LEAVES}
+use Rattle.index_eval.specs.inside.Clues.{AddsCluesOf}
+use Rattle.index_eval.proofs.MadeLaws.{and_cond}
 use Rattle.index_eval.proofs.clues.push_clues.Goals as goal
 
-pub push_both-requires-clause-left : goal.push_both-requires-clause-left
-push_both-requires-clause-left c = omega (arith, few_sides c.args.cond.now c.in-Compare.left c.in-Compare.op c.in-Compare.right c.in-Compare.is, c.requires)
+pub push_all-requires : goal.push_all-requires
+push_all-requires c =
+    let whole : and (conds_from (map bound_cond c.as_slice.result.now)) ≡ bound_cond c.args.cond.now =
+    ap (λ (l : List (CondOf BoundPathTree)). and (conds_from l)) c.as_slice.ensures.trees ∙ sym (and_cond c.args.cond.now c.in-And.members c.in-And.is) in
+    subst (λ (w : CondOf BoundPathTree). rest_leaves (paths_of w) ≤ LEAVES) (sym whole) c.requires
 
-pub push_both-requires-clause-right : goal.push_both-requires-clause-right
-push_both-requires-clause-right c = omega (arith, few_sides c.args.cond.now c.in-Compare.left c.in-Compare.op c.in-Compare.right c.in-Compare.is, c.requires)
-
-pub returns-in-Compare : goal.returns-in-Compare
-returns-in-Compare c = λ whole follows all. c.push_both.ensures whole
-    (subst (λ (w : CondOf BoundPathTree). Follows c.args.labels.now whole w)
-    (compare_cond c.args.cond.now c.in-Compare.left c.in-Compare.op c.in-Compare.right c.in-Compare.is) follows) all
+pub returns-in-And : goal.returns-in-And
+returns-in-And c =
+    let whole : and (conds_from (map bound_cond c.as_slice.result.now)) ≡ bound_cond c.args.cond.now =
+    ap (λ (l : List (CondOf BoundPathTree)). and (conds_from l)) c.as_slice.ensures.trees ∙ sym (and_cond c.args.cond.now c.in-And.members c.in-And.is) in
+    subst (λ (w : CondOf BoundPathTree). AddsCluesOf c.args.labels.now w c.args.clues.now.items c.push_all.new.clues.items) whole c.push_all.ensures
 
 pub returns-in_default : goal.returns-in_default
-returns-in_default c = λ whole follows all. all
+returns-in_default c = c.push_own.ensures

@@ -1,19 +1,19 @@
-use Rattle.std.proofs.Common.{ap}
-use Rattle.lore_base.specs.Paths.{path_tree}
-use Rattle.lorel_bound.specs.Conditions.{at}
-use Rattle.index_eval.specs.inside.Clues.{given_operand}
-use Rattle.index_eval.proofs.EndLaws.{atom_found, given_found}
+use Rattle.std.proofs.Common.{subst}
+use Rattle.index_eval.specs.inside.Clues.{IsProbedEnd}
+use Rattle.index_eval.proofs.EndLaws.{compared_found, met_found}
 use Rattle.index_eval.proofs.ends.ends_of.Goals as goal
 
-pub returns-in-Atom : goal.returns-in-Atom
-returns-in-Atom g c =
-    let readers = c.args.readers.now in
-    atom_found readers.labels.now (g.G.Adjacent.edges readers.graph.now) (g.G.ValueOf.objects readers.graph.now) (g.V.Values.entries readers.values.now)
-    c.args.row.now c.args.clue.now c.in-Atom.value.now c.ends_of_value.result (ap given_operand c.in-Atom.is) c.ends_of_value.ensures
+pub ends_compared-requires : goal.ends_compared-requires
+ends_compared-requires g c = subst IsProbedEnd c.in-Compared.is c.requires
 
-pub returns-in-At : goal.returns-in-At
-returns-in-At g c =
+pub returns-in-Compared : goal.returns-in-Compared
+returns-in-Compared g c =
     let readers = c.args.readers.now in
-    given_found readers.labels.now (g.G.Adjacent.edges readers.graph.now) (g.G.ValueOf.objects readers.graph.now) (g.V.Values.entries readers.values.now)
-    c.args.row.now c.args.clue.now (at (record { start = c.in-At.start; rest = path_tree c.in-At.route })) c.ends_of_path.result (ap given_operand c.in-At.is)
-    c.ends_of_path.ensures
+    compared_found readers.labels.now (g.G.Adjacent.edges readers.graph.now) (g.G.ValueOf.objects readers.graph.now) (g.V.Values.entries readers.values.now)
+    c.args.row.now c.args.end.now c.in-Compared.comparison c.ends_compared.result c.in-Compared.is c.ends_compared.ensures
+
+pub returns-in-Met : goal.returns-in-Met
+returns-in-Met g c =
+    let readers = c.args.readers.now in
+    met_found readers.labels.now (g.G.Adjacent.edges readers.graph.now) (g.G.ValueOf.objects readers.graph.now) (g.V.Values.entries readers.values.now)
+    c.args.row.now c.args.end.now c.in-Met.meeting c.ends_met.result c.in-Met.is c.ends_met.ensures

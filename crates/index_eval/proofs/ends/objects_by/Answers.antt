@@ -1,20 +1,26 @@
 use Rattle.std.proofs.Common.{List, Option, IfSome, subst}
-use Rattle.lore_base.specs.Paths.{path_tree}
-use Rattle.lore_base.specs.TargetSets.{ListsInOrder}
-use Rattle.product_walk.specs.ProductWalks.{ReachesInto}
 use Rattle.index_eval.specs.Types.{Oid}
 use Rattle.index_eval.specs.inside.Clues.{HasEnds}
-use Rattle.index_eval.proofs.EndLaws.{extended}
+use Rattle.index_eval.proofs.EndLaws.{led_back, led_through}
 use Rattle.index_eval.proofs.ends.objects_by.Goals as goal
 
 pub returns : goal.returns
 returns g c =
     let readers = c.args.readers.now in
-    let labels = readers.labels.now in
-    let has = HasEnds labels (g.G.Adjacent.edges readers.graph.now) (g.G.ValueOf.objects readers.graph.now) (g.V.Values.entries readers.values.now)
-    c.args.row.now c.args.clue.now in (
-      c.in-Some.ends,
-      subst (λ (found : Option (List Oid)). IfSome found has) c.in-Some.is c.in_ok-ends.ensures,
-      extended (ListsInOrder (ReachesInto labels (g.K.Links.edges readers.links.now) (path_tree c.args.clue.now.way) c.in-Some.ends))
-          c.new-oids.result c.reach_back.new.buf c.new-oids.ensures c.in_ok-reach_back.ensures.objects,
-    )
+    let edges = g.G.Adjacent.edges readers.graph.now in
+    let objects = g.G.ValueOf.objects readers.graph.now in
+    let entries = g.V.Values.entries readers.values.now in
+    led_back readers.labels.now edges objects (g.K.Links.edges readers.links.now) entries c.args.row.now c.args.clue.now c.in-Some.ends c.in_ok-found.found
+    c.in-None.is (subst (λ (found : Option (List Oid)). IfSome found (HasEnds readers.labels.now edges objects entries c.args.row.now c.args.clue.now.end)) c.in-Some.is c.in_ok-ends.ensures)
+    c.in_ok-found.ensures
+
+pub returns-in-Some-through : goal.returns-in-Some-through
+returns-in-Some-through g c =
+    let readers = c.args.readers.now in
+    let edges = g.G.Adjacent.edges readers.graph.now in
+    let objects = g.G.ValueOf.objects readers.graph.now in
+    let entries = g.V.Values.entries readers.values.now in
+    led_through readers.labels.now edges objects (g.K.Links.edges readers.links.now) entries c.args.row.now c.args.clue.now c.in-Some-through.first c.in-Some.ends
+    c.in_ok-found.found c.in_ok-oids-in-Some-through.oids c.in-Some-through.is
+    (subst (λ (found : Option (List Oid)). IfSome found (HasEnds readers.labels.now edges objects entries c.args.row.now c.args.clue.now.end)) c.in-Some.is c.in_ok-ends.ensures)
+    c.in_ok-found.ensures c.in_ok-oids-in-Some-through.ensures

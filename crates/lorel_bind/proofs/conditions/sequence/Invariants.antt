@@ -1,6 +1,0 @@
-use Rattle.std.proofs.Common.{◌≡◌, ◌++◌, map, drop}
-use Rattle.lore_base.specs.Paths.{path_tree, path_trees}
-use Rattle.lorel_bind.proofs.conditions.sequence.Given as goal
-
-abbrev pub invariant-parts : goal.invariant-parts
-invariant-parts l = path_trees l.list ++ map path_tree (drop l.part-index l.parts) ≡ map path_tree l.fn.parts
