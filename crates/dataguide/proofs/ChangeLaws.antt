@@ -1,6 +1,6 @@
 -- A guide before a change: the guide without nodes, what a change makes dirty, and that all is read from there.
-use Rattle.std.proofs.Common.{◌≡◌, ◌↔◌, ℕ, ◌+◌, inl, inr, List, [], AllPairs, Contains, arith}
-use Rattle.std.specs.List.{sum_by}
+use Rattle.std.proofs.Common.{◌≡◌, ◌↔◌, ℕ, ◌+◌, inl, inr, List, [], ◌∷◌, AllPairs, Contains, refl, ap, ◌∙◌, arith}
+use Rattle.std.specs.List.{sum_by, AllZip}
 use Rattle.std.proofs.lemmas.List.Elements.{All-weaker}
 use Rattle.lore_base.specs.Databases.{AreAscendingEdges}
 use Rattle.lore_base.specs.Deltas.{IsOnlyIn}
@@ -12,8 +12,9 @@ use Rattle.list_laws.proofs.MemberLaws.{All-from_members, Contains-map}
 use Rattle.dataguide.specs.Types.{Oid, Edge}
 use Rattle.dataguide.specs.ReadCosts.{ReadsAtMost}
 use Rattle.set_steps.specs.SetSteps.{reads_of}
+use Rattle.set_steps.proofs.PlaceLaws.{AllZip-weaker}
 use Rattle.dataguide.specs.Guides.{GuideGraph}
-use Rattle.dataguide.specs.Touched.{IsTouched, ReadsTouched, ReadsSome, parents_of}
+use Rattle.dataguide.specs.Touched.{IsTouched, IsExtended, IsRead, ReadsTouched, ReadsSome, parents_of}
 use Rattle.dataguide.specs.Deltas.{StoodFor}
 use Rattle.dataguide.specs.inside.Founds.{Costs}
 use Rattle.dataguide.specs.inside.Gains.{IsChange}
@@ -50,22 +51,35 @@ stood-change guide lost fresh after dirty grown stood ascend dirty_are grown_are
   grown_are = grown_are.exact;
 }
 
--- lists with the same objects touch the same sets
-module _ (kept : List (List Oid)) (dirty other : List Oid) (same : (oid : Oid) → Contains dirty oid ↔ Contains other oid) where
+-- lists with the same objects touch the same sets, of which the same is read
+module _ (kept : List (List Oid)) (dirty other : List Oid) (same : (oid : Oid) → Contains dirty oid ↔ Contains other oid)
+    (grown new : List Oid) (grew : (oid : Oid) → Contains grown oid ↔ Contains new oid) where
   touched-same : (set : List Oid) → IsTouched kept dirty set ↔ IsTouched kept other set
   touched-same set = (
     λ touched. elim touched [
-      | inl new ↦ inl new
+      | inl fresh ↦ inl fresh
       | inr meets ↦ inr (meets.0, meets.1, (same meets.0).0 meets.2)
     ],
     λ touched. elim touched [
-      | inl new ↦ inl new
+      | inl fresh ↦ inl fresh
       | inr meets ↦ inr (meets.0, meets.1, (same meets.0).1 meets.2)
     ],
   )
 
+  read-same : (set read : List Oid) → IsRead kept dirty grown set read → IsRead kept other new set read
+  read-same set read (inl whole) = inl whole
+  read-same set read (inr from) =
+      let is = from.1.2 in
+      let more : IsExtended other new from.1.0 read set = record {
+        clean = λ meets. is.clean (meets.0, meets.1, (same meets.0).1 meets.2);
+        still = λ meets. is.still (meets.0, meets.1, (grew meets.0).1 meets.2);
+        part = is.part;
+        others = is.others;
+      } in
+      inr (from.0, (from.1.0, from.1.1, more))
+
   pub reads-same : (edges : List Edge) (sets : List (List Oid)) (before now : ℕ)
-      → ReadsTouched kept dirty edges sets before now → ReadsTouched kept other edges sets before now
+      → ReadsTouched kept dirty grown edges sets before now → ReadsTouched kept other new edges sets before now
   reads-same edges sets before now reads = record {
     touched = reads.touched;
     are = record {
@@ -75,11 +89,13 @@ module _ (kept : List (List Oid)) (dirty other : List Oid) (same : (oid : Oid) �
         λ both. (reads.are.exact set).1 (both.0, (touched-same set).1 both.1),
       );
     };
+    read = reads.read;
+    each = AllZip-weaker (IsRead kept dirty grown) (IsRead kept other new) read-same reads.touched reads.read reads.each;
     counted = reads.counted;
   }
 
   pub some-same : (limit : ℕ) (names : List (List ℕ × Oid)) (edges : List Edge) (before now : ℕ)
-      → ReadsSome kept dirty limit names edges before now → ReadsSome kept other limit names edges before now
+      → ReadsSome kept dirty grown limit names edges before now → ReadsSome kept other new limit names edges before now
   some-same limit names edges before now reads = record {
     sets = reads.sets;
     apart = reads.apart;
@@ -87,33 +103,51 @@ module _ (kept : List (List Oid)) (dirty other : List Oid) (same : (oid : Oid) �
     few = reads.few;
     touched = All-weaker (IsTouched kept dirty) (IsTouched kept other) (λ set touched. (touched-same set).0 touched)
         reads.sets reads.touched;
+    read = reads.read;
+    each = AllZip-weaker (IsRead kept dirty grown) (IsRead kept other new) read-same reads.sets reads.read reads.each;
     counted = reads.counted;
   }
 
-  pub costs-same : (edges : List Edge) (set : List Oid) (before now : ℕ) → Costs kept dirty edges set before now
-      → Costs kept other edges set before now
+  pub costs-same : (edges : List Edge) (set : List Oid) (before now : ℕ) → Costs kept dirty grown edges set before now
+      → Costs kept other new edges set before now
   costs-same edges set before now costs = elim costs [
-    | inl read ↦ inl ((touched-same set).0 read.0, read.1)
+    | inl read ↦ inl ((touched-same set).0 read.0, (read.1.0, read-same set read.1.0 read.1.1, read.1.2))
     | inr left ↦ inr (λ touched. left.0 ((touched-same set).1 touched), left.1)
   ]
 
+-- where no set was before, each is read whole
+whole-reads : (dirty grown : List Oid) (sets read : List (List Oid)) → AllZip (IsRead [] dirty grown) sets read
+    → read ≡ sets
+whole-reads dirty grown [] [] each = refl
+whole-reads dirty grown [] (first ∷ read) each = absurd each
+whole-reads dirty grown (set ∷ sets) [] each = absurd each
+whole-reads dirty grown (set ∷ sets) (first ∷ read) each =
+    let same : first ≡ set = elim each.0 [
+      | inl whole ↦ whole
+      | inr from ↦ absurd (Contains-none from.1.0 from.1.1)
+    ] in
+    ap (λ (one : List Oid). one ∷ read) same ∙ ap (λ (l : List (List Oid)). set ∷ l)
+    (whole-reads dirty grown sets read each.1)
+
 -- from there every set is read
 pub reads-all : (edges : List Edge) (sets : List (List Oid)) (before now : ℕ) → AllPairs (λ a b. (a ≡ b) → ⊥) sets
-    → ReadsTouched [] [] edges sets before now → now ≡ before + sum_by (reads_of edges) sets
+    → ReadsTouched [] [] [] edges sets before now → now ≡ before + sum_by (reads_of edges) sets
 reads-all edges sets before now apart reads =
     let most = sum_by-within (reads_of edges) reads.touched sets reads.are.apart
     (All-from_members (Contains sets) reads.touched (λ set there. ((reads.are.exact set).0 there).0)) in
     let least = sum_by-within (reads_of edges) sets reads.touched apart
     (All-from_members (Contains reads.touched) sets (λ set there. (reads.are.exact set).1
     (there, inl (λ none. Contains-none set none)))) in
-    omega (arith, reads.counted, most, least)
+    let whole = ap (sum_by (reads_of edges)) (whole-reads [] [] reads.touched reads.read reads.each) in
+    omega (arith, reads.counted, whole, most, least)
 
 pub reads-at_most : (limit : ℕ) (names : List (List ℕ × Oid)) (edges : List Edge) (before now : ℕ)
-    → ReadsSome [] [] limit names edges before now → ReadsAtMost limit names edges before now
+    → ReadsSome [] [] [] limit names edges before now → ReadsAtMost limit names edges before now
 reads-at_most limit names edges before now reads = record {
   sets = reads.sets;
   apart = reads.apart;
   led = reads.led;
   few = reads.few;
-  counted = reads.counted;
+  counted = reads.counted ∙ ap (λ (l : List (List Oid)). before + sum_by (reads_of edges) l)
+      (whole-reads [] [] reads.sets reads.read reads.each);
 }

@@ -58,13 +58,13 @@ expanded kept edges limit old between new place set targets row at are enters se
   others = others;
 }
 
-halts : (fault : GuideFault) (limit : ℕ) (edges : List Edge) (kept : List GuideNode) (dirty : List Oid)
+halts : (fault : GuideFault) (limit : ℕ) (edges : List Edge) (kept : List GuideNode) (dirty grown : List Oid)
     (sets : List (List Oid))
     (place before now : ℕ) (set : List Oid) (targets : List (Label × Origin)) → slice_get sets place ≡ Some set
-    → AreSteps edges set (steps_of kept targets) → Costs (sets_of kept) dirty edges set before now
-    → StopsAt fault limit sets (target_sets kept targets) → HaltsAt fault limit edges (sets_of kept) dirty sets place
-    before now
-halts fault limit edges kept dirty sets place before now set targets at are costs stops = record {
+    → AreSteps edges set (steps_of kept targets) → Costs (sets_of kept) dirty grown edges set before now
+    → StopsAt fault limit sets (target_sets kept targets) → HaltsAt fault limit edges (sets_of kept) dirty grown sets
+    place before now
+halts fault limit edges kept dirty grown sets place before now set targets at are costs stops = record {
   set = set;
   at = at;
   steps = steps_of kept targets;
@@ -74,17 +74,17 @@ halts fault limit edges kept dirty sets place before now set targets at are cost
   costs = costs;
 }
 
-pub halted : (fault : GuideFault) (limit : ℕ) (edges : List Edge) (kept : List GuideNode) (dirty : List Oid)
+pub halted : (fault : GuideFault) (limit : ℕ) (edges : List Edge) (kept : List GuideNode) (dirty grown : List Oid)
     (sets : List (List Oid))
     (place before now : ℕ) (set : List Oid) (targets : List (Label × Origin)) → slice_get sets place ≡ Some set
-    → AreSteps edges set (steps_of kept targets) → Costs (sets_of kept) dirty edges set before now
-    → AreStopped fault limit sets (target_sets kept targets) → IsHalted fault limit edges (sets_of kept) dirty sets
-    place before now
-halted NoMemory limit edges kept dirty sets place before now set targets at are costs stops = tt
-halted Nodes limit edges kept dirty sets place before now set targets at are costs stops =
-    halts Nodes limit edges kept dirty sets place before now set targets at are costs stops
-halted Cells limit edges kept dirty sets place before now set targets at are costs stops =
-    halts Cells limit edges kept dirty sets place before now set targets at are costs stops
+    → AreSteps edges set (steps_of kept targets) → Costs (sets_of kept) dirty grown edges set before now
+    → AreStopped fault limit sets (target_sets kept targets) → IsHalted fault limit edges (sets_of kept) dirty grown
+    sets place before now
+halted NoMemory limit edges kept dirty grown sets place before now set targets at are costs stops = tt
+halted Nodes limit edges kept dirty grown sets place before now set targets at are costs stops =
+    halts Nodes limit edges kept dirty grown sets place before now set targets at are costs stops
+halted Cells limit edges kept dirty grown sets place before now set targets at are costs stops =
+    halts Cells limit edges kept dirty grown sets place before now set targets at are costs stops
 
 pub place-stays : (kept : List GuideNode) (limit : ℕ) (old new : Found) (targets : List (Label × Origin))
     (row : List (Label × Node))

@@ -92,6 +92,96 @@ module _ (kept : List GuideNode) where
         )),
   )
 
+-- the steps of a set whose edges are those of two others: the unions of what a node's edges lead to, which are the steps of the
+-- one, and of the steps of the other
+module _ (kept : List GuideNode) (edges : List (Label × Node)) (row : List (Label × List Oid)) (targets : List (Label × Origin))
+    (first second after : List Edge) (own more set : List Oid)
+    (own_are : AreSteps first own (map (as_step kept) edges)) (row_are : AreSteps second more row)
+    (unions : AreUnions kept edges row targets)
+    (parts : (label : Label) (oid : Oid) → LeavesTo after set label oid
+    ↔ (LeavesTo first own label oid ⊎ LeavesTo second more label oid)) where
+  abbrev of_target : Label × Origin → Label × List Oid
+  of_target target = (target.0, origin_set kept target.1)
+
+  own-leads : (label : Label) (oid : Oid) → LeadsKept kept edges label oid ↔ LeavesTo first own label oid
+  own-leads label oid =
+      let here = kept-by kept edges label oid in
+      let steps = leads-by first own (map (as_step kept) edges) own_are label oid in
+      (λ leads. steps.0 (here.0 leads), λ leaves. here.1 (steps.1 leaves))
+
+  whole : (label : Label) (oid : Oid) → (LeadsKept kept edges label oid ⊎ LeadsBy row label oid) ↔ LeavesTo after set label oid
+  whole label oid =
+      let steps = leads-by second more row row_are label oid in (
+        λ either. (parts label oid).1 (elim either [
+          | inl leads ↦ inl ((own-leads label oid).0 leads)
+          | inr leads ↦ inr (steps.0 leads)
+        ]),
+        λ leaves. elim ((parts label oid).0 leaves) [
+          | inl was ↦ inl ((own-leads label oid).1 was)
+          | inr new ↦ inr (steps.1 new)
+        ],
+      )
+
+  some-kept : (label : Label) → Contains (labels_in edges) label → (oid : Oid) × LeadsKept kept edges label oid
+  some-kept label there =
+      let edge = Contains-from_map (λ (e : Label × Node). e.0) edges label there in
+      let set_there = Contains-map (as_step kept) edges edge.0 edge.1 in
+      let one = some-member (origin_set kept (Kept edge.0.1))
+      (All-contains (λ (s : Label × List Oid). (s.1 ≡ []) → ⊥) (map (as_step kept) edges) (as_step kept edge.0)
+      own_are.some set_there) in
+      (one.0, (edge.0.1, subst (λ (l : Label). Contains edges (l, edge.0.1)) edge.2 edge.1, one.1))
+
+  some-step : (label : Label) → Contains (labels_in row) label → (oid : Oid) × LeadsBy row label oid
+  some-step label there =
+      let step = Contains-from_map (λ (s : Label × List Oid). s.0) row label there in
+      let one = some-member step.0.1
+      (All-contains (λ (s : Label × List Oid). (s.1 ≡ []) → ⊥) row step.0 row_are.some step.1) in
+      (one.0, (step.0.1, subst (λ (l : Label). Contains row (l, step.0.1)) step.2 step.1, one.1))
+
+  some-object : (label : Label) → Contains (labels_in targets) label
+      → (oid : Oid) × (LeadsKept kept edges label oid ⊎ LeadsBy row label oid)
+  some-object label there = elim ((unions.labels label).0 there) [
+    | inl kept_there ↦ (let one = some-kept label kept_there in (one.0, inl one.1))
+    | inr step_there ↦ (let one = some-step label step_there in (one.0, inr one.1))
+  ]
+
+  not-empty : (target : Label × Origin) → Contains targets target → (origin_set kept target.1 ≡ []) → ⊥
+  not-empty target there none =
+      let one = some-object target.0 (Contains-map (λ (t : Label × Origin). t.0) targets target there) in
+      let union = All-contains (λ (t : Label × Origin). IsUnion kept edges row t.0 (origin_set kept t.1)) targets
+      target unions.sets there in
+      Contains-none one.0 (subst (λ (l : List Oid). Contains l one.0) none ((union.exact one.0).1 one.1))
+
+  target-there : (label : Label) → Contains (labels_in edges) label ⊎ Contains (labels_in row) label
+      → (next : List Oid) × Contains (map of_target targets) (label, next)
+  target-there label either =
+      let from = Contains-from_map (λ (t : Label × Origin). t.0) targets label ((unions.labels label).1 either) in (
+        origin_set kept from.0.1,
+        subst (λ (l : Label). Contains (map of_target targets) (l, origin_set kept from.0.1))
+            from.2 (Contains-map of_target targets from.0 from.1),
+      )
+
+  step-there : (label : Label) (oid : Oid) → (LeadsKept kept edges label oid ⊎ LeadsBy row label oid)
+      → (next : List Oid) × Contains (map of_target targets) (label, next)
+  step-there label oid (inl leads) =
+      target-there label (inl (Contains-map (λ (e : Label × Node). e.0) edges (label, leads.0) leads.1))
+  step-there label oid (inr leads) =
+      target-there label (inr (Contains-map (λ (s : Label × List Oid). s.0) row (label, leads.0) leads.1))
+
+  pub joined-steps : AreSteps after set (steps_of kept targets)
+  joined-steps = record {
+    ascend = AllPairs-map of_target (λ (a b : Label × Origin). a.0.0 < b.0.0)
+        (λ (a b : Label × List Oid). a.0.0 < b.0.0) (λ a b less. less) targets unions.ascend;
+    sets = All-map (λ (s : Label × List Oid). IsStep after set s.0 s.1) of_target targets
+        (All-weaker (λ (t : Label × Origin). IsUnion kept edges row t.0 (origin_set kept t.1))
+        (λ (t : Label × Origin). IsStep after set t.0 (origin_set kept t.1))
+        (λ t union. ListsInOrder-same (λ oid. LeadsKept kept edges t.0 oid ⊎ LeadsBy row t.0 oid)
+        (LeavesTo after set t.0) (origin_set kept t.1) (whole t.0) union) targets unions.sets);
+    some = All-map (λ (s : Label × List Oid). (s.1 ≡ []) → ⊥) of_target targets
+        (All-from_members (λ (t : Label × Origin). (origin_set kept t.1 ≡ []) → ⊥) targets not-empty);
+    all = λ label oid leaves. step-there label oid ((whole label oid).1 leaves);
+  }
+
 -- the guide stood before the change
 module _ (guide : GuideGraph) (dirty grown : List Oid) (fresh after : List Edge)
     (change : IsChange guide dirty grown fresh after) (set : List Oid) (clean : ¬ Meet set dirty) where
@@ -153,99 +243,21 @@ module _ (guide : GuideGraph) (dirty grown : List Oid) (fresh after : List Edge)
     ))
 
     -- else they are those of before, with what the fresh edges lead to
-    module _ (edges : List (Label × Node)) (row : List (Label × List Oid)) (targets : List (Label × Origin))
-        (before_are : AreSteps change.before set (map (as_step guide.nodes) edges)) (row_are : AreSteps fresh gained row)
-        (unions : AreUnions guide.nodes edges row targets) where
-      abbrev kept : List GuideNode
-      kept = guide.nodes
-
-      abbrev of_target : Label × Origin → Label × List Oid
-      of_target target = (target.0, origin_set kept target.1)
-
-      before-leads : (label : Label) (oid : Oid) → LeadsKept kept edges label oid ↔ LeavesTo change.before set label oid
-      before-leads label oid =
-          let here = kept-by kept edges label oid in
-          let steps = leads-by change.before set (map (as_step kept) edges) before_are label oid in
-          (λ leads. steps.0 (here.0 leads), λ leaves. here.1 (steps.1 leaves))
-
-      fresh-leads : (label : Label) (oid : Oid) → LeadsBy row label oid ↔ LeavesTo fresh set label oid
-      fresh-leads label oid =
-          let steps = leads-by fresh gained row row_are label oid in
-          let all = gained-leaves label oid in
-          (λ leads. all.0 (steps.0 leads), λ leaves. steps.1 (all.1 leaves))
-
-      whole : (label : Label) (oid : Oid) → (LeadsKept kept edges label oid ⊎ LeadsBy row label oid)
-          ↔ LeavesTo after set label oid
-      whole label oid = (
-        λ either. (fresh-leaves label oid).1 (elim either [
-          | inl leads ↦ inl ((before-leads label oid).0 leads)
-          | inr leads ↦ inr ((fresh-leads label oid).0 leads)
-        ]),
-        λ leaves. elim ((fresh-leaves label oid).0 leaves) [
-          | inl was ↦ inl ((before-leads label oid).1 was)
-          | inr new ↦ inr ((fresh-leads label oid).1 new)
-        ],
-      )
-
-      some-kept : (label : Label) → Contains (labels_in edges) label → (oid : Oid) × LeadsKept kept edges label oid
-      some-kept label there =
-          let edge = Contains-from_map (λ (e : Label × Node). e.0) edges label there in
-          let set_there = Contains-map (as_step kept) edges edge.0 edge.1 in
-          let one = some-member (origin_set kept (Kept edge.0.1))
-          (All-contains (λ (s : Label × List Oid). (s.1 ≡ []) → ⊥) (map (as_step kept) edges) (as_step kept edge.0)
-          before_are.some set_there) in
-          (one.0, (edge.0.1, subst (λ (l : Label). Contains edges (l, edge.0.1)) edge.2 edge.1, one.1))
-
-      some-step : (label : Label) → Contains (labels_in row) label → (oid : Oid) × LeadsBy row label oid
-      some-step label there =
-          let step = Contains-from_map (λ (s : Label × List Oid). s.0) row label there in
-          let one = some-member step.0.1
-          (All-contains (λ (s : Label × List Oid). (s.1 ≡ []) → ⊥) row step.0 row_are.some step.1) in
-          (one.0, (step.0.1, subst (λ (l : Label). Contains row (l, step.0.1)) step.2 step.1, one.1))
-
-      some-object : (label : Label) → Contains (labels_in targets) label
-          → (oid : Oid) × (LeadsKept kept edges label oid ⊎ LeadsBy row label oid)
-      some-object label there = elim ((unions.labels label).0 there) [
-        | inl kept_there ↦ (let one = some-kept label kept_there in (one.0, inl one.1))
-        | inr step_there ↦ (let one = some-step label step_there in (one.0, inr one.1))
-      ]
-
-      not-empty : (target : Label × Origin) → Contains targets target → (origin_set kept target.1 ≡ []) → ⊥
-      not-empty target there none =
-          let one = some-object target.0 (Contains-map (λ (t : Label × Origin). t.0) targets target there) in
-          let union = All-contains (λ (t : Label × Origin). IsUnion kept edges row t.0 (origin_set kept t.1)) targets
-          target unions.sets there in
-          Contains-none one.0 (subst (λ (l : List Oid). Contains l one.0) none ((union.exact one.0).1 one.1))
-
-      target-there : (label : Label) → Contains (labels_in edges) label ⊎ Contains (labels_in row) label
-          → (next : List Oid) × Contains (map of_target targets) (label, next)
-      target-there label either =
-          let from = Contains-from_map (λ (t : Label × Origin). t.0) targets label ((unions.labels label).1 either) in (
-            origin_set kept from.0.1,
-            subst (λ (l : Label). Contains (map of_target targets) (l, origin_set kept from.0.1))
-                from.2 (Contains-map of_target targets from.0 from.1),
-          )
-
-      step-there : (label : Label) (oid : Oid) → (LeadsKept kept edges label oid ⊎ LeadsBy row label oid)
-          → (next : List Oid) × Contains (map of_target targets) (label, next)
-      step-there label oid (inl leads) =
-          target-there label (inl (Contains-map (λ (e : Label × Node). e.0) edges (label, leads.0) leads.1))
-      step-there label oid (inr leads) =
-          target-there label (inr (Contains-map (λ (s : Label × List Oid). s.0) row (label, leads.0) leads.1))
-
-      pub union-steps : AreSteps after set (steps_of kept targets)
-      union-steps = record {
-        ascend = AllPairs-map of_target (λ (a b : Label × Origin). a.0.0 < b.0.0)
-            (λ (a b : Label × List Oid). a.0.0 < b.0.0) (λ a b less. less) targets unions.ascend;
-        sets = All-map (λ (s : Label × List Oid). IsStep after set s.0 s.1) of_target targets
-            (All-weaker (λ (t : Label × Origin). IsUnion kept edges row t.0 (origin_set kept t.1))
-            (λ (t : Label × Origin). IsStep after set t.0 (origin_set kept t.1))
-            (λ t union. ListsInOrder-same (λ oid. LeadsKept kept edges t.0 oid ⊎ LeadsBy row t.0 oid)
-            (LeavesTo after set t.0) (origin_set kept t.1) (whole t.0) union) targets unions.sets);
-        some = All-map (λ (s : Label × List Oid). (s.1 ≡ []) → ⊥) of_target targets
-            (All-from_members (λ (t : Label × Origin). (origin_set kept t.1 ≡ []) → ⊥) targets not-empty);
-        all = λ label oid leaves. step-there label oid ((whole label oid).1 leaves);
-      }
+    pub union-steps : (edges : List (Label × Node)) (row : List (Label × List Oid)) (targets : List (Label × Origin))
+        → AreSteps change.before set (map (as_step guide.nodes) edges) → AreSteps fresh gained row
+        → AreUnions guide.nodes edges row targets → AreSteps after set (steps_of guide.nodes targets)
+    union-steps edges row targets before_are row_are unions =
+        joined-steps guide.nodes edges row targets change.before fresh after set gained set before_are row_are unions
+        (λ label oid. (
+          λ leaves. elim ((fresh-leaves label oid).0 leaves) [
+            | inl was ↦ inl was
+            | inr new ↦ inr ((gained-leaves label oid).1 new)
+          ],
+          λ either. (fresh-leaves label oid).1 (elim either [
+            | inl was ↦ inl was
+            | inr new ↦ inr ((gained-leaves label oid).0 new)
+          ]),
+        ))
 
 -- a label stands once in a row that ascends
 pub row-once : {T : Type 0} (row : List (Label × T)) (label : Label) (x y : T)
@@ -326,6 +338,26 @@ module _ (kept : List GuideNode) (step none : List Oid) (bare : none ≡ []) whe
       own-there oid other same there =
           let one : other ≡ node = cc in subst (λ (n : Node). Contains (origin_set kept (Kept n)) oid) one there
 
+-- a kept set that has all of a step is that set with the step
+pub either-kept : (kept : List GuideNode) (node : Node) (step : List Oid) → IsSet (origin_set kept (Kept node))
+    → All (Contains (origin_set kept (Kept node))) step
+    → ListsInOrder (HasEither kept (Some node) step) (origin_set kept (Kept node))
+either-kept kept node step ascend all = record {
+  ascending = ascend;
+  exact = λ oid. (
+    λ there. inl (node, refl, there),
+    λ either. elim either [
+      | inl has ↦ own-there oid has.0 has.1 has.2
+      | inr stepped ↦ All-contains (Contains (origin_set kept (Kept node))) step oid all stepped
+    ],
+  );
+}
+  where
+    own-there : (oid : Oid) (other : Node) → Some node ≡ Some other → Contains (origin_set kept (Kept other)) oid
+        → Contains (origin_set kept (Kept node)) oid
+    own-there oid other same there =
+        let one : other ≡ node = cc in subst (λ (n : Node). Contains (origin_set kept (Kept n)) oid) one there
+
 module _ (kept : List GuideNode) (edges : List (Label × Node)) (row : List (Label × List Oid)) (label : Label)
     (edges_ascend : AllPairs (λ (a b : Label × Node). a.0.0 < b.0.0) edges)
     (row_ascend : AllPairs (λ (a b : Label × List Oid). a.0.0 < b.0.0) row) where
@@ -377,3 +409,8 @@ module _ (kept : List GuideNode) (edges : List (Label × Node)) (row : List (Lab
       → IfSome node (λ x. x.0 < length kept)
   node-within None found there = tt
   node-within (Some x) found there = (All-contains (IsThere kept) edges (label, x) there found).0
+
+  pub node-ascends : (node : Option Node) → IfSome node (λ x. Contains edges (label, x)) → All (IsThere kept) edges
+      → IfSome node (λ x. IsSet (origin_set kept (Kept x)))
+  node-ascends None found there = tt
+  node-ascends (Some x) found there = (All-contains (IsThere kept) edges (label, x) there found).1

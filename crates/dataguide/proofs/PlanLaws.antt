@@ -1,8 +1,8 @@
 -- The plan of a guide: how its search begins, goes on and ends, and what it reads.
 use Rattle.std.proofs.Common.{◌≡◌, ℕ, ◌+◌, ◌≤◌, inl, inr, List, [], ◌∷◌, ◌++◌, length, map, take, drop, Some, All}
 use Rattle.std.proofs.Common.{AllPairs, Contains}
-use Rattle.std.proofs.Common.{refl, sym, ap, ◌∙◌, subst, arith, add-zero, add_assoc}
-use Rattle.std.specs.List.{slice_get, AllZip, sum_by}
+use Rattle.std.proofs.Common.{refl, sym, ap, ◌∙◌, subst, arith, add-zero}
+use Rattle.std.specs.List.{slice_get, AllZip}
 use Rattle.std.specs.Map.{keys_of}
 use Rattle.std.proofs.lemmas.Map.Entries.{length-keys_of}
 use Rattle.dataguide.proofs.FoundSteps.{none-left}
@@ -19,7 +19,7 @@ use Rattle.dataguide.specs.declared.found.Found.{Found}
 use Rattle.set_steps.specs.SetSteps.{reads_of}
 use Rattle.lore_base.specs.TargetSets.{IsLedTo, LeadsTo}
 use Rattle.dataguide.specs.Guides.{sets_of, HasSet, IsEntry, node_number}
-use Rattle.dataguide.specs.Touched.{IsTouched, ReadsTouched, ReadsSome}
+use Rattle.dataguide.specs.Touched.{IsTouched, IsRead, ReadsTouched, ReadsSome}
 use Rattle.dataguide.specs.Deltas.{origin_set, node_then, IsOrigin}
 use Rattle.dataguide.specs.inside.Trails.{Stop, IsSearched, IsExpanded}
 use Rattle.dataguide.specs.inside.Founds.{found_nodes, found_sets, target_sets, Costs, IsHalted, IsFound}
@@ -29,7 +29,7 @@ use Rattle.list_laws.proofs.SumLaws.{distinct_no_longer}
 use Rattle.list_laws.proofs.MemberLaws.{All-from_members, Contains-from_map}
 use Rattle.list_laws.proofs.PlaceLaws.{place_of_member, slice_get-append_left}
 use Rattle.list_laws.proofs.PartLaws.{map-map}
-use Rattle.set_steps.proofs.PlaceLaws.{one-place, AllZip-weaker}
+use Rattle.set_steps.proofs.PlaceLaws.{one-place, AllZip-then, AllZip-weaker}
 use Rattle.dataguide.proofs.TrailLaws.{set_of}
 use Rattle.set_steps.proofs.PairLaws.{AllPairs-push}
 use Rattle.lore_base.specs.GuideLimits.{KeepLimits}
@@ -39,14 +39,16 @@ abbrev AreApart : List (List Oid) → Type 0
 AreApart sets = AllPairs (λ a b. (a ≡ b) → ⊥) sets
 
 -- ---- what was read
-pub reads-none : (kept : List (List Oid)) (dirty : List Oid) (edges : List Edge) (sets : List (List Oid)) (before : ℕ)
-    → ReadsTouched kept dirty edges (take 0 sets) before before
-reads-none kept dirty edges sets before = record {
+pub reads-none : (kept : List (List Oid)) (dirty grown : List Oid) (edges : List Edge) (sets : List (List Oid))
+    (before : ℕ) → ReadsTouched kept dirty grown edges (take 0 sets) before before
+reads-none kept dirty grown edges sets before = record {
   touched = [];
   are = record {
     apart = λ i j d less within. absurd (omega (arith, within));
     exact = λ set. (λ there. absurd (Contains-none set there), λ both. absurd (Contains-none set both.0));
   };
+  read = [];
+  each = tt;
   counted = sym (add-zero before);
 }
 
@@ -70,13 +72,13 @@ taken-more old new n set extends at =
     ∙ take_more old n set within
     ∙ ap (λ (s : List Oid). take n old ++ s ∷ []) (get_or_from_slice_get old n set set at)
 
-module _ (kept : List (List Oid)) (dirty : List Oid) (edges : List Edge) where
+module _ (kept : List (List Oid)) (dirty grown : List Oid) (edges : List Edge) where
   pub reads-more : (old new : List (List Oid)) (n : ℕ) (set : List Oid) (before between now : ℕ) → AreApart old
       → Extends old new
-      → slice_get old n ≡ Some set → ReadsTouched kept dirty edges (take n old) before between
-      → Costs kept dirty edges set between now → ReadsTouched kept dirty edges (take (n + 1) new) before now
+      → slice_get old n ≡ Some set → ReadsTouched kept dirty grown edges (take n old) before between
+      → Costs kept dirty grown edges set between now → ReadsTouched kept dirty grown edges (take (n + 1) new) before now
   reads-more old new n set before between now apart extends at reads costs =
-      subst (λ (l : List (List Oid)). ReadsTouched kept dirty edges l before now)
+      subst (λ (l : List (List Oid)). ReadsTouched kept dirty grown edges l before now)
       (sym (taken-more old new n set extends at))
       (elim costs [
         | inl read ↦ record {
@@ -103,9 +105,9 @@ module _ (kept : List (List Oid)) (dirty : List Oid) (edges : List Edge) where
               ]),
             );
           };
-          counted = read.1 ∙ ap (λ k. k + reads_of edges set) reads.counted
-              ∙ add_assoc before (sum_by (reads_of edges) reads.touched) (reads_of edges set)
-              ∙ ap (λ k. before + k) (sym (sum_by_push (reads_of edges) reads.touched set));
+          read = reads.read ++ read.1.0 ∷ [];
+          each = AllZip-then (IsRead kept dirty grown) reads.touched reads.read set read.1.0 reads.each read.1.1;
+          counted = omega (arith, read.1.2, reads.counted, sum_by_push (reads_of edges) reads.read read.1.0);
         }
         | inr unread ↦ record {
           touched = reads.touched;
@@ -121,14 +123,16 @@ module _ (kept : List (List Oid)) (dirty : List Oid) (edges : List Edge) where
               ]),
             );
           };
+          read = reads.read;
+          each = reads.each;
           counted = unread.1 ∙ reads.counted;
         }
       ])
 
   pub reads-some : (limit : ℕ) (names : List (List ℕ × Oid)) (nodes : List GuideNode) (n count before now : ℕ)
       → IsSearched names edges nodes n → length (sets_of nodes) ≤ limit
-      → ReadsTouched kept dirty edges (take count (sets_of nodes)) before now → ReadsSome kept dirty limit names edges
-      before now
+      → ReadsTouched kept dirty grown edges (take count (sets_of nodes)) before now
+      → ReadsSome kept dirty grown limit names edges before now
   reads-some limit names nodes n count before now searched few reads = record {
     sets = reads.touched;
     apart = reads.are.apart;
@@ -148,6 +152,8 @@ module _ (kept : List (List Oid)) (dirty : List Oid) (edges : List Edge) where
           (λ set there. taken-there set ((reads.are.exact set).0 there).0),
     );
     touched = All-from_members (IsTouched kept dirty) reads.touched (λ set there. ((reads.are.exact set).0 there).1);
+    read = reads.read;
+    each = reads.each;
     counted = reads.counted;
   }
     where
@@ -155,14 +161,16 @@ module _ (kept : List (List Oid)) (dirty : List Oid) (edges : List Edge) where
       taken-there set there = subst (λ (l : List (List Oid)). Contains l set) (take-append-drop count (sets_of nodes))
           (Contains-append_left (take count (sets_of nodes)) (drop count (sets_of nodes)) set there)
 
-  pub reads-nothing : (limit : ℕ) (names : List (List ℕ × Oid)) (before : ℕ) → ReadsSome kept dirty limit names edges
-      before before
+  pub reads-nothing : (limit : ℕ) (names : List (List ℕ × Oid)) (before : ℕ)
+      → ReadsSome kept dirty grown limit names edges before before
   reads-nothing limit names before = record {
     sets = [];
     apart = λ i j d less within. absurd (omega (arith, within));
     led = λ k d within. absurd (omega (arith, within));
     few = omega arith;
     touched = λ k d within. absurd (omega (arith, within));
+    read = [];
+    each = tt;
     counted = sym (add-zero before);
   }
 
@@ -255,21 +263,21 @@ name-origins kept names targets is = subst (λ (l : List (List ℕ × Origin)). 
     (All-map (λ (t : List ℕ × Origin). IsOrigin kept t.1) name_target names (λ k d within. tt))
 
 -- where the search stops, what was read are some touched sets
-pub reads-halted : (fault : GuideFault) (limit : ℕ) (kept : List (List Oid)) (dirty : List Oid)
+pub reads-halted : (fault : GuideFault) (limit : ℕ) (kept : List (List Oid)) (dirty grown : List Oid)
     (names : List (List ℕ × Oid)) (edges : List Edge)
     (nodes : List GuideNode) (n before between now : ℕ) → (fault ≡ NoMemory → ⊥) → IsSearched names edges nodes n
-    → KeepLimits limit (sets_of nodes) → ReadsTouched kept dirty edges (take n (sets_of nodes)) before between
-    → IsHalted fault limit edges kept dirty (sets_of nodes) n between now → ReadsSome kept dirty limit names edges
-    before now
-reads-halted NoMemory limit kept dirty names edges nodes n before between now not_memory searched fit reads
+    → KeepLimits limit (sets_of nodes) → ReadsTouched kept dirty grown edges (take n (sets_of nodes)) before between
+    → IsHalted fault limit edges kept dirty grown (sets_of nodes) n between now
+    → ReadsSome kept dirty grown limit names edges before now
+reads-halted NoMemory limit kept dirty grown names edges nodes n before between now not_memory searched fit reads
     halted = absurd (not_memory refl)
-reads-halted Nodes limit kept dirty names edges nodes n before between now not_memory searched fit reads halted =
-    reads-some kept dirty edges limit names nodes n (n + 1) before now searched fit.few
-    (reads-more kept dirty edges (sets_of nodes) (sets_of nodes) n halted.set before between now searched.is.apart
+reads-halted Nodes limit kept dirty grown names edges nodes n before between now not_memory searched fit reads halted =
+    reads-some kept dirty grown edges limit names nodes n (n + 1) before now searched fit.few
+    (reads-more kept dirty grown edges (sets_of nodes) (sets_of nodes) n halted.set before between now searched.is.apart
     ([], sym (append-nil (sets_of nodes))) halted.at reads halted.costs)
-reads-halted Cells limit kept dirty names edges nodes n before between now not_memory searched fit reads halted =
-    reads-some kept dirty edges limit names nodes n (n + 1) before now searched fit.few
-    (reads-more kept dirty edges (sets_of nodes) (sets_of nodes) n halted.set before between now searched.is.apart
+reads-halted Cells limit kept dirty grown names edges nodes n before between now not_memory searched fit reads halted =
+    reads-some kept dirty grown edges limit names nodes n (n + 1) before now searched fit.few
+    (reads-more kept dirty grown edges (sets_of nodes) (sets_of nodes) n halted.set before between now searched.is.apart
     ([], sym (append-nil (sets_of nodes))) halted.at reads halted.costs)
 
 pub nodes-count : (kept : List GuideNode) (found : Found) → length (found_nodes kept found) ≡ length found.nodes.items

@@ -367,13 +367,13 @@ module _ (names : List (List ℕ × Oid)) (edges : List Edge) (table : IsNameTab
   names-refused Cells limit stops = cells-passed limit names edges (names-passed Cells limit stops)
 
   pub steps-refused : (fault : GuideFault) (limit : ℕ) (nodes : List GuideNode) (n : ℕ) (kept : List (List Oid))
-      (dirty : List Oid)
+      (dirty gained : List Oid)
       (before now : ℕ) → IsSearched names edges nodes n
-      → IsHalted fault limit edges kept dirty (sets_of nodes) n before now → GuideCause limit names edges fault
-  steps-refused NoMemory limit nodes n kept dirty before now searched halted = tt
-  steps-refused Nodes limit nodes n kept dirty before now searched halted =
+      → IsHalted fault limit edges kept dirty gained (sets_of nodes) n before now → GuideCause limit names edges fault
+  steps-refused NoMemory limit nodes n kept dirty gained before now searched halted = tt
+  steps-refused Nodes limit nodes n kept dirty gained before now searched halted =
       nodes-passed limit names edges
       (step-passed Nodes limit nodes n searched halted.set halted.at halted.steps halted.are halted.stops)
-  steps-refused Cells limit nodes n kept dirty before now searched halted =
+  steps-refused Cells limit nodes n kept dirty gained before now searched halted =
       cells-passed limit names edges
       (step-passed Cells limit nodes n searched halted.set halted.at halted.steps halted.are halted.stops)

@@ -82,15 +82,15 @@ VanishedEdgesLeadNowhere =
 -- what is read for a guide is within the reads of the touched sets, also of those that more objects touch
 abbrev pub ReadsAreWithin : Type 0
 ReadsAreWithin =
-    (kept : List (List Oid)) (dirty more : List Oid) (names : List (List ℕ × Oid)) (edges : List Edge)
+    (kept : List (List Oid)) (dirty grown more : List Oid) (names : List (List ℕ × Oid)) (edges : List Edge)
     (sets : List (List Oid)) (before now : ℕ)
-    → AreTargetSets names edges sets → ReadsTouched kept dirty edges sets before now
+    → AreTargetSets names edges sets → ReadsTouched kept dirty grown edges sets before now
     → ((oid : Oid) → Contains dirty oid → Contains more oid) → ReadsWithin kept more names edges before now
 
 -- and so is what is read where the guide is refused
 abbrev pub SomeReadsAreWithin : Type 0
 SomeReadsAreWithin =
-    (kept : List (List Oid)) (dirty more : List Oid) (limit : ℕ) (names : List (List ℕ × Oid)) (edges : List Edge)
+    (kept : List (List Oid)) (dirty grown more : List Oid) (limit : ℕ) (names : List (List ℕ × Oid)) (edges : List Edge)
     (before now : ℕ)
-    → ReadsSome kept dirty limit names edges before now
+    → ReadsSome kept dirty grown limit names edges before now
     → ((oid : Oid) → Contains dirty oid → Contains more oid) → ReadsWithin kept more names edges before now

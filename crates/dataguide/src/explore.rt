@@ -5,35 +5,34 @@ ghost use Rattle.lore_base.specs.GuideLimits.{KeepLimits};
 ghost use Rattle.dataguide.specs.Types.{Oid as TheOid, GuideNode as TheGuideNode, Kept, Fresh};
 ghost use Rattle.set_steps.specs.SetSteps.{AreSteps, reads_of};
 ghost use Rattle.dataguide.specs.Guides.{sets_of};
-ghost use Rattle.dataguide.specs.Touched.{Meet};
+ghost use Rattle.dataguide.specs.Touched.{Meet, IsRead};
 ghost use Rattle.dataguide.specs.Deltas.{IsOrigin, origin_set};
 ghost use Rattle.dataguide.specs.inside.Trails.{IsExpanded};
 ghost use Rattle.dataguide.specs.inside.Founds.{IsFound, found_nodes, found_sets, steps_of};
 ghost use Rattle.dataguide.specs.inside.Founds.{Costs, IsHalted};
 ghost use Rattle.dataguide.specs.inside.Gains.{IsChange};
 
-use crate::data_guide::{Guide, node_of};
+use crate::change::Change;
+use crate::data_guide::node_of;
 use crate::faults::GuideFault;
 use crate::found::{Found, enter_all};
 use crate::gains::{in_both, united_targets};
+use crate::growth::{Bases, extended_targets, members_more, node_before, note_bases, noted};
 use crate::nodes::{GuideNode, Node};
 use crate::planned_nodes::Origin;
 use index_traits::Adjacent;
-use lore_base::{Edge, Label, Names, NoMemory, OemText, Oid, OidBuf, Steps};
+use lore_base::{Label, Names, NoMemory, OemText, Oid, OidBuf, Steps};
 use oem_set::OidSet;
 use set_steps::StepReader;
 use std::alloc::Global;
 use std::sync::ledger::Ledger;
 
-// A graph, and the guide that stood before it changed: edges that leave dirty objects were lost, and
-// the fresh ones, in ascending order, came and leave the grown objects.
+// What the search for nodes has beside them: memory to read edges in, and the nodes before whose sets
+// those that were found may extend.
 #[derive(Drop)]
-pub(crate) struct Change<'a, A> {
-    pub(crate) guide: &'a Guide,
-    pub(crate) dirty: &'a OidSet,
-    pub(crate) grown: &'a OidSet,
-    pub(crate) fresh: &'a [Edge],
-    pub(crate) after: &'a A,
+pub(crate) struct Reading {
+    pub(crate) reader: StepReader,
+    pub(crate) bases: Bases,
 }
 
 // The sets as targets that no node is known to have.
@@ -98,6 +97,44 @@ fn read_targets<A: Adjacent, L: Ledger>(
     Ok(targets)
 }
 
+// The targets of a set that no node had before: read, but of one that extends the set of the node, if one
+// is told, which no lost and no fresh edge leaves, only the other members are read.
+fn read_or_extended<A: Adjacent, L: Ledger>(
+    alloc: Global,
+    reader: &mut StepReader,
+    change: &Change<A>,
+    set: &OidSet,
+    base: Option<Node>,
+    steps: &mut Steps<L>,
+) -> Result<Vec<(Label, Origin)>, NoMemory>
+    requires stood { IsChange change.now.guide.now change.now.dirty.now change.now.grown.now
+        change.now.fresh.now (A.edges change.now.after.now) }
+    requires new { ¬ Contains (sets_of change.now.guide.now.nodes) set.now }
+    ensures steps { IfOk result (λ targets. AreSteps (A.edges change.now.after.now) set.now
+        (steps_of change.now.guide.now.nodes targets.items)) }
+    ensures there { IfOk result (λ targets.
+        All (λ target. IsOrigin change.now.guide.now.nodes target.1) targets.items) }
+    ensures reads { OnOk result ((read : List TheOid)
+        × IsRead (sets_of change.now.guide.now.nodes) change.now.dirty.now change.now.grown.now
+        set.now read
+        × (steps.new ≡ steps.old + reads_of (A.edges change.now.after.now) read)) }
+{
+    let Some(there) = node_before(change.guide, base) else {
+        let targets = read_targets(alloc, reader, change.after, set, steps)?;
+        return Ok(targets);
+    };
+    match members_more(alloc, change, set, there)? {
+        Some(more) => {
+            let targets = extended_targets(alloc, reader, change, there, &more, steps)?;
+            return Ok(targets);
+        }
+        None => {
+            let targets = read_targets(alloc, reader, change.after, set, steps)?;
+            return Ok(targets);
+        }
+    }
+}
+
 // Where the set of the found node at a place is from.
 fn origin_at(found: &Found, place: usize) -> &Origin
     requires { place < length found.now.nodes.items }
@@ -151,7 +188,7 @@ fn kept_or_read<A: Adjacent, L: Ledger>(
     ensures there { IfOk result (λ targets.
         All (λ target. IsOrigin change.now.guide.now.nodes target.1) targets.items) }
     ensures reads { OnOk result (Costs (sets_of change.now.guide.now.nodes) change.now.dirty.now
-        (A.edges change.now.after.now) (origin_set change.now.guide.now.nodes (Kept node))
+        change.now.grown.now (A.edges change.now.after.now) (origin_set change.now.guide.now.nodes (Kept node))
         steps.old steps.new) }
 {
     let there = node_of(change.guide, node);
@@ -164,13 +201,13 @@ fn kept_or_read<A: Adjacent, L: Ledger>(
 }
 
 // The targets of the node at a place: those of the guide before where its set was a node's and
-// has no dirty member, and else read from the graph.
+// has no dirty member, and else read from the graph, all or what a set before was extended by.
 fn targets_at<A: Adjacent, L: Ledger>(
     alloc: Global,
     found: &Found,
     place: usize,
     change: &Change<A>,
-    reader: &mut StepReader,
+    reading: &mut Reading,
     steps: &mut Steps<L>,
 ) -> Result<Vec<(Label, Origin)>, NoMemory>
     requires stood { IsChange change.now.guide.now change.now.dirty.now change.now.grown.now
@@ -186,17 +223,31 @@ fn targets_at<A: Adjacent, L: Ledger>(
     ensures reads { OnOk result ((set : List TheOid)
         → slice_get (found_sets change.now.guide.now.nodes found.now) place ≡ Some set
         → Costs (sets_of change.now.guide.now.nodes) change.now.dirty.now
-        (A.edges change.now.after.now) set steps.old steps.new) }
+        change.now.grown.now (A.edges change.now.after.now) set steps.old steps.new) }
 {
     match origin_at(found, place) {
         Origin::Fresh(set) => {
-            let targets = read_targets(alloc, reader, change.after, set, steps)?;
+            let base = noted(&reading.bases, place);
+            let reader = &mut reading.reader;
+            let targets = read_or_extended(alloc, reader, change, set, base, steps)?;
             return Ok(targets);
         }
         Origin::Kept(node) => {
+            let reader = &mut reading.reader;
             let targets = kept_or_read(alloc, reader, change, *node, steps)?;
             return Ok(targets);
         }
+    }
+}
+
+// The node before whose edges tell where those of the node at a place may lead: the one that has its
+// set, or the one whose set this may extend.
+fn base_at(found: &Found, place: usize, bases: &Bases) -> Option<Node>
+    requires { place < length found.now.nodes.items }
+{
+    match origin_at(found, place) {
+        Origin::Kept(node) => Some(*node),
+        Origin::Fresh(_) => noted(bases, place),
     }
 }
 
@@ -206,7 +257,7 @@ pub(crate) fn expand<A: Adjacent, L: Ledger>(
     found: &mut Found,
     place: usize,
     change: &Change<A>,
-    reader: &mut StepReader,
+    reading: &mut Reading,
     limit: u32,
     steps: &mut Steps<L>,
 ) -> Result<(), GuideFault>
@@ -224,13 +275,15 @@ pub(crate) fn expand<A: Adjacent, L: Ledger>(
     ensures reads { OnOk result ((set : List TheOid)
         → slice_get (found_sets change.now.guide.now.nodes found.old) place ≡ Some set
         → Costs (sets_of change.now.guide.now.nodes) change.now.dirty.now
-        (A.edges change.now.after.now) set steps.old steps.new) }
+        change.now.grown.now (A.edges change.now.after.now) set steps.old steps.new) }
     ensures halted { IfErr result (λ fault. IsHalted fault limit (A.edges change.now.after.now)
-        (sets_of change.now.guide.now.nodes) change.now.dirty.now
+        (sets_of change.now.guide.now.nodes) change.now.dirty.now change.now.grown.now
         (found_sets change.now.guide.now.nodes found.old) place steps.old steps.new) }
 {
-    let targets = targets_at(alloc, found, place, change, reader, steps)?;
+    let base = base_at(found, place, &reading.bases);
+    let targets = targets_at(alloc, found, place, change, reading, steps)?;
     let row = enter_all(alloc, found, change.guide, targets, limit)?;
+    note_bases(&mut reading.bases, change, base, row.as_slice())?;
     found.put_edges(change.guide, place, row);
     Ok(())
 }

@@ -1,7 +1,8 @@
 ghost use Rattle.std.specs.Prelude.{◌≡◌, ◌⊎◌, ◌↔◌, ◌<◌, ◌++◌, length, All, AllPairs, Contains};
-ghost use Rattle.std.specs.Prelude.{IfSome, IfOk, OnOk};
+ghost use Rattle.std.specs.Prelude.{IsTrue, IfSome, IfOk, OnOk};
+ghost use Rattle.oem_set.specs.Sets.{IsSet};
 ghost use Rattle.lore_base.specs.TargetSets.{ListsInOrder};
-ghost use Rattle.dataguide.specs.Types.{Label as TheLabel};
+ghost use Rattle.dataguide.specs.Types.{Label as TheLabel, Kept};
 ghost use Rattle.dataguide.specs.Guides.{AscendByLabel};
 ghost use Rattle.dataguide.specs.Touched.{parents_of as the_parents};
 ghost use Rattle.dataguide.specs.Deltas.{origin_set, IsOrigin};
@@ -103,8 +104,59 @@ fn grown_set(
     }
 }
 
-// Where a label leads: to the kept node of its edge, where no step has the label, and else to the
-// set of that node with the objects of the step.
+// Whether the set has all of the objects.
+fn has_all(set: &OidSet, oids: &[Oid]) -> bool
+    ensures { IsTrue result → All (Contains set.now) oids.now }
+{
+    'oids: for oid in oids {
+        if !set.contains(*oid) {
+            return false;
+        }
+    }
+    true
+}
+
+// The node, where its set has all of the step.
+fn node_with(guide: &Guide, node: Option<Node>, step: &OidSet) -> Option<Node>
+    requires within { IfSome node (λ node. node.0 < length guide.now.nodes) }
+    requires ascend { IfSome node (λ node. IsSet (origin_set guide.now.nodes (Kept node))) }
+    ensures within { IfSome result (λ own. own.0 < length guide.now.nodes) }
+    ensures set { IfSome result (λ own. ListsInOrder (HasEither guide.now.nodes node step.now)
+        (origin_set guide.now.nodes (Kept own))) }
+{
+    let own = node?;
+    if has_all(&node_of(guide, own).set, step.as_slice()) {
+        Some(own)
+    } else {
+        None
+    }
+}
+
+// Where a label of the step leads: to the kept node of its edge, if there is one whose set has all of
+// the step, and else to the set of that node with the objects of the step.
+fn node_or_grown(
+    alloc: Global,
+    guide: &Guide,
+    node: Option<Node>,
+    step: &OidSet,
+) -> Result<Origin, NoMemory>
+    requires within { IfSome node (λ node. node.0 < length guide.now.nodes) }
+    requires ascend { IfSome node (λ node. IsSet (origin_set guide.now.nodes (Kept node))) }
+    ensures there { IfOk result (λ origin. IsOrigin guide.now.nodes origin) }
+    ensures set { IfOk result (λ origin. ListsInOrder (HasEither guide.now.nodes node step.now)
+        (origin_set guide.now.nodes origin)) }
+{
+    match node_with(guide, node, step) {
+        Some(own) => Ok(Origin::Kept(own)),
+        None => {
+            let set = grown_set(alloc, guide, node, step)?;
+            Ok(Origin::Fresh(set))
+        }
+    }
+}
+
+// Where a label leads: to the kept node of its edge, where no step has the label or its set has all of
+// the step, and else to the set of that node with the objects of the step.
 fn united(
     alloc: Global,
     guide: &Guide,
@@ -122,8 +174,8 @@ fn united(
     let node = next_by(edges, label);
     match step_by(row, label) {
         Some(step) => {
-            let set = grown_set(alloc, guide, node, step)?;
-            return Ok(Origin::Fresh(set));
+            let target = node_or_grown(alloc, guide, node, step)?;
+            return Ok(target);
         }
         None => match node {
             Some(node) => return Ok(Origin::Kept(node)),

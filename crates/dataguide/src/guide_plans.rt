@@ -10,10 +10,11 @@ ghost use Rattle.dataguide.specs.Guides.{StandsFor, sets_of};
 ghost use Rattle.dataguide.specs.Deltas.{guide_then, nodes_then, IsReady, StoodFor};
 ghost use Rattle.dataguide.specs.GuideCauses.{GuideCause};
 
+use crate::change::Change;
 use crate::data_guide::Guide;
 use crate::delta::GuideDelta;
 use crate::entries::Entries;
-use crate::explore::{Change, expand, name_targets};
+use crate::explore::{Reading, expand, name_targets};
 use crate::faults::GuideFault;
 use crate::found::{Found, enter_all};
 use crate::gains;
@@ -56,8 +57,9 @@ impl Guide {
 
     /// Plans the guide of the graph after a change, where this one stood before it, and these edges,
     /// each list in ascending order, were lost and are fresh. It is found as `build` finds it, and
-    /// refused as there. A set is read once, where it is no node's or a lost edge leaves a member;
-    /// another one has the steps of its node, and what the fresh edges add to them.
+    /// refused as there. A set is read once, where it is no node's or a lost edge leaves a member:
+    /// all of it, or, where the node noted for it lost no edge, gained none and has a part of it, the
+    /// other members. Another set has the steps of its node, and what the fresh edges add to them.
     pub fn plan<A: Adjacent, L: Ledger>(
         &self,
         after: &A,
@@ -76,13 +78,13 @@ impl Guide {
         ensures fits { IfOk result (λ _. FitsGuide limit names.now (A.edges after.now)) }
         ensures ready { IfOk result (λ delta. IsReady self.now.nodes delta) }
         ensures steps { IfOk result (λ delta. ReadsTouched (sets_of self.now.nodes)
-            (parents_of lost.now) (A.edges after.now)
+            (parents_of lost.now) (parents_of fresh.now) (A.edges after.now)
             (sets_of (nodes_then self.now.nodes delta.nodes)) steps.old steps.new) }
         ensures cause { IfErr result
             (λ fault. GuideCause limit names.now (A.edges after.now) fault) }
         ensures reads { IfErr result (λ fault. (fault ≡ faults.NoMemory → ⊥)
-            → ReadsSome (sets_of self.now.nodes) (parents_of lost.now) limit names.now
-            (A.edges after.now) steps.old steps.new) }
+            → ReadsSome (sets_of self.now.nodes) (parents_of lost.now) (parents_of fresh.now)
+            limit names.now (A.edges after.now) steps.old steps.new) }
     {
         let alloc = self.allocator();
         let mut found = Found::new(alloc, self)?;
@@ -98,10 +100,13 @@ impl Guide {
             fresh,
             after,
         };
-        let mut reader = StepReader::new(alloc);
+        let mut reading = Reading {
+            reader: StepReader::new(alloc),
+            bases: Vec::new(alloc),
+        };
         let mut next = 0;
         'nodes: while next < found.nodes.len() {
-            expand(alloc, &mut found, next, &change, &mut reader, limit, steps)?;
+            expand(alloc, &mut found, next, &change, &mut reading, limit, steps)?;
             next += 1;
         }
         let Found { nodes, .. } = found;

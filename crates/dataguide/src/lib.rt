@@ -12,6 +12,7 @@ pub use faults::GuideFault;
 pub use nodes::{EdgeList, GuideNode, Node};
 pub use planned_nodes::{DeltaNode, Origin};
 
+mod change;
 mod data_guide;
 mod delta;
 mod entries;
@@ -20,6 +21,7 @@ mod faults;
 mod fill;
 mod found;
 mod gains;
+mod growth;
 mod guide_plans;
 mod hash_lists;
 pub mod laws;

@@ -19,8 +19,9 @@ use std::sync::ledger::Ledger;
 ///
 /// The plan is of the guide that would be built, and it is refused where that is: `Nodes` and
 /// `Cells` exactly where the first set that passes a limit passes this one. Read are the sets that
-/// no node had or that a lost edge leaves, each once: no more than those that no node had or that
-/// any of the edges leaves, also where the answer is a refusal.
+/// no node had or that a lost edge leaves, each once, and of one that extends a node's that none of the
+/// edges leaves perhaps only the other members: no more than those that no node had or that any of the
+/// edges leaves, also where the answer is a refusal.
 pub fn plan<A: Adjacent, L: Ledger>(
     guide: &Guide,
     after: &A,
@@ -41,11 +42,11 @@ pub fn plan<A: Adjacent, L: Ledger>(
     ensures cause { IfErr result
         (λ fault. GuideCause limit names.now (A.edges after.now) fault) }
     ensures steps { IfOk result (λ delta. ReadsTouched (sets_of guide.now.nodes)
-        (parents_of lost.now) (A.edges after.now)
+        (parents_of lost.now) (parents_of fresh.now) (A.edges after.now)
         (sets_of (nodes_then guide.now.nodes delta.nodes)) steps.old steps.new) }
     ensures reads { IfErr result (λ fault. (fault ≡ faults.NoMemory → ⊥)
-        → ReadsSome (sets_of guide.now.nodes) (parents_of lost.now) limit names.now
-        (A.edges after.now) steps.old steps.new) }
+        → ReadsSome (sets_of guide.now.nodes) (parents_of lost.now) (parents_of fresh.now)
+        limit names.now (A.edges after.now) steps.old steps.new) }
     ensures within { IfOk result (λ _. ReadsWithin (sets_of guide.now.nodes)
         (parents_of (lost.now ++ fresh.now)) names.now (A.edges after.now) steps.old steps.new) }
     ensures refused { IfErr result (λ fault. (fault ≡ faults.NoMemory → ⊥)

@@ -1,14 +1,15 @@
-ghost use Rattle.std.specs.Prelude.{◌≡◌, List};
+ghost use Rattle.std.specs.Prelude.{◌≡◌, List, IfOk};
 ghost use Rattle.dataguide.specs.Guides.{StandsFor};
 ghost use Rattle.guide_query.specs.Types.{Edge as TheEdge};
 ghost use Rattle.guide_query.specs.GuideReaches.{TellsOf, TellsReached};
+ghost use Rattle.guide_query.specs.inside.GuideSets.{IsStart};
 
 use crate::guide_sets::{GuideSets, set_of_one};
-use dataguide::Guide;
+use dataguide::{Guide, Node};
 use index_traits::Paths;
 use lore_base::{Names, NoMemory, Oid, OidBuf, Path};
 use oem_labels::LabelTable;
-use set_walk::select_by_sets;
+use set_walk::{count_by_sets, select_by_sets};
 use std::alloc::Global;
 use std::marker::Model;
 
@@ -42,6 +43,15 @@ impl<'a> GuidePaths<'a> {
         let _ = names;
         GuidePaths { guide, labels }
     }
+
+    // The node from which the guide is walked for paths from the named object: that of its set
+    // alone, if there is one.
+    fn start_at(&self, alloc: Global, named: Oid) -> Result<Option<Node>, NoMemory>
+        ensures { IfOk result (IsStart self.now named) }
+    {
+        let alone = set_of_one(alloc, named)?;
+        Ok(self.guide.find_set(&alone))
+    }
 }
 
 impl<'a> Paths for GuidePaths<'a> {
@@ -55,8 +65,13 @@ impl<'a> Paths for GuidePaths<'a> {
         buf: &mut OidBuf,
     ) -> Result<(), NoMemory> {
         let sets = GuideSets { guide: self.guide };
-        let alone = set_of_one(alloc, named)?;
-        let start = self.guide.find_set(&alone);
+        let start = self.start_at(alloc, named)?;
         select_by_sets(alloc, &sets, self.labels, path, start, buf)
+    }
+
+    fn count(&self, alloc: Global, path: &Path, named: Oid) -> Result<usize, NoMemory> {
+        let sets = GuideSets { guide: self.guide };
+        let start = self.start_at(alloc, named)?;
+        count_by_sets(alloc, &sets, self.labels, path, start)
     }
 }

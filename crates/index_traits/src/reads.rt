@@ -1,9 +1,10 @@
 ghost use Rattle.std.specs.Prelude.{◌≡◌, ◌≢◌, ◌+◌, ◌-◌, ◌≤◌, List, ◌++◌, length, Some, Contains};
-ghost use Rattle.std.specs.Prelude.{IfSome, IfNone, OnOk, OnErr};
+ghost use Rattle.std.specs.Prelude.{IfOk, IfSome, IfNone, OnOk, OnErr};
 ghost use Rattle.std.specs.Option.{option_copied};
 ghost use Rattle.index_traits.specs.Types.{Oid as TheOid, Edge as TheEdge, Value as TheValue, LEAVES};
 ghost use Rattle.index_traits.specs.Types.{ValueEntry, Complex};
 ghost use Rattle.index_traits.specs.Entries.{IsProbed, IsFound};
+ghost use Rattle.index_traits.specs.Counts.{IsCount};
 ghost use Rattle.lore_base.specs.Lists.{Extends, ExtendsBy};
 ghost use Rattle.lore_base.specs.Walks.{out_of, ListsEntering};
 ghost use Rattle.lore_base.specs.Paths.{PathTree, path_tree, leaves};
@@ -80,6 +81,16 @@ pub trait Paths {
         ensures objects { OnOk result (ExtendsBy (ListsInOrder
             (reaches self.now (path_tree path.now) named)) buf.old buf.new) }
         ensures err { OnErr result (Extends buf.old buf.new) };
+
+    /// How many objects `select` appends. The path has at most 64 leaves.
+    fn count(&self, alloc: Global, path: &Path, named: Oid) -> Result<usize, NoMemory>
+        requires leaves { leaves (path_tree path.now) ≤ LEAVES }
+        ensures { IfOk result (IsCount (reaches self.now (path_tree path.now) named)) }
+    {
+        let mut oids = OidBuf::new(alloc);
+        self.select(alloc, path, named, &mut oids)?;
+        Ok(oids.len())
+    }
 }
 
 /// The values of objects.

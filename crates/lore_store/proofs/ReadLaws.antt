@@ -30,6 +30,7 @@ use Rattle.read_costs.proofs.SpentLaws.{IsSpent-exact, IsSpent-wider}
 use Rattle.read_costs.proofs.WorkLaws.{work_searched, work_explored, work_prepared}
 use Rattle.dataguide.specs.Touched as guides
 use Rattle.dataguide.specs.Touched.{ReadsTouched, ReadsSome, parents_of}
+use Rattle.dataguide.proofs.ReadBounds.{reads-within}
 use Rattle.value_changes.specs.Reads.{AreRead, IsChanged, ReadsChanged}
 use Rattle.oem_reach.proofs.DoubtLaws.{told_reached}
 use Rattle.lore_store.specs.Types.{Changes}
@@ -83,22 +84,29 @@ module _ (before : OemGraph) (changes : Changes) (after : OemGraph) (leads : IsG
       (led, inr (met.0, met.1, (from.0, inr removed, from.2)))
 
   pub planned_spent : (found : List (List Oid)) → ((set : List Oid) → Contains found set ↔ IsLedTo after.names after.edges set)
-      → (old now : ℕ)
-      → ReadsTouched sets (parents_of gone) after.edges found old now
+      → (grown : List Oid) (old now : ℕ)
+      → ReadsTouched sets (parents_of gone) grown after.edges found old now
       → IsSpent (IsTouched before changes after) (reads_of after.edges) old now
-  planned_spent found led old now reads =
-      IsSpent-exact (IsTouched before changes after) (reads_of after.edges) reads.touched old now reads.are.apart
-      (All-from_members (IsTouched before changes after) reads.touched (λ set at.
-      let is = (reads.are.exact set).0 at in
-      touched set ((led set).0 is.0) is.1)) reads.counted
+  planned_spent found led grown old now reads = record {
+    paid = reads.touched;
+    apart = reads.are.apart;
+    among = All-from_members (IsTouched before changes after) reads.touched (λ set at.
+        let is = (reads.are.exact set).0 at in
+        touched set ((led set).0 is.0) is.1);
+    within = omega (arith, reads.counted, reads-within sets (parents_of gone) grown after.edges reads.touched reads.read reads.each);
+  }
 
-  pub refused_spent : (limit old now : ℕ) → ReadsSome sets (parents_of gone) limit after.names after.edges old now
+  pub refused_spent : (grown : List Oid) (limit old now : ℕ)
+      → ReadsSome sets (parents_of gone) grown limit after.names after.edges old now
       → IsSpent (IsTouched before changes after) (reads_of after.edges) old now
-  refused_spent limit old now reads =
-      IsSpent-exact (IsTouched before changes after) (reads_of after.edges) reads.sets old now reads.apart
-      (All-from_members (IsTouched before changes after) reads.sets (λ set at.
-      touched set (All-contains (IsLedTo after.names after.edges) reads.sets set reads.led at)
-      (All-contains (guides.IsTouched sets (parents_of gone)) reads.sets set reads.touched at))) reads.counted
+  refused_spent grown limit old now reads = record {
+    paid = reads.sets;
+    apart = reads.apart;
+    among = All-from_members (IsTouched before changes after) reads.sets (λ set at.
+        touched set (All-contains (IsLedTo after.names after.edges) reads.sets set reads.led at)
+        (All-contains (guides.IsTouched sets (parents_of gone)) reads.sets set reads.touched at));
+    within = omega (arith, reads.counted, reads-within sets (parents_of gone) grown after.edges reads.sets reads.read reads.each);
+  }
 
 -- ---- all of it
 ascend_apart : (oids : List Oid) → AllPairs (λ a b. a.0 < b.0) oids → AllPairs (λ a b. a ≢ b) oids

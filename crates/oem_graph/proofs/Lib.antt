@@ -14,4 +14,5 @@ pub mod ChangeLaws
 pub mod DeltaLaws
 pub mod PlanLaws
 pub mod EmptyLaws
+pub mod DropLaws
 pub mod SampleLaws

@@ -80,15 +80,53 @@ fn are_below(objects: &[ObjectRecord], oid: Oid) -> bool
     }
 }
 
-// Takes dead objects, which have no edges, out of the list. Takes no memory.
+// Takes dead objects, which have no edges, out of the list. Takes no memory. Where little moves for
+// it, each is taken out by itself. Else each object is looked for among them.
 pub(crate) fn drop_objects(objects: &mut Vec<ObjectRecord>, dead: &[Oid])
-    requires { AreAscendingOids dead.now }
+    requires objects { AreAscendingObjects objects.old.items }
+    requires dead { AreAscendingOids dead.now }
     ensures { AreDropped dead.now objects.old.items objects.new.items }
 {
-    if dead.is_empty() {
-        return;
+    if moves_few(objects.as_slice(), dead) {
+        drop_each(objects, dead);
+    } else {
+        objects.retain(|object| !is_dead(dead, object.oid));
     }
-    objects.retain(|object| !is_dead(dead, object.oid));
+}
+
+// Whether no more objects move than there are, if each of the dead is taken out by itself: those
+// behind the first of them move up once for each. To move an object costs as much as to test one.
+fn moves_few(objects: &[ObjectRecord], dead: &[Oid]) -> bool
+    requires { AreAscendingObjects objects.now }
+{
+    let Some(first) = dead.first() else {
+        return true;
+    };
+    let behind = match place_of(objects, *first) {
+        Some(place) => objects.len().saturating_sub(place),
+        None => objects.len(),
+    };
+    dead.len().saturating_mul(behind) <= objects.len()
+}
+
+// Takes out each object by itself.
+fn drop_each(objects: &mut Vec<ObjectRecord>, dead: &[Oid])
+    requires { AreAscendingObjects objects.old.items }
+    ensures { AreDropped dead.now objects.old.items objects.new.items }
+{
+    'dead: for oid in dead {
+        drop_object(objects, *oid);
+    }
+}
+
+// Takes out an object, if it is there.
+fn drop_object(objects: &mut Vec<ObjectRecord>, oid: Oid)
+    requires { AreAscendingObjects objects.old.items }
+    ensures { AreDropped (oid ∷ []) objects.old.items objects.new.items }
+{
+    if let Some(place) = place_of(objects.as_slice(), oid) {
+        let _gone = objects.remove(place);
+    }
 }
 
 // How many objects there are once the dead are gone and the given ones are there.

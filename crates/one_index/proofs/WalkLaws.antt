@@ -158,6 +158,16 @@ told-by-blocks told path named (Some number) found only none oid = (
   },
 )
 
+-- the same of the value that blocks and label texts are seen as
+pub told-as-seen : (told seen : BlocksOver) (path : PathTree) (named : Oid) (start : Option ℕ) → told ≡ seen
+    → IfSome start (λ number. IsMember told.blocks number named)
+    → IfSome start (λ number. (other : ℕ) → IsMember told.blocks other named → other ≡ number)
+    → IfNone start ((number : ℕ) → IsMember told.blocks number named → ⊥) → (oid : Oid)
+    → IsReachedBySets told.labels (HasEdge told.blocks) (IsMember told.blocks) path start oid ↔ TellsReached seen path named oid
+told-as-seen told seen path named start same found only none oid =
+    subst (λ (p : BlocksOver). IsReachedBySets told.labels (HasEdge told.blocks) (IsMember told.blocks) path start oid
+    ↔ TellsReached p path named oid) same (told-by-blocks told path named start found only none oid)
+
 pub answers_are_unions : AnswersAreUnions
 answers_are_unions graph told are number x y x_in y_in path named reached =
     let same : number ≡ reached.last = (are.exact number reached.last x x x_in reached.member).1 (inl refl) in

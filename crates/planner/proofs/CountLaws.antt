@@ -1,5 +1,5 @@
 -- What is counted: the objects that a comparison asks for are a finite list, and the path to its range has few leaves.
-use Rattle.std.proofs.Common.{◌≡◌, ℕ, suc, ◌+◌, ◌<◌, ◌≤◌, inl, inr, List, [], ◌∷◌, length, map, take, ◌++◌, refl, sym, ap, subst, ◌∙◌, arith, add-one}
+use Rattle.std.proofs.Common.{◌≡◌, ℕ, suc, ◌+◌, ◌<◌, ◌≤◌, inl, inr, List, [], ◌∷◌, length, map, take, refl, sym, ap, ◌∙◌, arith, add-one}
 use Rattle.std.specs.List.{Contains, sum_by}
 use Rattle.std.proofs.lemmas.Bool.{cases_lt}
 use Rattle.std.proofs.lemmas.List.{take-map}
@@ -9,10 +9,10 @@ use Rattle.lore_base.specs.declared.values.Value.{Value}
 use Rattle.lore_base.specs.declared.limits.TheConstants.{LEAVES}
 use Rattle.lore_base.specs.Comparisons.{Compares}
 use Rattle.lore_base.specs.Paths.{PathTree, seq, trees_of, leaves, leaves_of}
-use Rattle.lore_base.specs.Lists.{ExtendsBy}
 use Rattle.lore_base.specs.TargetSets.{ListsInOrder}
 use Rattle.lore_base.proofs.MemberLaws.{Contains-same}
 use Rattle.index_traits.specs.Entries.{entry_of, IsFound}
+use Rattle.index_traits.specs.Counts.{IsCount}
 use Rattle.lorel_bound.specs.declared.bound.Bound.{Bound}
 use Rattle.lorel_bound.specs.declared.bound.Range.{Range}
 use Rattle.lorel_bound.specs.Bound.{RangeTree, range_tree, BoundTree, bound_tree}
@@ -24,7 +24,6 @@ use Rattle.index_traits.proofs.ObjectLaws.{told_label}
 use Rattle.lorel_bound.proofs.ListedLaws.{IsListed, listed_members, listed_one, listed_same, listed_over, listed_where}
 use Rattle.lorel_bound.proofs.ComparedLaws.{told_compares}
 use Rattle.planner.specs.Types.{Oid, Label, ValueEntry}
-use Rattle.planner.specs.Choices.{IsCount}
 
 -- ---- the objects that a comparison asks for
 -- the entry is one of these, and its value compares so
@@ -101,8 +100,3 @@ joined_to bound probe ranges front path all is joined =
     let up_to : front ≡ take (suc probe.slot) bound.ranges = is ∙ (λ i. take (add-one probe.slot i) (all i)) in
     let trees = ap (map range_tree) up_to ∙ sym (take-map range_tree (suc probe.slot) bound.ranges) in
     joined ∙ ap (λ (taken : List RangeTree). seq (trees_of (map (λ range. range.path) taken))) trees
-
--- ---- what is put behind nothing
-pub listed_alone : (P : Oid → Type 0) (old new : List Oid) → old ≡ [] → ExtendsBy (ListsInOrder P) old new → ListsInOrder P new
-listed_alone P old new empty extends =
-    subst (ListsInOrder P) (sym (extends.1 ∙ ap (λ (front : List Oid). front ++ extends.0) empty)) extends.2

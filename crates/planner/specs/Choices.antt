@@ -1,16 +1,12 @@
 -- Which plan is chosen for a bound select: by the mode, and by how many objects a search would begin with.
-use Rattle.std.specs.Prelude.{◌≡◌, ℕ, ◌⊎◌, Bool, false, nat_lt, nat_le, if◌then◌else◌, List, length, Option, Some, None, is_some}
+use Rattle.std.specs.Prelude.{◌≡◌, ℕ, ◌⊎◌, Bool, false, nat_lt, nat_le, if◌then◌else◌, List, Option, Some, None, is_some}
 use Rattle.lore_base.specs.Paths.{PathTree}
-use Rattle.lore_base.specs.TargetSets.{ListsInOrder}
+use Rattle.index_traits.specs.Counts.{IsCount}
 use Rattle.lorel_bound.specs.Bound.{BoundTree}
 use Rattle.lorel_bound.specs.Plans.{Probe, CanBeBottom, CannotBeBottom, path_to, IsLabelOf, IsCandidate}
 use Rattle.planner.specs.Types.{Oid, Label, Mode, ValueEntry, PlanKind}
 use Rattle.planner.specs.Types.modes
 use Rattle.planner.specs.Types.plan_kinds
-
--- so many objects pass
-abbrev pub IsCount : (Oid → Type 0) → ℕ → Type 0
-IsCount Passes count = (oids : List Oid) × ListsInOrder Passes oids × (count ≡ length oids)
 
 -- the number of objects that pass, where one is given
 abbrev pub IsGivenCount : (Oid → Type 0) → Option ℕ → Type 0

@@ -2,17 +2,17 @@ ghost use Rattle.std.specs.Prelude.{◌≡◌, ◌≢◌, ◌<◌, ◌^◌, List
 ghost use Rattle.lore_base.specs.Paths.{path_tree, seq, trees_of};
 ghost use Rattle.lore_base.specs.TargetSets.{ListsInOrder};
 ghost use Rattle.index_traits.specs.Entries.{IsProbed};
+ghost use Rattle.index_traits.specs.Counts.{IsCount};
 ghost use Rattle.lorel_bound.specs.Bound.{range_tree, bound_tree};
 ghost use Rattle.lorel_bound.specs.Runnable.{IsRunnable};
 ghost use Rattle.lorel_bound.specs.Plans.{IsCandidate, path_to};
 ghost use Rattle.planner.specs.Types.{Oid as TheOid, Complex};
-ghost use Rattle.planner.specs.Choices.{IsCount};
 ghost use Rattle.planner.specs.inside.Probes.{probe_tree};
 
 use crate::beginnings::Beginning;
 use crate::probes::Probe;
 use index_traits::{Paths, Values};
-use lore_base::{Label, NoMemory, OidBuf, Path, PathList, TryCopy};
+use lore_base::{Label, NoMemory, Path, PathList, TryCopy};
 use lorel_bound::{Bound, Range};
 use std::alloc::Global;
 
@@ -48,9 +48,8 @@ pub(crate) fn reached_count<P: Paths>(
     let slot = beginning.probe.slot as usize;
     let (before, _) = bound.ranges.as_slice().split_at(slot + 1);
     let path = joined_path(alloc, before)?;
-    let mut reached = OidBuf::new(alloc);
-    paths.select(alloc, &path, beginning.named, &mut reached)?;
-    Ok(reached.len() as u32)
+    let number = paths.count(alloc, &path, beginning.named)?;
+    Ok(number as u32)
 }
 
 // The path along these ranges, one after another.

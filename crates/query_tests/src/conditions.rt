@@ -46,6 +46,16 @@ pub(crate) fn leading_to(number: i64) -> BoundCond
     }
 }
 
+// What a condition is asked of. It is made once and lent: what a function owns is proved to be let
+// go at each of its ways out.
+#[derive(Drop)]
+struct Scene {
+    graph: NaiveEdges,
+    values: One,
+    labels: LabelTable,
+    row: Row,
+}
+
 // 1 leads to 2.
 fn graph(alloc: Global) -> Result<NaiveEdges, NoMemory> {
     let mut edges = EdgeBuf::new(alloc);
@@ -64,60 +74,128 @@ fn row(alloc: Global) -> Row {
     row
 }
 
-// Whether a word leads from the object 1 to this number, where 2 is the number 30. There is one way
-// out with all values, since it is proved of each way that they can be let go.
+// A word leads from the object 1, in the row's first slot, to 2, which is the number 30.
+fn edge_scene(alloc: Global) -> Result<Scene, NoMemory> {
+    let graph = graph(alloc)?;
+    Ok(Scene {
+        graph,
+        values: One {
+            value: Value::Whole(30),
+        },
+        labels: LabelTable::new(alloc),
+        row: row(alloc),
+    })
+}
+
+// Whether the test holds of the row. A test is taken as a parameter's type: the facts of a call and
+// of a drop are few there.
+fn passes<T: RowTest + Drop, L: Ledger>(
+    alloc: Global,
+    test: T,
+    row: &Row,
+    steps: &mut Steps<L>,
+) -> Result<bool, NoMemory> {
+    let answer = test.holds(alloc, row, steps);
+    drop(test);
+    answer
+}
+
+fn holds_in<L: Ledger>(
+    alloc: Global,
+    number: i64,
+    scene: &Scene,
+    steps: &mut Steps<L>,
+) -> Result<bool, NoMemory> {
+    let cond = leading_to(number);
+    let test = Test::new(Some(&cond), &scene.graph, &scene.values, &scene.labels);
+    passes(alloc, test, &scene.row, steps)
+}
+
+// Whether a word leads from the object 1 to this number.
 fn holds<L: Ledger>(alloc: Global, number: i64, blank: Blank) -> Result<bool, NoMemory>
     requires name { blank.name ≡ L.name }
     requires parts { blank.parts ≡ L.parts }
     requires some { 0 < blank.parts }
 {
-    let graph = graph(alloc)?;
-    let cond = leading_to(number);
-    let values = One {
-        value: Value::Whole(30),
-    };
-    let labels = LabelTable::new(alloc);
-    let row = row(alloc);
-    let test = Test::new(Some(&cond), &graph, &values, &labels);
-    test.holds(alloc, &row, &mut Steps::<L>::new(blank))
+    let scene = edge_scene(alloc)?;
+    holds_in(alloc, number, &scene, &mut Steps::<L>::new(blank))
 }
+
+const TESTED: [(i64, bool); 2] = [(30, true), (31, false)];
 
 #[test]
 fn a_condition_is_tested_unready(rt: HostRuntime) -> Result<(), Fail> {
-    for (number, wanted) in [(30, true), (31, false)] {
+    for (number, wanted) in TESTED {
         assert_eq!(rt; holds::<Brand>(rt.alloc(), number, Blank::new(1))?, wanted);
     }
     Ok(())
 }
 
-// Whether it is told that no word leads from the object 1 to this number, where the slot of the object
-// is known, or isn't.
+// Whether the test rules out the row, of which the first slot is known or no slot is.
+fn rules_out<T: RowTest, L: Ledger>(
+    alloc: Global,
+    test: &T,
+    is_known: bool,
+    row: &Row,
+    steps: &mut Steps<L>,
+) -> Result<bool, NoMemory> {
+    let mut slots = [false; 8];
+    slots[0] = is_known;
+    test.rules_out(alloc, &slots, row, steps)
+}
+
+fn tells<T: RowTest + Drop, L: Ledger>(
+    alloc: Global,
+    test: T,
+    is_known: bool,
+    row: &Row,
+    steps: &mut Steps<L>,
+) -> Result<bool, NoMemory> {
+    let answer = rules_out(alloc, &test, is_known, row, steps);
+    drop(test);
+    answer
+}
+
+fn is_ruled_out_in<L: Ledger>(
+    alloc: Global,
+    (number, is_known): (i64, bool),
+    scene: &Scene,
+    steps: &mut Steps<L>,
+) -> Result<bool, NoMemory> {
+    let (graph, values, labels) = (&scene.graph, &scene.values, &scene.labels);
+    let cond = leading_to(number);
+    let test = Test::ready(alloc, Some(&cond), graph, values, labels)?;
+    tells(alloc, test, is_known, &scene.row, steps)
+}
+
+// Whether it is told that no word leads from the object 1 to this number, where the slot of the
+// object is known, or isn't.
 fn is_ruled_out<L: Ledger>(
     alloc: Global,
-    number: i64,
-    is_known: bool,
+    asked: (i64, bool),
     blank: Blank,
-) -> Result<bool, Fail>
+) -> Result<bool, NoMemory>
     requires name { blank.name ≡ L.name }
     requires parts { blank.parts ≡ L.parts }
     requires some { 0 < blank.parts }
 {
-    let cond = leading_to(number);
-    let graph = graph(alloc)?;
-    let values = One {
-        value: Value::Whole(30),
-    };
-    let labels = LabelTable::new(alloc);
-    let test = Test::ready(alloc, Some(&cond), &graph, &values, &labels)?;
-    let known = [is_known, false, false, false, false, false, false, false];
-    Ok(test.rules_out(alloc, &known, &row(alloc), &mut Steps::<L>::new(blank))?)
+    let scene = edge_scene(alloc)?;
+    is_ruled_out_in(alloc, asked, &scene, &mut Steps::<L>::new(blank))
 }
+
+const TOLD: [((i64, bool), bool); 3] = [
+    ((31, true), true),
+    ((30, true), false),
+    ((31, false), false),
+];
 
 #[test]
 fn a_condition_is_told_by_known_slots(rt: HostRuntime) -> Result<(), Fail> {
-    for (number, is_known, wanted) in [(31, true, true), (30, true, false), (31, false, false)] {
-        let out = is_ruled_out::<Brand>(rt.alloc(), number, is_known, Blank::new(1))?;
-        assert_eq!(rt; out, wanted);
+    for (asked, wanted) in TOLD {
+        assert_eq!(rt;
+            is_ruled_out::<Brand>(rt.alloc(), asked, Blank::new(1))?,
+            wanted
+        );
     }
     Ok(())
 }
@@ -139,20 +217,27 @@ impl RowTest for Never {
     }
 }
 
-// Whether it tells nothing of rows of which some slots are filled.
+// Whether a test tells nothing of rows of which some slots are filled.
+fn is_silent<T: RowTest, L: Ledger>(
+    alloc: Global,
+    test: &T,
+    row: &Row,
+    steps: &mut Steps<L>,
+) -> Result<bool, NoMemory> {
+    let filled = [true; 8];
+    if test.rules_out(alloc, &filled, row, steps)? {
+        return Ok(false);
+    }
+    Ok(test.fitting(alloc, &filled, 0, row, steps)?.is_none())
+}
+
 fn tells_nothing<L: Ledger>(alloc: Global, blank: Blank) -> Result<bool, NoMemory>
     requires name { blank.name ≡ L.name }
     requires parts { blank.parts ≡ L.parts }
     requires some { 0 < blank.parts }
 {
-    let mut steps = Steps::<L>::new(blank);
     let row = row(alloc);
-    let known = [true; 8];
-    let test = Never {};
-    if test.rules_out(alloc, &known, &row, &mut steps)? {
-        return Ok(false);
-    }
-    Ok(test.fitting(alloc, &known, 0, &row, &mut steps)?.is_none())
+    is_silent(alloc, &Never {}, &row, &mut Steps::<L>::new(blank))
 }
 
 #[test]

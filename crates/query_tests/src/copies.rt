@@ -1,6 +1,6 @@
 use crate::conditions::leading_to;
 use lore_base::limits::CHUNK_BYTES;
-use lore_base::{Label, NoMemory, Oid, Path, TryCopy, Word};
+use lore_base::{Label, Listing, NoMemory, Oid, Path, TryCopy, Word};
 use lorel_bound::{
     Answer, AnswerRow, Bound, BoundCond, Cell, CellList, CellOf, PlanStep, PlanSteps, Range,
     RangeList, Start,
@@ -9,10 +9,46 @@ use lorel_lex::{Kind, TokenList, tokens};
 use std::alloc::Global;
 use std::test::Fail;
 
-// Copies a value and lets it go. That a value can be let go is proved in each place where it may
-// be, and in few words where its type is a parameter.
-fn copied<T: TryCopy + Drop>(alloc: Global, value: T) -> Result<T, NoMemory> {
-    value.try_copy(alloc)
+// Values that tell whether they are what was made for a test.
+trait AsMade {
+    fn is_as_made(&self) -> bool;
+}
+
+// Copies a value, lets it go, and tells whether the copy is as the value was made. That a value can
+// be let go is proved in each place where it may be, and in few words where its type is a
+// parameter.
+fn is_copied<T: TryCopy + AsMade + Drop>(alloc: Global, value: T) -> Result<bool, NoMemory> {
+    let copy = value.try_copy(alloc);
+    drop(value);
+    let copy = copy?;
+    Ok(copy.is_as_made())
+}
+
+// A list of one item.
+fn one<T: Drop>(alloc: Global, item: T) -> Result<Listing<T>, NoMemory> {
+    let mut list = Listing::new(alloc);
+    list.push(item)?;
+    Ok(list)
+}
+
+// A list of two items.
+fn two<T: Drop>(alloc: Global, first: T, second: T) -> Result<Listing<T>, NoMemory> {
+    let mut list = one(alloc, first)?;
+    list.push(second)?;
+    Ok(list)
+}
+
+// Both values, where there was memory for both.
+fn both<A: Drop, B: Drop>(
+    first: Result<A, NoMemory>,
+    second: Result<B, NoMemory>,
+) -> Result<(A, B), NoMemory> {
+    let second = second?;
+    Ok((first?, second))
+}
+
+fn boxed<T: Drop>(alloc: Global, value: T) -> Result<Box<T>, NoMemory> {
+    Ok(Box::new(alloc, value)?)
 }
 
 fn tokens_of(alloc: Global, chunk: &[u8]) -> Result<TokenList, Fail> {
@@ -44,118 +80,130 @@ fn digits(tokens: &TokenList) -> u64 {
     digits
 }
 
+impl AsMade for TokenList {
+    fn is_as_made(&self) -> bool {
+        digits(self) == 12_345_678
+    }
+}
+
 #[test]
 fn tokens_are_copied(rt: HostRuntime) -> Result<(), Fail> {
     let tokens = tokens_of(rt.alloc(), b"ab 'c d' %x \"t\" -5 &7 path-of @")?;
-    assert_eq!(rt; digits(&copied(rt.alloc(), tokens)?), 12_345_678);
+    assert!(rt; is_copied(rt.alloc(), tokens)?);
     Ok(())
 }
 
 fn cells(alloc: Global) -> Result<CellList, NoMemory> {
-    let mut cells = CellList::new(alloc);
-    for cell in [CellOf::Object(Start::Slot(0)), CellOf::PathOf(0)] {
-        cells.push(cell)?;
-    }
-    Ok(cells)
+    two(alloc, CellOf::Object(Start::Slot(0)), CellOf::PathOf(0))
 }
 
 fn ranges(alloc: Global) -> Result<RangeList, NoMemory> {
-    let mut ranges = RangeList::new(alloc);
-    ranges.push(Range {
+    let range = Range {
         start: Start::Named(Oid(1)),
         path: Path::Any,
-    })?;
-    Ok(ranges)
+    };
+    one(alloc, range)
 }
 
 fn condition(alloc: Global) -> Result<BoundCond, NoMemory> {
-    Ok(BoundCond::Not(Box::new(alloc, leading_to(30))?))
+    Ok(BoundCond::Not(boxed(alloc, leading_to(30))?))
 }
 
 // A select of one range: it shows its objects and the words that lead to them, where a condition
 // doesn't hold.
 fn select(alloc: Global) -> Result<Bound, NoMemory> {
-    let cells = cells(alloc)?;
-    let ranges = ranges(alloc)?;
-    let cond = Some(condition(alloc)?);
+    let lists = both(ranges(alloc), cells(alloc));
+    let ((ranges, cells), cond) = both(lists, condition(alloc))?;
     Ok(Bound {
         ranges,
         cells,
-        cond,
+        cond: Some(cond),
     })
 }
 
-fn is_select(bound: &Bound) -> bool {
-    bound.ranges.len() == 1
-        && bound.cells.len() == 2
-        && matches!(&bound.cond, Some(BoundCond::Not(_)))
+impl AsMade for Bound {
+    fn is_as_made(&self) -> bool {
+        self.ranges.len() == 1
+            && self.cells.len() == 2
+            && matches!(&self.cond, Some(BoundCond::Not(_)))
+    }
 }
 
 #[test]
 fn a_bound_select_is_copied(rt: HostRuntime) -> Result<(), Fail> {
-    let copy = copied(rt.alloc(), select(rt.alloc())?)?;
-    assert!(rt; is_select(&copy));
+    assert!(rt; is_copied(rt.alloc(), select(rt.alloc())?)?);
     Ok(())
 }
 
 // The steps of a plan: one range is walked, and the condition tested.
 fn plan_steps(alloc: Global) -> Result<PlanSteps, NoMemory> {
-    let mut steps = PlanSteps::new(alloc);
-    steps.push(PlanStep::Forward {
+    let walk = PlanStep::Forward {
         start: Start::Named(Oid(1)),
         path: Path::Any,
         slot: 0,
-    })?;
-    steps.push(PlanStep::Filter)?;
-    Ok(steps)
+    };
+    two(alloc, walk, PlanStep::Filter)
 }
 
-fn are_steps(steps: &PlanSteps) -> bool {
-    matches!(steps.get(0), Some(PlanStep::Forward { slot: 0, .. }))
-        && matches!(steps.get(1), Some(PlanStep::Filter))
+impl AsMade for PlanSteps {
+    fn is_as_made(&self) -> bool {
+        matches!(self.get(0), Some(PlanStep::Forward { slot: 0, .. }))
+            && matches!(self.get(1), Some(PlanStep::Filter))
+    }
 }
 
 #[test]
 fn steps_of_a_plan_are_copied(rt: HostRuntime) -> Result<(), Fail> {
-    let copy = copied(rt.alloc(), plan_steps(rt.alloc())?)?;
-    assert!(rt; are_steps(&copy));
+    assert!(rt; is_copied(rt.alloc(), plan_steps(rt.alloc())?)?);
     Ok(())
 }
 
 fn word(alloc: Global) -> Result<Word, NoMemory> {
-    let mut word = Word::new(alloc);
-    word.append(&[Label(1), Label(0)])?;
-    Ok(word)
+    two(alloc, Label(1), Label(0))
 }
 
 fn row(alloc: Global) -> Result<AnswerRow, NoMemory> {
+    let word = word(alloc)?;
     let mut row = AnswerRow::new(alloc);
     row.push(Cell::Object(Oid(2)))?;
-    row.push(Cell::Path(word(alloc)?))?;
+    row.push(Cell::Path(word))?;
     Ok(row)
 }
 
 // An answer of one row, which shows an object and a word of two labels.
 fn answer(alloc: Global) -> Result<Answer, NoMemory> {
+    let row = row(alloc)?;
     let mut answer = Answer::new(alloc);
-    answer.push(row(alloc)?)?;
+    answer.push(row)?;
     Ok(answer)
 }
 
-// Whether the answer is that one.
-fn is_answer(answer: &Answer) -> bool {
-    let Some(row) = answer.get(0) else {
-        return false;
-    };
-    let [Cell::Object(oid), Cell::Path(word)] = row.as_slice() else {
-        return false;
-    };
-    answer.len() == 1 && *oid == Oid(2) && word.as_slice() == [Label(1), Label(0)].as_slice()
+fn are_labels(labels: &[Label]) -> bool {
+    match labels {
+        [first, second] => first.0 == 1 && second.0 == 0,
+        _ => false,
+    }
+}
+
+// Whether the cells are those of that row.
+fn are_cells(cells: &[Cell]) -> bool {
+    match cells {
+        [Cell::Object(oid), Cell::Path(word)] => oid.0 == 2 && are_labels(word.as_slice()),
+        _ => false,
+    }
+}
+
+impl AsMade for Answer {
+    fn is_as_made(&self) -> bool {
+        match self.get(0) {
+            Some(row) => self.len() == 1 && are_cells(row.as_slice()),
+            None => false,
+        }
+    }
 }
 
 #[test]
 fn an_answer_is_copied(rt: HostRuntime) -> Result<(), Fail> {
-    let copy = copied(rt.alloc(), answer(rt.alloc())?)?;
-    assert!(rt; is_answer(&copy));
+    assert!(rt; is_copied(rt.alloc(), answer(rt.alloc())?)?);
     Ok(())
 }

@@ -8,6 +8,7 @@ use Rattle.lore_base.specs.declared.operators.Op.{Op}
 use Rattle.lore_base.specs.declared.operators.Op.TheVariants as ops
 use Rattle.lore_base.specs.declared.paths.Pattern.TheVariants.{Plain}
 use Rattle.index_traits.specs.Entries.{IsProbed}
+use Rattle.index_traits.specs.Counts.{IsCount}
 use Rattle.lorel_bound.specs.declared.conditions.BoundStart.{BoundStart}
 use Rattle.lorel_bound.specs.declared.conditions.BoundStart.TheVariants as bound_starts
 use Rattle.lorel_bound.specs.Bound.{RangeTree, BoundPathTree, BoundTree}
@@ -18,7 +19,6 @@ use Rattle.lore_base.proofs.ToldLaws.{IsTold, told_both, told_member, told_bytes
 use Rattle.list_laws.proofs.AscentLaws.{some_ordered}
 use Rattle.list_laws.proofs.PlaceLaws.{Contains-from_place, place_of_member}
 use Rattle.planner.proofs.CountLaws.{oids_ordered, listed_found}
-use Rattle.planner.specs.Choices.{IsCount}
 use Rattle.statements.specs.Types.{Oid, Value, ValueEntry, Start}
 use Rattle.statements.specs.Types.starts
 

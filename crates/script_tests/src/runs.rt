@@ -26,6 +26,9 @@ ok objects 1 edges 0 nodes 1
 rows 1
 ";
 
+/// The most bytes of one read or write.
+pub(crate) const PIECES: [u32; 4] = [1, 2, 13, 65_536];
+
 /// Bytes that any reply of these tests finds room for.
 const ROOM: usize = 65_536;
 
@@ -98,9 +101,11 @@ fn run_counted<S: Source, K: Sink, L: Ledger>(
     requires parts { blank.parts ≡ L.parts }
     requires some { 0 < blank.parts }
 {
-    let mut steps = Steps::<L>::new(blank);
     let mut session = Session::new(alloc)?;
-    Ok(run_lore(alloc, words, source, sink, &mut session, &mut steps))
+    let mut steps = Steps::<L>::new(blank);
+    let outcome = run_lore(alloc, words, source, sink, &mut session, &mut steps);
+    drop(session);
+    Ok(outcome)
 }
 
 /// Runs a script in a new session.
@@ -113,6 +118,66 @@ pub(crate) fn run<S: Source, K: Sink>(
     run_counted::<S, K, Brand>(alloc, words, source, sink, Blank::new(1))
 }
 
+// Sources and sinks that are let go are taken as parameters' types, and each in one place: that
+// they can be let go is proved of each way out, and in few words where their type is a parameter.
+
+/// Runs a script without words, from a source that there was memory for.
+pub(crate) fn run_from<S: Source + Drop, K: Sink>(
+    alloc: Global,
+    source: Result<S, NoMemory>,
+    sink: &mut K,
+) -> Result<Outcome, NoMemory> {
+    let mut source = source?;
+    let outcome = run(alloc, &[], &mut source, sink);
+    drop(source);
+    outcome
+}
+
+/// What a read of a few bytes finds, or 99 where it fails.
+pub(crate) fn read_count<S: Source>(source: &mut S, bytes: &mut [u8]) -> usize {
+    source.read(bytes).unwrap_or(99)
+}
+
+fn read_one<S: Source>(source: &mut S) -> usize {
+    read_count(source, &mut [0])
+}
+
+/// Runs a script so, and tells what a read of one byte finds behind it, too.
+pub(crate) fn run_and_read<S: Source + Drop, K: Sink>(
+    alloc: Global,
+    source: Result<S, NoMemory>,
+    sink: &mut K,
+) -> Result<(Outcome, usize), NoMemory> {
+    let mut source = source?;
+    let outcome = run(alloc, &[], &mut source, sink);
+    let count = read_one(&mut source);
+    drop(source);
+    Ok((outcome?, count))
+}
+
+/// The front of the bytes, of so many, or all where there are fewer.
+pub(crate) fn front(bytes: &[u8], count: usize) -> &[u8] {
+    bytes.get(..count).unwrap_or(bytes)
+}
+
+/// Whether a run ended so, and wrote these bytes.
+pub(crate) fn is_due(
+    found: Result<Outcome, NoMemory>,
+    bytes: &[u8],
+    outcome: Outcome,
+    written: &[u8],
+) -> Result<bool, NoMemory> {
+    Ok(found? == outcome && bytes == written)
+}
+
+/// Fails where something isn't as it is to be.
+pub(crate) fn pass(is_so: Result<bool, NoMemory>) -> Result<(), Fail> {
+    if is_so? {
+        return Ok(());
+    }
+    Err(Fail::new("a run ends otherwise, or writes other bytes"))
+}
+
 /// Fails where a run of the script without words ends otherwise, or writes other bytes.
 pub(crate) fn check_run(
     alloc: Global,
@@ -121,11 +186,9 @@ pub(crate) fn check_run(
     outcome: Outcome,
     written: &[u8],
 ) -> Result<(), Fail> {
-    let mut source = source(alloc, script, outside)?;
     let mut sink = sink(alloc, outside)?;
-    let found = run(alloc, &[], &mut source, &mut sink)?;
-    if found == outcome && sink.bytes() == written {
-        return Ok(());
-    }
-    Err(Fail::new("a run ends otherwise, or writes other bytes"))
+    let found = run_from(alloc, source(alloc, script, outside), &mut sink);
+    let is_so = is_due(found, sink.bytes(), outcome, written);
+    drop(sink);
+    pass(is_so)
 }

@@ -1,5 +1,7 @@
-use crate::runs::{LOADED, LOADS, SELECTED, SELECTS, ends, run, sink, sound};
-use lore_base::{NoMemory, OemText, Source, StdSink, StdSource, SureSink, SureSource};
+use crate::runs::{
+    LOADED, LOADS, SELECTED, SELECTS, ends, front, is_due, pass, run, run_and_read, sink, sound,
+};
+use lore_base::{NoMemory, OemText, Sink, Source, StdSink, StdSource, SureSink, SureSource};
 use lore_run::{Outcome, Status};
 use std::alloc::Global;
 use std::io;
@@ -38,68 +40,101 @@ impl<W: Write> Write for Failing<W> {
     }
 }
 
-// Fails where the selects, from a reader and to a writer that fail behind so many calls, end
-// otherwise or write other bytes.
-fn check_failing(
+// Runs a script from a source to a sink, and lets both go.
+fn run_out<S: Source + Drop, K: Sink + Drop>(
+    alloc: Global,
+    mut source: S,
+    mut sink: K,
+) -> Result<Outcome, NoMemory> {
+    let outcome = run(alloc, &[], &mut source, &mut sink);
+    drop(source);
+    drop(sink);
+    outcome
+}
+
+// Runs the selects from a reader and to a writer that fail behind so many calls.
+fn run_failing(
     alloc: Global,
     reads: usize,
     writes: usize,
+    bytes: &mut Vec<u8>,
+) -> Result<Outcome, NoMemory> {
+    let source = StdSource::new(Failing {
+        inner: Cursor::new(SELECTS),
+        calls: reads,
+    });
+    let sink = StdSink::new(Failing {
+        inner: bytes,
+        calls: writes,
+    });
+    run_out(alloc, source, sink)
+}
+
+// Fails where they end otherwise or write other bytes.
+fn check_failing(
+    alloc: Global,
+    (reads, writes): (usize, usize),
     outcome: Outcome,
     written: &[u8],
 ) -> Result<(), Fail> {
     let mut bytes = Vec::new(alloc);
-    let mut source = StdSource::new(Failing {
-        inner: Cursor::new(SELECTS),
-        calls: reads,
-    });
-    let mut sink = StdSink::new(Failing {
-        inner: &mut bytes,
-        calls: writes,
-    });
-    let found = run(alloc, &[], &mut source, &mut sink)?;
-    drop(sink);
-    if found == outcome && bytes.as_slice() == written {
-        Ok(())
-    } else {
-        Err(Fail::new("a run ends otherwise, or writes other bytes"))
+    let found = run_failing(alloc, reads, writes, &mut bytes);
+    let is_so = is_due(found, bytes.as_slice(), outcome, written);
+    drop(bytes);
+    pass(is_so)
+}
+
+// The calls of the reader and of the writer that don't fail, how the run ends, and how many bytes
+// are written.
+type Ending = ((usize, usize), Outcome, usize);
+
+fn endings() -> [Ending; 3] {
+    [
+        ((10_000, 10_000), ends(Status::DoneRefused, 3, 1), 63),
+        ((2, 10_000), ends(Status::ReadFault, 0, 0), 0),
+        ((10_000, 3), ends(Status::WriteFault, 1, 1), 3),
+    ]
+}
+
+fn check_endings(alloc: Global, endings: &[Ending]) -> Result<(), Fail> {
+    for (calls, outcome, count) in endings {
+        check_failing(alloc, *calls, *outcome, front(SELECTED, *count))?;
     }
+    Ok(())
 }
 
 #[test]
 fn readers_and_writers_of_single_bytes_may_fail(rt: HostRuntime) -> Result<(), Fail> {
-    for (reads, writes, outcome, count) in [
-        (10_000, 10_000, ends(Status::DoneRefused, 3, 1), 63),
-        (2, 10_000, ends(Status::ReadFault, 0, 0), 0),
-        (10_000, 3, ends(Status::WriteFault, 1, 1), 3),
-    ] {
-        let written = SELECTED.get(..count).unwrap_or(SELECTED);
-        check_failing(rt.alloc(), reads, writes, outcome, written)?;
-    }
-    Ok(())
+    check_endings(rt.alloc(), &endings())
+}
+
+fn sure_loads(alloc: Global, piece: u32) -> Result<SureSource, NoMemory> {
+    Ok(SureSource::new(OemText::from_bytes(alloc, LOADS)?, piece.max(1)))
 }
 
 // Runs the loads from a source that never fails, and gives how the run ends, what a read finds
 // behind it, and whether their replies are written.
 fn run_from_sure(alloc: Global, piece: u32) -> Result<(Outcome, usize, bool), NoMemory> {
-    let mut source = SureSource::new(OemText::from_bytes(alloc, LOADS)?, piece.max(1));
     let mut sink = sink(alloc, sound(piece, piece))?;
-    let outcome = run(alloc, &[], &mut source, &mut sink)?;
-    let behind = source.read(&mut [0]).unwrap_or(99);
-    Ok((outcome, behind, sink.bytes() == LOADED))
+    let found = run_and_read(alloc, sure_loads(alloc, piece), &mut sink);
+    let is_loaded = sink.bytes() == LOADED;
+    drop(sink);
+    let (outcome, behind) = found?;
+    Ok((outcome, behind, is_loaded))
 }
 
 // Runs the loads from a source to a sink that never fail, and gives how the run ends and what a
 // read finds behind it.
 fn run_to_sure(alloc: Global, piece: u32) -> Result<(Outcome, usize), NoMemory> {
-    let mut source = SureSource::new(OemText::from_bytes(alloc, LOADS)?, piece.max(1));
     let mut sink = SureSink::new(piece.max(1));
-    let outcome = run(alloc, &[], &mut source, &mut sink)?;
-    Ok((outcome, source.read(&mut [0]).unwrap_or(99)))
+    run_and_read(alloc, sure_loads(alloc, piece), &mut sink)
 }
+
+const SURE_PIECES: [u32; 3] = [1, 5, 65_536];
 
 #[test]
 fn sources_and_sinks_that_never_fail_are_taken(rt: HostRuntime) -> Result<(), Fail> {
-    for piece in [1, 5, 65_536] {
+    for piece in SURE_PIECES {
         let outcome = ends(Status::Done, 3, 0);
         assert_eq!(rt; run_from_sure(rt.alloc(), piece)?, (outcome, 0, true));
         assert_eq!(rt; run_to_sure(rt.alloc(), piece)?, (outcome, 0));

@@ -37,8 +37,8 @@ fn note(executed: Result<Reply, NoMemory>, dump: &mut Vec<u8>) -> Result<(), NoM
     noted
 }
 
-/// Executes a statement, and puts the lines that it answers. A text that is none counts as want of memory,
-/// and so does a refusal, since all that is executed here is accepted.
+/// Executes a statement, and puts the lines that it answers. A text that is none counts as want of
+/// memory, and so does a refusal, since all that is executed here is accepted.
 pub fn execute<L: Ledger>(
     alloc: Global,
     text: &[u8],
@@ -62,4 +62,17 @@ pub fn execute<L: Ledger>(
         }
         Err(_) => Err(NoMemory),
     }
+}
+
+/// Whether a statement is executed. The lines that it answers are let go.
+pub fn is_accepted<L: Ledger>(
+    alloc: Global,
+    text: &[u8],
+    db: &mut Db,
+    steps: &mut Steps<L>,
+) -> bool {
+    let mut none = Vec::new(alloc);
+    let executed = execute(alloc, text, db, steps, &mut none);
+    drop(none);
+    executed.is_ok()
 }

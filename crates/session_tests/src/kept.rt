@@ -1,6 +1,6 @@
 ghost use Rattle.std.specs.Prelude.{◌≡◌, ◌<◌, ◌≤◌};
 
-use crate::executing::execute;
+use crate::executing::{execute, is_accepted};
 use lore_base::{Label, NoMemory, OemText, Oid, Steps, Value};
 use lore_db::Db;
 use one_index::Blocks;
@@ -10,8 +10,8 @@ use std::sync::ledger::{Blank, Ledger};
 use std::test::Fail;
 
 // Statements that are all accepted, of each form that changes a database, with a ring in it, and
-// some that ask. A view is kept, and a history of the last changes, which concern the view; blocks are
-// asked for before a change and behind the last one.
+// some that ask. A view is kept, and a history of the last changes, which concern the view; blocks
+// are asked for before a change and behind the last one.
 const STATEMENTS: [&[u8]; 26] = [
     b"restore oem 2 next 1 nodes 4096 plan auto end",
     b"load A := &1 { b 1, c &2 { back &1, b \"x\" }, c { b 2 } }",
@@ -44,8 +44,8 @@ const STATEMENTS: [&[u8]; 26] = [
 // What differs between the first moment of a history and the last one, where it has so many more.
 const CHANGES: [&[u8]; 3] = [b"changes 0 0", b"changes 0 1", b"changes 0 2"];
 
-// The dump behind them: both members of `A` have a copy with a ring, and all persons vanished. Behind
-// it stands what the history tells, that blocks are kept, and whether the view is fresh.
+// The dump behind them: both members of `A` have a copy with a ring, and all persons vanished.
+// Behind it stands what the history tells, that blocks are kept, and whether the view is fresh.
 const DUMPED: &[u8] = b"oem 2
 next 203
 nodes 1000
@@ -106,10 +106,8 @@ V is fresh
 // How many blocks there are then: both members are alike, and so is what they lead to.
 const BLOCKS: u32 = 7;
 
-fn is_accepted<L: Ledger>(alloc: Global, text: &[u8], db: &mut Db, steps: &mut Steps<L>) -> bool {
-    let mut none = Vec::new(alloc);
-    execute(alloc, text, db, steps, &mut none).is_ok()
-}
+// Each call that tells something of a database stands in a function of its own without a clause, so
+// that no function carries what several of them tell.
 
 // The statement that tells what the history that is kept has.
 fn telling(db: &Db) -> Option<&'static [u8]> {
@@ -119,14 +117,54 @@ fn telling(db: &Db) -> Option<&'static [u8]> {
     }
 }
 
-// Whether the view has its rows.
-fn put_view(alloc: Global, db: &Db, dump: &mut Vec<u8>) -> Result<(), NoMemory> {
-    let name = OemText::from_bytes(alloc, b"V")?;
-    match db.views().rows(&name) {
-        Some(_) => dump.extend_from_slice(b"V is fresh\n")?,
-        None => dump.extend_from_slice(b"V isn't fresh\n")?,
+// What the history tells, where one is kept.
+fn put_changes<L: Ledger>(
+    alloc: Global,
+    db: &mut Db,
+    steps: &mut Steps<L>,
+    dump: &mut Vec<u8>,
+) -> Result<(), NoMemory> {
+    match telling(db) {
+        Some(text) => execute(alloc, text, db, steps, dump),
+        None => Ok(()),
+    }
+}
+
+// Whether blocks are kept.
+fn put_blocks(db: &Db, dump: &mut Vec<u8>) -> Result<(), NoMemory> {
+    if db.blocks().is_some() {
+        dump.extend_from_slice(b"blocks are kept\n")?;
     }
     Ok(())
+}
+
+fn is_fresh(alloc: Global, db: &Db) -> Result<bool, NoMemory> {
+    let name = OemText::from_bytes(alloc, b"V")?;
+    let is_fresh = db.views().rows(&name).is_some();
+    drop(name);
+    Ok(is_fresh)
+}
+
+// Whether the view has its rows.
+fn put_view(alloc: Global, db: &Db, dump: &mut Vec<u8>) -> Result<(), NoMemory> {
+    if is_fresh(alloc, db)? {
+        dump.extend_from_slice(b"V is fresh\n")?;
+    } else {
+        dump.extend_from_slice(b"V isn't fresh\n")?;
+    }
+    Ok(())
+}
+
+fn put_all<L: Ledger>(
+    alloc: Global,
+    db: &mut Db,
+    steps: &mut Steps<L>,
+    dump: &mut Vec<u8>,
+) -> Result<(), NoMemory> {
+    execute(alloc, b"dump", db, steps, dump)?;
+    put_changes(alloc, db, steps, dump)?;
+    put_blocks(db, dump)?;
+    put_view(alloc, db, dump)
 }
 
 fn dumped_once<L: Ledger>(
@@ -135,19 +173,12 @@ fn dumped_once<L: Ledger>(
     steps: &mut Steps<L>,
 ) -> Result<Vec<u8>, NoMemory> {
     let mut dump = Vec::new(alloc);
-    execute(alloc, b"dump", db, steps, &mut dump)?;
-    if let Some(text) = telling(db) {
-        execute(alloc, text, db, steps, &mut dump)?;
-    }
-    if db.blocks().is_some() {
-        dump.extend_from_slice(b"blocks are kept\n")?;
-    }
-    put_view(alloc, db, &mut dump)?;
+    put_all(alloc, db, steps, &mut dump)?;
     Ok(dump)
 }
 
-// The dump of the database, what its history tells, whether blocks are kept, and whether the view is
-// fresh, in a second try where memory was refused in the first.
+// The dump of the database, what its history tells, whether blocks are kept, and whether the view
+// is fresh, in a second try where memory was refused in the first.
 fn dumped<L: Ledger>(
     alloc: Global,
     db: &mut Db,
@@ -159,20 +190,31 @@ fn dumped<L: Ledger>(
     }
 }
 
+fn is_still<L: Ledger>(
+    alloc: Global,
+    before: &[u8],
+    db: &mut Db,
+    steps: &mut Steps<L>,
+) -> Result<bool, NoMemory> {
+    let after = dumped(alloc, db, steps)?;
+    let is_still = before == after.as_slice();
+    drop(after);
+    Ok(is_still)
+}
+
 // Executes a statement. Where memory was refused, the database and what is kept of it have to be
 // what they were; then the statement is executed again.
-fn executed<L: Ledger>(
+fn executed_behind<L: Ledger>(
     alloc: Global,
+    before: &[u8],
     text: &[u8],
     db: &mut Db,
     steps: &mut Steps<L>,
 ) -> Result<(), Fail> {
-    let before = dumped(alloc, db, steps)?;
     if is_accepted(alloc, text, db, steps) {
         return Ok(());
     }
-    let after = dumped(alloc, db, steps)?;
-    if before.as_slice() != after.as_slice() {
+    if !is_still(alloc, before, db, steps)? {
         return Err(Fail::new("a statement without memory changed something"));
     }
     if is_accepted(alloc, text, db, steps) {
@@ -182,6 +224,31 @@ fn executed<L: Ledger>(
     }
 }
 
+fn executed<L: Ledger>(
+    alloc: Global,
+    text: &[u8],
+    db: &mut Db,
+    steps: &mut Steps<L>,
+) -> Result<(), Fail> {
+    let before = dumped(alloc, db, steps)?;
+    let executed = executed_behind(alloc, before.as_slice(), text, db, steps);
+    drop(before);
+    executed
+}
+
+// The table is lent, so that what its texts are is no fact of the loop.
+fn execute_each<L: Ledger>(
+    alloc: Global,
+    texts: &[&[u8]],
+    db: &mut Db,
+    steps: &mut Steps<L>,
+) -> Result<(), Fail> {
+    for text in texts {
+        executed(alloc, text, db, steps)?;
+    }
+    Ok(())
+}
+
 fn database(alloc: Global) -> Result<Db, NoMemory> {
     match Db::new(alloc) {
         Ok(db) => Ok(db),
@@ -189,23 +256,45 @@ fn database(alloc: Global) -> Result<Db, NoMemory> {
     }
 }
 
+// Whether the history tells this number of the object.
+fn was(db: &Db, moment: u32, oid: Oid, number: i64) -> bool {
+    matches!(db.past_value(moment, oid), Some(Value::Whole(value)) if *value == number)
+}
+
+// Whether it tells any value.
+fn was_there(db: &Db, moment: u32, oid: Oid) -> bool {
+    db.past_value(moment, oid).is_some()
+}
+
 // Whether the value that was changed is told of each moment, and nothing of what wasn't there.
 fn tells_values(db: &Db) -> bool {
-    matches!(db.past_value(0, Oid(2)), Some(Value::Whole(3)))
-        && matches!(db.past_value(1, Oid(2)), Some(Value::Whole(4)))
-        && db.past_value(1, Oid(202)).is_none()
-        && db.past_value(2, Oid(202)).is_some()
-        && db.past_value(3, Oid(2)).is_none()
+    was(db, 0, Oid(2), 3)
+        && was(db, 1, Oid(2), 4)
+        && !was_there(db, 1, Oid(202))
+        && was_there(db, 2, Oid(202))
+        && !was_there(db, 3, Oid(2))
+}
+
+fn block_of(blocks: &Blocks, oid: Oid) -> Option<u32> {
+    blocks.block_of(oid)
+}
+
+fn has_members(blocks: &Blocks, block: u32) -> bool {
+    blocks.members(block).is_some()
+}
+
+fn out(blocks: &Blocks, block: u32, place: u32) -> Option<(Label, u32)> {
+    blocks.out(block, place)
 }
 
 // Whether the third block has both members of `A`, and its second edge leads back to their parent.
 fn tells_members(blocks: &Blocks) -> bool {
-    matches!(blocks.block_of(Oid(5)), Some(2))
-        && blocks.block_of(Oid(11)).is_none()
-        && blocks.members(2).is_some()
-        && blocks.members(BLOCKS).is_none()
-        && matches!(blocks.out(2, 1), Some((Label(2), 0)))
-        && blocks.out(2, 3).is_none()
+    matches!(block_of(blocks, Oid(5)), Some(2))
+        && block_of(blocks, Oid(11)).is_none()
+        && has_members(blocks, 2)
+        && !has_members(blocks, BLOCKS)
+        && matches!(out(blocks, 2, 1), Some((Label(2), 0)))
+        && out(blocks, 2, 3).is_none()
 }
 
 // Whether so many blocks are kept, and tell this.
@@ -216,21 +305,24 @@ fn tells_blocks(db: &Db) -> bool {
     }
 }
 
-// Executes all statements, and gives the dump behind them.
-fn all_executed<L: Ledger>(
-    alloc: Global,
-    db: &mut Db,
-    steps: &mut Steps<L>,
-) -> Result<Vec<u8>, Fail> {
-    for text in STATEMENTS {
-        executed(alloc, text, db, steps)?;
-    }
+fn check_told(db: &Db) -> Result<(), Fail> {
     if !tells_values(db) {
         return Err(Fail::new("the history tells other values"));
     }
     if !tells_blocks(db) {
         return Err(Fail::new("there are other blocks"));
     }
+    Ok(())
+}
+
+// Executes all statements, and gives the dump behind them.
+fn all_executed<L: Ledger>(
+    alloc: Global,
+    db: &mut Db,
+    steps: &mut Steps<L>,
+) -> Result<Vec<u8>, Fail> {
+    execute_each(alloc, &STATEMENTS, db, steps)?;
+    check_told(db)?;
     Ok(dumped(alloc, db, steps)?)
 }
 
@@ -246,11 +338,17 @@ fn dump_behind<L: Ledger>(alloc: Global, blank: Blank) -> Result<Vec<u8>, Fail>
     dump
 }
 
+fn is_due(dump: &[u8]) -> bool {
+    dump == DUMPED
+}
+
 // It passes also where any one allocation is refused, which `bench/faults session` does.
 #[test]
 fn a_session_goes_on_where_memory_was_refused(rt: HostRuntime) -> Result<(), Fail> {
     let dump = dump_behind::<Brand>(rt.alloc(), Blank::new(1))?;
-    if dump.as_slice() == DUMPED {
+    let is_due = is_due(dump.as_slice());
+    drop(dump);
+    if is_due {
         Ok(())
     } else {
         Err(Fail::new("the dump is another"))

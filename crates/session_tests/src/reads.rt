@@ -2,7 +2,7 @@ ghost use Rattle.std.specs.Prelude.{◌≡◌, ◌+◌, ◌<◌, ◌≤◌, leng
 ghost use Rattle.read_costs.specs.ReadCosts.{in_of};
 ghost use Rattle.session_tests.specs.Given.{giving};
 
-use crate::executing::execute;
+use crate::executing::is_accepted;
 use index_traits::Links;
 use lore_base::{Changes, EdgeBuf, NoMemory, Oid, Steps, Value};
 use lore_db::Db;
@@ -97,8 +97,9 @@ fn prepares_among_many<L: Ledger>(
     db: &mut Db,
     steps: &mut Steps<L>,
 ) -> Result<bool, NoMemory> {
-    let mut none = Vec::new(alloc);
-    execute(alloc, b"generate 7 1000", db, steps, &mut none)?;
+    if !is_accepted(alloc, b"generate 7 1000", db, steps) {
+        return Err(NoMemory);
+    }
     prepares_age(alloc, db.store(), steps)
 }
 

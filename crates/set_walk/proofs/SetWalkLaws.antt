@@ -9,11 +9,13 @@ use Rattle.std.proofs.lemmas.List.Elements.{Contains-push, Contains-push_cases}
 use Rattle.lore_base.specs.Paths.{PathTree}
 use Rattle.lore_base.specs.TargetSets.{ListsInOrder}
 use Rattle.lore_base.proofs.MemberLaws.{Contains-none}
+use Rattle.lore_base.proofs.TargetLaws.{ListsInOrder-same}
 use Rattle.graph_search.specs.Closures.{IsMet, LeadAlong, LeadsOn, IsClosure, Lists}
 use Rattle.graph_search.proofs.MeetingLaws.{IsMet-none, IsMet-one, IsMet-append_left, IsMet-append_right}
 use Rattle.graph_search.proofs.MeetingLaws.{IsMet-append_cases}
 use Rattle.path_expr.specs.Machines.{Machine, IsIn, Runs, StepsTo, IsStep, StandsFor}
 use Rattle.set_walk.specs.Types.{Oid, Label, States, StateMarks, END}
+use Rattle.index_traits.specs.Counts.{IsCount}
 use Rattle.set_walk.specs.SetPaths.{LeadsAlong, IsReachedBySets}
 use Rattle.set_walk.specs.inside.SetWalks.{HasState, marks, Leads, IsNext, AreStarts, IsEnded, NoneEnds, IsOnlyEnd}
 
@@ -130,6 +132,10 @@ module _ {N : Type 0} (has : N → Oid → Type 0) where
     λ member. (only, (is only).1 refl, member),
     λ ended. subst (λ (n : N). has n oid) ((is ended.0).0 ended.1) ended.2,
   )
+
+-- ---- two tests that pass the same objects count them alike
+pub count-same : (P Q : Oid → Type 0) → ((oid : Oid) → P oid ↔ Q oid) → (count : ℕ) → IsCount P count → IsCount Q count
+count-same P Q same count is = (is.0, ListsInOrder-same P Q is.0 same is.1, is.2)
 
 -- ---- a node that alone is met at the end
 module _ {N : Type 0} (places : List (N × StateMarks)) (place : N × StateMarks) where

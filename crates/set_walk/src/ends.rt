@@ -3,6 +3,7 @@ ghost use Rattle.lore_base.specs.Lists.{ExtendsBy};
 ghost use Rattle.lore_base.specs.TargetSets.{ListsInOrder};
 ghost use Rattle.path_expr.specs.Machines.{IsIn};
 ghost use Rattle.set_walk.specs.Types.{Oid as TheOid, END};
+ghost use Rattle.index_traits.specs.Counts.{IsCount};
 ghost use Rattle.set_walk.specs.inside.SetWalks.{IsEnded, IsOnlyEnd};
 
 use crate::set_graph::SetGraph;
@@ -85,5 +86,20 @@ pub(crate) fn append_ended<G: SetGraph>(
             let ended = union_of_ends(alloc, graph, met)?;
             buf.append(ended.as_slice())
         }
+    }
+}
+
+// The number of objects of the nodes that are met at the end, each counted once. Where one alone is
+// met, none is copied.
+pub(crate) fn count_ended<G: SetGraph>(
+    alloc: Global,
+    graph: &G,
+    met: &[(G::Node, StateMarks)],
+) -> Result<usize, NoMemory>
+    ensures { IfOk result (IsCount (IsEnded (G.has graph.now) met.now)) }
+{
+    match only_end(met) {
+        Some(node) => Ok(graph.members(node).len()),
+        None => Ok(union_of_ends(alloc, graph, met)?.len()),
     }
 }

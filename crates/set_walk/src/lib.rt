@@ -4,7 +4,7 @@
 #![tactic(auto)]
 
 pub use set_graph::SetGraph;
-pub use set_walk::select_by_sets;
+pub use set_walk::{count_by_sets, select_by_sets};
 
 mod ends;
 mod set_graph;

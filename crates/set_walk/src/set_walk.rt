@@ -1,15 +1,16 @@
-ghost use Rattle.std.specs.Prelude.{◌≡◌, ◌+◌, ◌≤◌, IfOk, OnOk, OnErr};
+ghost use Rattle.std.specs.Prelude.{◌≡◌, ◌↔◌, ◌+◌, ◌≤◌, IfOk, OnOk, OnErr};
 ghost use Rattle.graph_search.specs.Closures.{LeadsOn, Lists};
 ghost use Rattle.lore_base.specs.Lists.{ExtendsBy};
 ghost use Rattle.lore_base.specs.Paths.{path_tree, leaves};
 ghost use Rattle.lore_base.specs.TargetSets.{ListsInOrder};
 ghost use Rattle.path_expr.specs.Machines.{IsIn};
-ghost use Rattle.set_walk.specs.Types.{LEAVES};
+ghost use Rattle.set_walk.specs.Types.{Oid as TheOid, LEAVES};
+ghost use Rattle.index_traits.specs.Counts.{IsCount};
 ghost use Rattle.set_walk.specs.SetPaths.{IsReachedBySets};
 ghost use Rattle.set_walk.specs.inside.SetWalks.{HasState, Walked, walked_of, Leads};
-ghost use Rattle.set_walk.specs.inside.SetWalks.{IsNext, AreStarts};
+ghost use Rattle.set_walk.specs.inside.SetWalks.{IsNext, AreStarts, IsEnded};
 
-use crate::ends::append_ended;
+use crate::ends::{append_ended, count_ended};
 use crate::set_graph::SetGraph;
 use crate::state_marks::StateMarks;
 use graph_search::{Counter, Space, search};
@@ -113,6 +114,30 @@ fn starts_at<N: Copy>(
     Ok(starts)
 }
 
+// The nodes that are met along the path from the start, each with the states of the path's
+// automaton there. Where there is no start there are none.
+fn nodes_met<G: SetGraph, T: LabelTest>(
+    alloc: Global,
+    graph: &G,
+    labels: &T,
+    path: &Path,
+    start: Option<G::Node>,
+) -> Result<Vec<(G::Node, StateMarks)>, NoMemory>
+    requires leaves { leaves (path_tree path.now) ≤ LEAVES }
+    ensures { IfOk result (λ met. (oid : TheOid) → IsEnded (G.has graph.now) met.items oid
+        ↔ IsReachedBySets (T.texts labels.now) (G.goes graph.now) (G.has graph.now)
+        (path_tree path.now) start oid) }
+{
+    let automaton = Automaton::build(alloc, path)?;
+    let mut walk = SetWalk {
+        graph,
+        labels,
+        automaton: &automaton,
+    };
+    let starts = starts_at(alloc, start, automaton.starts())?;
+    search(alloc, &mut walk, starts.as_slice(), &mut ())
+}
+
 /// Appends the objects that the path reaches from the start along the graph of sets, ascending,
 /// each once: those of the nodes that its words lead to. Where there is no start there are none.
 pub fn select_by_sets<G: SetGraph, T: LabelTest>(
@@ -129,13 +154,23 @@ pub fn select_by_sets<G: SetGraph, T: LabelTest>(
         (path_tree path.now) start)) buf.old buf.new) }
     ensures err { OnErr result (buf.new ≡ buf.old) }
 {
-    let automaton = Automaton::build(alloc, path)?;
-    let mut walk = SetWalk {
-        graph,
-        labels,
-        automaton: &automaton,
-    };
-    let starts = starts_at(alloc, start, automaton.starts())?;
-    let met = search(alloc, &mut walk, starts.as_slice(), &mut ())?;
+    let met = nodes_met(alloc, graph, labels, path, start)?;
     append_ended(alloc, graph, met.as_slice(), buf)
+}
+
+/// How many objects `select_by_sets` appends. Where one node alone is met at the end, none is copied.
+pub fn count_by_sets<G: SetGraph, T: LabelTest>(
+    alloc: Global,
+    graph: &G,
+    labels: &T,
+    path: &Path,
+    start: Option<G::Node>,
+) -> Result<usize, NoMemory>
+    requires leaves { leaves (path_tree path.now) ≤ LEAVES }
+    ensures { IfOk result (IsCount
+        (IsReachedBySets (T.texts labels.now) (G.goes graph.now) (G.has graph.now)
+        (path_tree path.now) start)) }
+{
+    let met = nodes_met(alloc, graph, labels, path, start)?;
+    count_ended(alloc, graph, met.as_slice())
 }

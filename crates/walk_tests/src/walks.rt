@@ -49,7 +49,7 @@ fn reached<L: Ledger>(
     Ok(digits(&found))
 }
 
-// The same by going over the plain list.
+// The same by going over the plain list, where counting gives the number of those that are found.
 fn selected(alloc: Global, over: &Labelled, from: u32, path: &str) -> Result<u64, Fail> {
     let mut edges = edges_of(alloc, &RING)?;
     edges.sort_set();
@@ -59,7 +59,12 @@ fn selected(alloc: Global, over: &Labelled, from: u32, path: &str) -> Result<u64
         return Err(Fail::new("the path has too many leaves"));
     }
     let path = Path::Seq(paths);
-    NaivePaths::new(&edges, &over.labels).select(alloc, &path, Oid(from), &mut found)?;
+    let paths = NaivePaths::new(&edges, &over.labels);
+    paths.select(alloc, &path, Oid(from), &mut found)?;
+    let number = paths.count(alloc, &path, Oid(from))?;
+    if number.checked_add(1) != Some(found.len()) {
+        return Err(Fail::new("another number is counted than selected"));
+    }
     Ok(digits(&found))
 }
 

@@ -11,7 +11,7 @@ use Rattle.lore_base.specs.GuideLimits.{KeepLimits, cells}
 use Rattle.dataguide.specs.inside.NodeTables.{listed}
 use Rattle.dataguide.specs.inside.Entering.{IsEntered, AreEntered}
 use Rattle.lore_base.specs.Lists.{Extends}
-use Rattle.dataguide.specs.Touched.{IsTouched}
+use Rattle.dataguide.specs.Touched.{IsTouched, IsRead}
 use Rattle.set_steps.specs.SetSteps.{AreSteps, reads_of}
 use Rattle.lore_base.specs.declared.limits.TheConstants.{CELLS}
 use Rattle.std.specs.List.{AllZip}
@@ -108,26 +108,27 @@ pub record EntersAll {K : Type 0} (kept : List GuideNode) (limit : ℕ) (old : F
       × HasSet (found_nodes kept new) edge.1 (origin_set kept target.1)) targets row
   pub grown : Extends (found_nodes kept old) (found_nodes kept new)
 
--- the set was read exactly where it is touched
-abbrev pub Costs : List (List Oid) → List Oid → List Edge → List Oid → ℕ → ℕ → Type 0
-Costs kept dirty edges set before now =
-    (IsTouched kept dirty set × (now ≡ before + reads_of edges set))
+-- the set was read exactly where it is touched, all of it or what it was extended by
+abbrev pub Costs : List (List Oid) → List Oid → List Oid → List Edge → List Oid → ℕ → ℕ → Type 0
+Costs kept dirty grown edges set before now =
+    (IsTouched kept dirty set
+    × ((read : List Oid) × IsRead kept dirty grown set read × (now ≡ before + reads_of edges read)))
     ⊎ ((¬ IsTouched kept dirty set) × (now ≡ before))
 
 -- one of the steps of the set at a place passes a limit; the set was read where it is touched
 pub record HaltsAt (fault : GuideFault) (limit : ℕ) (edges : List Edge) (kept : List (List Oid))
-    (dirty : List Oid) (sets : List (List Oid)) (place before now : ℕ) : Type 0 where
+    (dirty grown : List Oid) (sets : List (List Oid)) (place before now : ℕ) : Type 0 where
   pub set : List Oid
   pub at : slice_get sets place ≡ Some set
   pub steps : List (Label × List Oid)
   pub are : AreSteps edges set steps
   pub stops : StopsAt fault limit sets (map (λ step. step.1) steps)
-  pub costs : Costs kept dirty edges set before now
+  pub costs : Costs kept dirty grown edges set before now
 
-abbrev pub IsHalted : GuideFault → ℕ → List Edge → List (List Oid) → List Oid → List (List Oid) → ℕ → ℕ → ℕ
-    → Type 0
-IsHalted NoMemory limit edges kept dirty sets place before now = Unit {0}
-IsHalted Nodes limit edges kept dirty sets place before now =
-    HaltsAt Nodes limit edges kept dirty sets place before now
-IsHalted Cells limit edges kept dirty sets place before now =
-    HaltsAt Cells limit edges kept dirty sets place before now
+abbrev pub IsHalted : GuideFault → ℕ → List Edge → List (List Oid) → List Oid → List Oid → List (List Oid)
+    → ℕ → ℕ → ℕ → Type 0
+IsHalted NoMemory limit edges kept dirty grown sets place before now = Unit {0}
+IsHalted Nodes limit edges kept dirty grown sets place before now =
+    HaltsAt Nodes limit edges kept dirty grown sets place before now
+IsHalted Cells limit edges kept dirty grown sets place before now =
+    HaltsAt Cells limit edges kept dirty grown sets place before now

@@ -32,12 +32,10 @@ returns-in_err-row-clause-halted g c =
     let at = found-at kept c.args.found.now c.args.place c.requires.place in
     let set = get_or sets c.args.place [] in
     let p = err_from_is_err_and c.from_residual-in_err-row.result c.from_residual-in_err-row.ensures.1 in
-    rw p.1 (subst (λ (f : GuideFault). IsHalted f c.args.limit edges (sets_of kept) c.args.change.now.dirty.now sets
-    c.args.place
-    c.args.steps.now c.targets_at.new.steps) (sym p.2)
-    (halted c.in_err-row.field-0.0 c.args.limit edges kept c.args.change.now.dirty.now sets c.args.place
-    c.args.steps.now
-    c.targets_at.new.steps set c.in_ok-targets.targets.items at (c.in_ok-targets.ensures.steps set at)
+    rw p.1 (subst (λ (f : GuideFault). IsHalted f c.args.limit edges (sets_of kept) c.args.change.now.dirty.now
+    c.args.change.now.grown.now sets c.args.place c.args.steps.now c.targets_at.new.steps) (sym p.2)
+    (halted c.in_err-row.field-0.0 c.args.limit edges kept c.args.change.now.dirty.now c.args.change.now.grown.now sets
+    c.args.place c.args.steps.now c.targets_at.new.steps set c.in_ok-targets.targets.items at (c.in_ok-targets.ensures.steps set at)
     (c.in_ok-targets.ensures.reads set at) c.in_err-row.ensures.stopped))
 
 pub returns-in_err-targets-clause-halted : goal.returns-in_err-targets-clause-halted
@@ -45,7 +43,7 @@ returns-in_err-targets-clause-halted g c =
     let kept = c.args.change.now.guide.now.nodes in
     let p = err_from_is_err_and c.from_residual.result c.from_residual.ensures.1 in
     rw p.1 (subst (λ (f : GuideFault). IsHalted f c.args.limit (g.A.Adjacent.edges c.args.change.now.after.now)
-    (sets_of kept) c.args.change.now.dirty.now
+    (sets_of kept) c.args.change.now.dirty.now c.args.change.now.grown.now
     (found_sets kept c.args.found.now) c.args.place c.args.steps.now c.targets_at.new.steps) (sym p.2) tt)
 
 pub put_edges-requires-clause-place : goal.put_edges-requires-clause-place

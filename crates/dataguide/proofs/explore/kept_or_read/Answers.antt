@@ -25,10 +25,11 @@ pub returns-then-meets-clause-reads : goal.returns-then-meets-clause-reads
 returns-then-meets-clause-reads g c =
     let kept = c.args.change.now.guide.now.nodes in
     let edges = g.A.Adjacent.edges c.args.change.now.after.now in
-    subst (λ (s : List Oid). Costs (sets_of kept) c.args.change.now.dirty.now edges s c.args.steps.now
+    let there = c.node_of-there.result.now in
+    subst (λ (s : List Oid). Costs (sets_of kept) c.args.change.now.dirty.now c.args.change.now.grown.now edges s c.args.steps.now
     c.read_targets.new.steps)
     (sym (kept-is kept c.args.node c.node_of-there.result.now c.requires.there c.node_of-there.ensures))
-    (inl (inr (c.meets.ensures.0 c.if-meets.true), c.in_ok-targets.ensures.reads))
+    (inl (inr (c.meets.ensures.0 c.if-meets.true), (there.set, inl refl, c.in_ok-targets.ensures.reads)))
 
 pub kept_or_grown-requires-clause-there : goal.kept_or_grown-requires-clause-there
 kept_or_grown-requires-clause-there g c =

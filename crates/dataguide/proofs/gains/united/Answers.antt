@@ -1,14 +1,20 @@
 use Rattle.std.proofs.Common.{◌∙◌}
 use Rattle.std.proofs.lemmas.List.Elements.{All-contains}
+use Rattle.dataguide.specs.Deltas.{origin_set}
 use Rattle.dataguide.specs.inside.Gains.{IsThere}
-use Rattle.dataguide.proofs.GainLaws.{union-step, union-kept, union-none}
+use Rattle.dataguide.proofs.GainLaws.{union-step, union-kept, union-none, node-ascends}
 use Rattle.dataguide.proofs.gains.united.Goals as goal
+
+pub node_or_grown-requires-clause-ascend : goal.node_or_grown-requires-clause-ascend
+node_or_grown-requires-clause-ascend c =
+    node-ascends c.args.guide.now.nodes c.args.edges.now c.args.row.now c.args.label c.requires.edges c.requires.row
+    c.next_by-node.result c.next_by-node.ensures.found c.requires.there
 
 pub returns-in-Some-clause-set : goal.returns-in-Some-clause-set
 returns-in-Some-clause-set c =
     union-step c.args.guide.now.nodes c.args.edges.now c.args.row.now c.args.label c.requires.edges c.requires.row
     c.next_by-node.result c.next_by-node.ensures.found c.next_by-node.ensures.none c.in-Some.step.now
-    c.in-Some.ensures.found c.in_ok-set-in-Some.set c.in_ok-set-in-Some.ensures
+    c.in-Some.ensures.found (origin_set c.args.guide.now.nodes c.in_ok-target-in-Some.target) c.in_ok-target-in-Some.ensures.set
 
 pub returns-in-Some-node-clause-there : goal.returns-in-Some-node-clause-there
 returns-in-Some-node-clause-there c =

@@ -26,7 +26,7 @@ returns-clause-within g c =
     let lost = c.args.lost.now in
     let fresh = c.args.fresh.now in
     ok-both c.plan.result _ _ _ (λ delta stands reads.
-    reads_are_within kept (parents_of lost) (parents_of (lost ++ fresh)) c.args.names.now
+    reads_are_within kept (parents_of lost) (parents_of fresh) (parents_of (lost ++ fresh)) c.args.names.now
     (g.A.Adjacent.edges c.args.after.now) (sets_of (nodes_then c.args.guide.now.nodes delta.nodes))
     c.args.steps.now c.plan.new.steps stands.nodes reads (lost-parents lost fresh))
     c.plan.ensures.guide c.plan.ensures.steps
@@ -37,6 +37,6 @@ returns-clause-refused g c =
     let lost = c.args.lost.now in
     let fresh = c.args.fresh.now in
     IfErr-weaker c.plan.result _ _ (λ fault reads no_memory.
-    some_reads_are_within kept (parents_of lost) (parents_of (lost ++ fresh)) c.args.limit c.args.names.now
+    some_reads_are_within kept (parents_of lost) (parents_of fresh) (parents_of (lost ++ fresh)) c.args.limit c.args.names.now
     (g.A.Adjacent.edges c.args.after.now) c.args.steps.now c.plan.new.steps (reads no_memory) (lost-parents lost fresh))
     c.plan.ensures.reads

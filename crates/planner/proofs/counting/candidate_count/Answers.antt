@@ -1,7 +1,7 @@
 use Rattle.std.proofs.Common.{Option, sym, subst}
+use Rattle.index_traits.specs.Counts.{IsCount}
 use Rattle.lorel_bound.specs.Plans.{IsCandidate}
 use Rattle.planner.specs.Types.{Label}
-use Rattle.planner.specs.Choices.{IsCount}
 use Rattle.planner.proofs.CountLaws.{found_counted}
 use Rattle.planner.proofs.counting.candidate_count.Goals as goal
 

@@ -32,7 +32,7 @@ pub returns-clause-steps : goal.returns-clause-steps
 returns-clause-steps g c =
     let edges = g.A.Adjacent.edges c.args.graph.now in
     let sets = sets_of (guide_then c.new-guide.result.nodes c.in_ok-delta.delta).nodes in
-    let reads = subst (λ (l : List GuideNode). ReadsTouched (sets_of l) [] edges sets c.args.steps.now c.plan.new.steps)
+    let reads = subst (λ (l : List GuideNode). ReadsTouched (sets_of l) [] [] edges sets c.args.steps.now c.plan.new.steps)
     c.new-guide.ensures.nodes c.in_ok-delta.ensures.steps in
     reads-all edges sets c.args.steps.now c.plan.new.steps c.in_ok-delta.ensures.guide.nodes.apart reads
     ∙ ap (λ (v : GuideGraph). c.args.steps.now + sum_by (reads_of edges) (sets_of v.nodes)) (sym c.commit.ensures)
@@ -43,5 +43,5 @@ returns-in_err-delta-clause-reads g c =
     let edges = g.A.Adjacent.edges c.args.graph.now in
     let p = err_from_is_err_and c.from_residual.result c.from_residual.ensures.1 in
     rw p.1 (λ not_memory. reads-at_most c.args.limit names edges c.args.steps.now c.plan.new.steps
-    (subst (λ (l : List GuideNode). ReadsSome (sets_of l) [] c.args.limit names edges c.args.steps.now c.plan.new.steps)
+    (subst (λ (l : List GuideNode). ReadsSome (sets_of l) [] [] c.args.limit names edges c.args.steps.now c.plan.new.steps)
     c.new-guide.ensures.nodes (c.in_err-delta.ensures.reads (λ is. not_memory (p.2 ∙ is)))))

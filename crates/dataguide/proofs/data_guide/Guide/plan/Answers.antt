@@ -39,7 +39,8 @@ nodes-init g c =
       found = enters.found;
       fit = enters.fit;
       searched = searched-start names edges (found_nodes kept found) c.in_ok-starts.ensures.table entered;
-      reads = reads-none (sets_of kept) (parents_of c.args.lost.now) edges (found_sets kept found) c.args.steps.now;
+      reads = reads-none (sets_of kept) (parents_of c.args.lost.now) (parents_of c.args.fresh.now) edges
+          (found_sets kept found) c.args.steps.now;
       entries = subst (λ (l : List (List ℕ × Node)). AllZip (IsEntry (found_nodes kept found)) names l)
           (sym c.into_items-entries.ensures)
           (entries-start kept (found_nodes kept found) names c.in_ok-starts.starts.items c.in_ok-row.row
@@ -67,12 +68,12 @@ nodes-preserved g c =
       fit = c.in_ok-expand.ensures.fit;
       searched = searched-more names edges (found_nodes kept old) (found_nodes kept new) c.nodes.next before.searched
           now;
-      reads = reads-more (sets_of kept) (parents_of c.args.lost.now) edges (found_sets kept old) (found_sets kept new)
-          c.nodes.next now.set
+      reads = reads-more (sets_of kept) (parents_of c.args.lost.now) (parents_of c.args.fresh.now) edges
+          (found_sets kept old) (found_sets kept new) c.nodes.next now.set
           c.args.steps.now c.nodes.steps c.expand.new.steps before.searched.is.apart
           (expanded-sets edges (found_nodes kept old) (found_nodes kept new) c.nodes.next now) now.at before.reads
-          (costs-same (sets_of kept) c.in_ok-dirty.dirty (parents_of c.args.lost.now) c.in_ok-dirty.ensures.exact edges now.set
-          c.nodes.steps c.expand.new.steps (c.in_ok-expand.ensures.reads now.set now.at));
+          (costs-same (sets_of kept) c.in_ok-dirty.dirty (parents_of c.args.lost.now) c.in_ok-dirty.ensures.exact
+          c.in_ok-grown.grown (parents_of c.args.fresh.now) c.in_ok-grown.ensures.exact edges now.set c.nodes.steps c.expand.new.steps (c.in_ok-expand.ensures.reads now.set now.at));
       entries = entries-stay edges (found_nodes kept old) (found_nodes kept new) c.nodes.next now names
           c.into_items-entries.result.items before.entries;
       passed = omega (arith, grown-passed kept edges old new c.nodes.next now within);
@@ -135,8 +136,8 @@ returns-clause-steps g c =
       nodes-count kept found,
       length-map (found_nodes kept found) (λ (n : GuideNode). n.set),
     ) in
-    subst (λ (l : List (List Oid)). ReadsTouched (sets_of kept) (parents_of c.args.lost.now) edges l c.args.steps.now
-    c.nodes.steps) (take_all c.nodes.next (found_sets kept found) few) c.nodes.invariant.reads
+    subst (λ (l : List (List Oid)). ReadsTouched (sets_of kept) (parents_of c.args.lost.now) (parents_of c.args.fresh.now)
+    edges l c.args.steps.now c.nodes.steps) (take_all c.nodes.next (found_sets kept found) few) c.nodes.invariant.reads
 
 pub returns-in_err-row-clause-cause : goal.returns-in_err-row-clause-cause
 returns-in_err-row-clause-cause g c =
@@ -162,7 +163,7 @@ returns-in_err-expand-clause-cause g c =
     rw p.1 (subst (λ (f : GuideFault). GuideCause c.args.limit names edges f) (sym p.2)
     (steps-refused names edges c.in_ok-starts.ensures.table c.in_err-expand.field-0.0 c.args.limit
     (found_nodes kept c.nodes.found) c.nodes.next
-    (sets_of kept) c.in_ok-dirty.dirty c.nodes.steps c.expand.new.steps c.nodes.invariant.searched
+    (sets_of kept) c.in_ok-dirty.dirty c.in_ok-grown.grown c.nodes.steps c.expand.new.steps c.nodes.invariant.searched
     c.in_err-expand.ensures.halted))
 
 pub returns-in_err-expand-clause-reads : goal.returns-in_err-expand-clause-reads
@@ -172,12 +173,15 @@ returns-in_err-expand-clause-reads g c =
     let edges = g.A.Adjacent.edges c.args.after.now in
     let p = err_from_is_err_and c.from_residual-in_err-expand.result c.from_residual-in_err-expand.ensures.1 in
     let exact = c.in_ok-dirty.ensures.exact in
+    let grew = c.in_ok-grown.ensures.exact in
     let reads = reads-same (sets_of kept) (parents_of c.args.lost.now) c.in_ok-dirty.dirty
-    (λ oid. ((exact oid).1, (exact oid).0)) edges (take c.nodes.next (found_sets kept c.nodes.found)) c.args.steps.now
+    (λ oid. ((exact oid).1, (exact oid).0)) (parents_of c.args.fresh.now) c.in_ok-grown.grown
+    (λ oid. ((grew oid).1, (grew oid).0)) edges (take c.nodes.next (found_sets kept c.nodes.found)) c.args.steps.now
     c.nodes.steps c.nodes.invariant.reads in
     rw p.1 (λ not_memory. some-same (sets_of kept) c.in_ok-dirty.dirty (parents_of c.args.lost.now)
-    c.in_ok-dirty.ensures.exact c.args.limit names edges c.args.steps.now c.expand.new.steps
-    (reads-halted c.in_err-expand.field-0.0 c.args.limit (sets_of kept) c.in_ok-dirty.dirty names edges
+    c.in_ok-dirty.ensures.exact c.in_ok-grown.grown (parents_of c.args.fresh.now) c.in_ok-grown.ensures.exact
+    c.args.limit names edges c.args.steps.now c.expand.new.steps
+    (reads-halted c.in_err-expand.field-0.0 c.args.limit (sets_of kept) c.in_ok-dirty.dirty c.in_ok-grown.grown names edges
     (found_nodes kept c.nodes.found) c.nodes.next c.args.steps.now c.nodes.steps c.expand.new.steps
     (λ is. not_memory (p.2 ∙ is))
     c.nodes.invariant.searched c.nodes.invariant.fit reads c.in_err-expand.ensures.halted))
@@ -186,7 +190,7 @@ pub returns-in_err-row-clause-reads : goal.returns-in_err-row-clause-reads
 returns-in_err-row-clause-reads g c =
     let p = err_from_is_err_and c.from_residual-in_err-row.result c.from_residual-in_err-row.ensures.1 in
     rw p.1 (λ not_memory. reads-nothing (sets_of c.args.self.now.nodes) (parents_of c.args.lost.now)
-    (g.A.Adjacent.edges c.args.after.now)
+    (parents_of c.args.fresh.now) (g.A.Adjacent.edges c.args.after.now)
     c.args.limit c.args.names.now c.args.steps.now)
 
 pub returns-clause-fits : goal.returns-clause-fits

@@ -15,8 +15,8 @@ invariant-nodes g l =
       found : IsFound kept l.found;
       fit : KeepLimits l.limit (found_sets kept l.found);
       searched : IsSearched l.names edges (found_nodes kept l.found) l.next;
-      reads : ReadsTouched (sets_of kept) (parents_of l.lost) edges (take l.next (found_sets kept l.found)) l.fn.steps
-          l.steps;
+      reads : ReadsTouched (sets_of kept) (parents_of l.lost) (parents_of l.fresh) edges
+          (take l.next (found_sets kept l.found)) l.fn.steps l.steps;
       entries : AllZip (IsEntry (found_nodes kept l.found)) l.names l.entries.items;
       passed : l.next ≤ length l.found.nodes.items;
     }

@@ -98,12 +98,13 @@ returns-clause-spent g c =
     let leads = subst (λ (s : RoomyDatabase). IsGraphAfter s.db.graph changes (graph_then s.db.graph plan)) (sym c.self.view_is) c.requires.after in
     let stands = graph_guided c.names-names.result.now c.then-then.result.edges after c.names-names.ensures c.then-then.ensures.edges
     (guides.guide_then c.self.inside.guide.nodes c.in_ok-guide.guide) c.in_ok-guide.ensures.guide c.in_ok-guide.ensures.order in
-    let reads : ReadsTouched sets (parents_of plan.delta.edges_gone) after.edges found c.args.steps.now c.plan.new.steps =
-    rw (c.then-then.ensures.edges, c.as_slice-lost.ensures, c.delta-delta.ensures) at c.in_ok-guide.ensures.steps in
+    let reads : ReadsTouched sets (parents_of plan.delta.edges_gone) (parents_of plan.delta.edges_come) after.edges found
+    c.args.steps.now c.plan.new.steps =
+    rw (c.then-then.ensures.edges, c.as_slice-lost.ensures, c.as_slice-fresh.ensures, c.delta-delta.ensures) at c.in_ok-guide.ensures.steps in
     subst (λ (s : RoomyDatabase). IsSpent (IsTouched s.db.graph changes (graph_then s.db.graph plan)) (reads_of (graph_then s.db.graph plan).edges)
     c.args.steps.now c.plan.new.steps) c.self.view_is
     (planned_spent graph changes after leads sets c.self.invariant.guided.stands.nodes.exact plan.delta.edges_gone differ.edges_gone found
-    stands.stands.nodes.exact c.args.steps.now c.plan.new.steps reads)
+    stands.stands.nodes.exact (parents_of plan.delta.edges_come) c.args.steps.now c.plan.new.steps reads)
 
 pub returns-in_err-guide-clause-refused : goal.returns-in_err-guide-clause-refused
 returns-in_err-guide-clause-refused g c =
@@ -117,9 +118,10 @@ returns-in_err-guide-clause-refused g c =
     let leads = subst (λ (s : RoomyDatabase). IsGraphAfter s.db.graph changes (graph_then s.db.graph plan)) (sym c.self.view_is) c.requires.after in
     let answered = err_from_is_err_and c.from_residual.result c.from_residual.ensures.1 in
     rw (answered.1, answered.2) (λ other.
-    let reads : ReadsSome sets (parents_of plan.delta.edges_gone) limit after.names after.edges c.args.steps.now c.plan.new.steps =
-    rw (c.then-then.ensures.edges, c.names-names.ensures, c.as_slice-lost.ensures, c.delta-delta.ensures) at c.in_err-guide.ensures.reads (λ is. other (ap guide_fault is)) in
+    let reads : ReadsSome sets (parents_of plan.delta.edges_gone) (parents_of plan.delta.edges_come) limit after.names after.edges
+    c.args.steps.now c.plan.new.steps =
+    rw (c.then-then.ensures.edges, c.names-names.ensures, c.as_slice-lost.ensures, c.as_slice-fresh.ensures, c.delta-delta.ensures) at c.in_err-guide.ensures.reads (λ is. other (ap guide_fault is)) in
     subst (λ (s : RoomyDatabase). IsSpent (IsTouched s.db.graph changes (graph_then s.db.graph plan)) (reads_of (graph_then s.db.graph plan).edges)
     c.args.steps.now c.plan.new.steps) c.self.view_is
-    (refused_spent graph changes after leads sets c.self.invariant.guided.stands.nodes.exact plan.delta.edges_gone differ.edges_gone limit
+    (refused_spent graph changes after leads sets c.self.invariant.guided.stands.nodes.exact plan.delta.edges_gone differ.edges_gone (parents_of plan.delta.edges_come) limit
     c.args.steps.now c.plan.new.steps reads))

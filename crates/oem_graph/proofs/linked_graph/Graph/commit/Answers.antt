@@ -1,5 +1,6 @@
 use Rattle.std.proofs.Common.{List, sym, ap, ◌∙◌, refl, subst, arith}
 use Rattle.lore_base.specs.Databases.{AreAscendingEdges}
+use Rattle.edge_lists.specs.Objects.{AreAscendingObjects}
 use Rattle.oem_graph.specs.Types.{Edge}
 use Rattle.oem_graph.specs.Graphs.{RoomyGraph}
 use Rattle.oem_graph.specs.Plans.{PlannedGraph, graph_then}
@@ -58,6 +59,11 @@ commit_edges-requires-clause-order c = subst (λ (l : List Edge). AreAscendingEd
 
 pub commit_edges-requires-clause-places : goal.commit_edges-requires-clause-places
 commit_edges-requires-clause-places c = rw (c.as_slice.ensures, c.as_slice-2.ensures.value) c.plan.invariant.places
+
+pub drop_objects-requires-clause-objects : goal.drop_objects-requires-clause-objects
+drop_objects-requires-clause-objects c =
+    subst AreAscendingObjects (sym (with_all c.commit_edges.new.objects c.put_objects.new.objects.items c.put_objects.new.objects.len
+    (sym c.as_mut_slice.ensures.len ∙ sym (same-length _ _ c.commit_edges.ensures.objects)))) c.commit_edges.ensures.ascend
 
 pub invariant_of-self : goal.invariant_of-self
 invariant_of-self c =
