@@ -1,9 +1,9 @@
 -- The steps of a set that extends that of a node.
-use Rattle.std.proofs.Common.{◌≡◌, ◌⊎◌, ◌↔◌, inl, inr, ℕ, ◌+◌, ◌<◌, ◌≤◌, List, [], ◌∷◌, ◌++◌, map, length, take, drop, get_or}
+use Rattle.std.proofs.Common.{◌-◌, refl, length-append, ◌≡◌, ◌⊎◌, ◌↔◌, inl, inr, ℕ, ◌+◌, ◌<◌, ◌≤◌, List, [], ◌∷◌, ◌++◌, map, length, take, drop, get_or}
 use Rattle.std.proofs.Common.{Contains, Option, Some, None, IfSome, sym, ap, ◌∙◌, subst, arith}
 use Rattle.std.specs.List.{slice_get}
-use Rattle.std.proofs.lemmas.List.{take_all, take_more, take-append-drop, length-take}
-use Rattle.std.proofs.lemmas.List.Elements.{All-contains, Contains-push, Contains-push_cases, Contains-append_left}
+use Rattle.std.proofs.lemmas.List.{get_or_append_left, get_or-append_right, take_all, take_more, take-append-drop, length-take}
+use Rattle.std.proofs.lemmas.List.Elements.{All-contains, Contains-append_cases, Contains-append_right, Contains-push, Contains-push_cases, Contains-append_left}
 use Rattle.std.proofs.lemmas.Option.{slice_get_within, get_or_from_slice_get}
 use Rattle.lore_base.proofs.MemberLaws.{Contains-same}
 use Rattle.lore_base.proofs.ToldLaws.{told_member, told_oid}
@@ -194,6 +194,32 @@ more-all oids others more set i next parts past none same oid =
         | inr new ↦ inr ((same oid).0 new)
       ])),
     )
+
+-- what stands behind others, where all ascend
+module _ (oids others rest : List Oid) (are : oids ≡ others ++ rest) (ascend : IsSet oids) where
+  pub rest-apart : ¬ Meet others rest
+  rest-apart meet =
+      let oid = meet.0 in
+      let first = meet.1 in
+      let second = meet.2 in
+      let place = length others + second.0 in
+      let left : place - length others ≡ second.0 = omega arith in
+      let less = subst IsSet are ascend first.0 place oid (omega (arith, first.1))
+      (omega (arith, second.1, length-append others rest)) in
+      let early : get_or (others ++ rest) first.0 oid ≡ oid = get_or_append_left others rest oid first.0 first.1 ∙ first.2 in
+      let late : get_or (others ++ rest) place oid ≡ oid =
+      get_or-append_right others rest (length others) place oid refl (omega arith)
+      ∙ ap (λ (k : ℕ). get_or rest k oid) left ∙ second.2 in
+      omega (arith, less, ap (λ (o : Oid). o.0) early, ap (λ (o : Oid). o.0) late)
+
+  pub rest-parts : (oid : Oid) → Contains oids oid ↔ (Contains others oid ⊎ Contains rest oid)
+  rest-parts oid = (
+    λ there. Contains-append_cases others rest oid (subst (λ (l : List Oid). Contains l oid) are there),
+    λ either. subst (λ (l : List Oid). Contains l oid) (sym are) (elim either [
+      | inl early ↦ Contains-append_left others rest oid early
+      | inr late ↦ Contains-append_right others rest oid late
+    ]),
+  )
 
 -- what a clean set that gained nothing is extended by
 pub extended-by : (dirty grown own set : List Oid) → (¬ Meet own dirty) → (¬ Meet own grown) → (found : Option (List Oid))

@@ -119,20 +119,14 @@ fn read_or_extended<A: Adjacent, L: Ledger>(
         set.now read
         × (steps.new ≡ steps.old + reads_of (A.edges change.now.after.now) read)) }
 {
-    let Some(there) = node_before(change.guide, base) else {
-        let targets = read_targets(alloc, reader, change.after, set, steps)?;
-        return Ok(targets);
-    };
-    match members_more(alloc, change, set, there)? {
-        Some(more) => {
+    if let Some(there) = node_before(change.guide, base) {
+        if let Some(more) = members_more(alloc, change, set, there)? {
             let targets = extended_targets(alloc, reader, change, there, &more, steps)?;
             return Ok(targets);
         }
-        None => {
-            let targets = read_targets(alloc, reader, change.after, set, steps)?;
-            return Ok(targets);
-        }
     }
+    let targets = read_targets(alloc, reader, change.after, set, steps)?;
+    Ok(targets)
 }
 
 // Where the set of the found node at a place is from.
@@ -188,7 +182,8 @@ fn kept_or_read<A: Adjacent, L: Ledger>(
     ensures there { IfOk result (λ targets.
         All (λ target. IsOrigin change.now.guide.now.nodes target.1) targets.items) }
     ensures reads { OnOk result (Costs (sets_of change.now.guide.now.nodes) change.now.dirty.now
-        change.now.grown.now (A.edges change.now.after.now) (origin_set change.now.guide.now.nodes (Kept node))
+        change.now.grown.now (A.edges change.now.after.now)
+        (origin_set change.now.guide.now.nodes (Kept node))
         steps.old steps.new) }
 {
     let there = node_of(change.guide, node);
@@ -201,13 +196,14 @@ fn kept_or_read<A: Adjacent, L: Ledger>(
 }
 
 // The targets of the node at a place: those of the guide before where its set was a node's and
-// has no dirty member, and else read from the graph, all or what a set before was extended by.
+// has no dirty member, and else read from the graph, all or what the base's set was extended by.
 fn targets_at<A: Adjacent, L: Ledger>(
     alloc: Global,
     found: &Found,
     place: usize,
     change: &Change<A>,
-    reading: &mut Reading,
+    base: Option<Node>,
+    reader: &mut StepReader,
     steps: &mut Steps<L>,
 ) -> Result<Vec<(Label, Origin)>, NoMemory>
     requires stood { IsChange change.now.guide.now change.now.dirty.now change.now.grown.now
@@ -227,13 +223,10 @@ fn targets_at<A: Adjacent, L: Ledger>(
 {
     match origin_at(found, place) {
         Origin::Fresh(set) => {
-            let base = noted(&reading.bases, place);
-            let reader = &mut reading.reader;
             let targets = read_or_extended(alloc, reader, change, set, base, steps)?;
             return Ok(targets);
         }
         Origin::Kept(node) => {
-            let reader = &mut reading.reader;
             let targets = kept_or_read(alloc, reader, change, *node, steps)?;
             return Ok(targets);
         }
@@ -281,7 +274,8 @@ pub(crate) fn expand<A: Adjacent, L: Ledger>(
         (found_sets change.now.guide.now.nodes found.old) place steps.old steps.new) }
 {
     let base = base_at(found, place, &reading.bases);
-    let targets = targets_at(alloc, found, place, change, reading, steps)?;
+    let reader = &mut reading.reader;
+    let targets = targets_at(alloc, found, place, change, base, reader, steps)?;
     let row = enter_all(alloc, found, change.guide, targets, limit)?;
     note_bases(&mut reading.bases, change, base, row.as_slice())?;
     found.put_edges(change.guide, place, row);

@@ -20,8 +20,8 @@ use set_steps::StepReader;
 use std::alloc::Global;
 use std::sync::ledger::Ledger;
 
-/// For nodes that were found, by their places, the node before whose set theirs may extend. No clause
-/// speaks of it: whoever takes one looks whether it is so.
+// For nodes that were found, by their places, the node before whose set theirs may extend. No clause
+// speaks of it: whoever takes one looks whether it is so.
 pub(crate) type Bases = Vec<Option<Node>>;
 
 // The node before with the number, if there is one.
@@ -33,20 +33,17 @@ pub(crate) fn node_before(guide: &Guide, node: Option<Node>) -> Option<&GuideNod
 
 // The node before that is noted for the one at the place.
 pub(crate) fn noted(bases: &Bases, place: usize) -> Option<Node> {
-    match bases.get(place) {
-        Some(base) => *base,
-        None => None,
-    }
+    *bases.get(place)?
 }
 
 // Notes a node before for a node that was found, where none is noted.
-fn note_base(bases: &mut Bases, found: Node, base: Option<Node>) -> Result<(), NoMemory> {
+fn note_base(bases: &mut Bases, found: Node, base: Node) -> Result<(), NoMemory> {
     let place = found.0 as usize;
     if place >= bases.len() {
         bases.resize(place + 1, None)?;
     }
     if bases[place].is_none() {
-        bases[place] = base;
+        bases[place] = Some(base);
     }
     Ok(())
 }
@@ -65,7 +62,9 @@ pub(crate) fn note_bases<A: Adjacent>(
         return Ok(());
     };
     'row: for (label, node) in row {
-        note_base(bases, *node, next_by(there.edges.as_slice(), *label))?;
+        if let Some(before) = next_by(there.edges.as_slice(), *label) {
+            note_base(bases, *node, before)?;
+        }
     }
     Ok(())
 }
@@ -80,8 +79,18 @@ fn stands_at(oids: &[Oid], place: usize, oid: Oid) -> bool
     }
 }
 
+// The set of these objects, which ascend.
+fn set_of(alloc: Global, oids: &[Oid]) -> Result<OidSet, NoMemory>
+    requires { IsSet oids.now }
+    ensures { IfOk result (λ set. set ≡ oids.now) }
+{
+    let mut set = OidBuf::with_capacity(alloc, oids.len())?;
+    set.append(oids)?;
+    Ok(OidSet::from_ascending(set))
+}
+
 // The ascending objects that the others lack, where the others, in the same order, are among them; else
-// None.
+// None. Most often these come behind all others.
 fn more_in(alloc: Global, oids: &[Oid], others: &[Oid]) -> Result<Option<OidSet>, NoMemory>
     requires { IsSet oids.now }
     ensures ascend { IfOk result (λ found. IfSome found (λ more. IsSet more)) }
@@ -89,6 +98,10 @@ fn more_in(alloc: Global, oids: &[Oid], others: &[Oid]) -> Result<Option<OidSet>
     ensures parts { IfOk result (λ found. IfSome found (λ more. (oid : TheOid)
         → Contains oids.now oid ↔ (Contains others.now oid ⊎ Contains more oid))) }
 {
+    if let Some(rest) = oids.strip_prefix(others) {
+        let set = set_of(alloc, rest)?;
+        return Ok(Some(set));
+    }
     let mut more = OidBuf::new(alloc);
     let mut next = 0;
     'oids: for oid in oids {
@@ -106,7 +119,7 @@ fn more_in(alloc: Global, oids: &[Oid], others: &[Oid]) -> Result<Option<OidSet>
 }
 
 // The members that the set has beside those of a node before, where that one lost no edge, gained
-// none, and is part of it.
+// none, and is part of it; else None.
 pub(crate) fn members_more<A>(
     alloc: Global,
     change: &Change<A>,

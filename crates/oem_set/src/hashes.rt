@@ -1,4 +1,5 @@
-ghost use Rattle.std.specs.Prelude.{◌≡◌};
+ghost use Rattle.std.specs.Prelude.{◌≡◌, ◌++◌, List};
+ghost use Rattle.oem_set.specs.Types.{Oid as TheOid};
 ghost use Rattle.oem_set.specs.Sets.{hash_of};
 
 use lore_base::Oid;
@@ -10,7 +11,15 @@ const FACTOR: u64 = 6_364_136_223_846_793_005;
 pub(crate) fn hash_oids(oids: &[Oid]) -> u64
     ensures { result ≡ hash_of oids.now }
 {
-    let mut hash: u64 = 0;
+    hash_after(0, oids)
+}
+
+// The hash of a list that has these objects behind others, of whose list the hash is given.
+pub(crate) fn hash_after(others: u64, oids: &[Oid]) -> u64
+    ensures { (before : List TheOid) → others ≡ hash_of before
+        → result ≡ hash_of (before ++ oids.now) }
+{
+    let mut hash = others;
     'oids: for oid in oids {
         hash = hash.wrapping_mul(FACTOR).wrapping_add(u64::from(oid.0));
     }

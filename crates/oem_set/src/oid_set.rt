@@ -1,10 +1,10 @@
-ghost use Rattle.std.specs.Prelude.{◌≡◌, ◌↔◌, ◌⊎◌, ℕ, List, length, Contains, slice_get};
+ghost use Rattle.std.specs.Prelude.{◌≡◌, ◌↔◌, ◌⊎◌, ◌++◌, ℕ, List, length, Contains, slice_get};
 ghost use Rattle.std.specs.Prelude.{IsTrue, IfOk, OnOk, OnErr};
 ghost use Rattle.oem_set.specs.Types.{Oid as TheOid};
 ghost use Rattle.lore_base.specs.TargetSets.{ListsInOrder};
 ghost use Rattle.oem_set.specs.Sets.{IsSet, hash_of};
 
-use crate::hashes::hash_oids;
+use crate::hashes::{hash_after, hash_oids};
 use lore_base::{NoMemory, Oid, OidBuf};
 use std::marker::Model;
 
@@ -33,6 +33,21 @@ fn put_in_order(buf: &mut OidBuf)
     ensures { ListsInOrder (Contains buf.old) buf.new }
 {
     buf.sort_set();
+}
+
+// Whether all of the second objects come behind the first ones, where both ascend.
+fn come_behind(first: &[Oid], second: &[Oid]) -> bool
+    requires first { IsSet first.now }
+    requires second { IsSet second.now }
+    ensures { IsTrue result → IsSet (first.now ++ second.now) }
+{
+    let Some(last) = first.last() else {
+        return true;
+    };
+    match second.first() {
+        Some(next) => last.0 < next.0,
+        None => true,
+    }
 }
 
 impl OidSet {
@@ -129,7 +144,8 @@ impl OidSet {
         self.hash
     }
 
-    /// Puts the objects of this set into the other one, which keeps its own.
+    /// Puts the objects of this set into the other one, which keeps its own. Where all of these come
+    /// behind, nothing is sorted, and no more is hashed than they.
     pub fn union_into(&self, out: &mut OidSet) -> Result<(), NoMemory>
         ensures ok { OnOk result
             (ListsInOrder (λ oid. Contains self.now oid ⊎ Contains out.old oid) out.new) }
@@ -139,8 +155,13 @@ impl OidSet {
         let mut oids = OidBuf::with_capacity(self.oids.allocator(), room)?;
         oids.append(self.as_slice())?;
         oids.append(out.as_slice())?;
-        oids.sort_set();
-        *out = OidSet::from_ascending(oids);
+        if come_behind(self.as_slice(), out.as_slice()) {
+            let hash = hash_after(self.hash, out.as_slice());
+            *out = OidSet { oids, hash };
+        } else {
+            oids.sort_set();
+            *out = OidSet::from_ascending(oids);
+        }
         Ok(())
     }
 }

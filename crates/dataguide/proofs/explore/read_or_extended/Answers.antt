@@ -1,35 +1,26 @@
-use Rattle.std.proofs.Common.{List, Option, IfSome, inl, inr, refl, subst}
+use Rattle.std.proofs.Common.{List, Option, IfSome, inr, subst}
 use Rattle.list_laws.proofs.MemberLaws.{Contains-map}
 use Rattle.dataguide.specs.Types.{Oid, GuideNode}
 use Rattle.dataguide.specs.Touched.{IsExtended}
 use Rattle.dataguide.proofs.explore.read_or_extended.Goals as goal
 
-pub returns-in_default-clause-steps : goal.returns-in_default-clause-steps
-returns-in_default-clause-steps g c = c.in_ok-targets.ensures.steps c.args.change.now.guide.now.nodes
-
 pub returns-in-Some-2-clause-steps : goal.returns-in-Some-2-clause-steps
 returns-in-Some-2-clause-steps g c =
     let change = c.args.change.now in
-    let grown = subst (λ (found : Option (List Oid)). IfSome found
+    let extended = subst (λ (found : Option (List Oid)). IfSome found
     (λ more. IsExtended change.dirty.now change.grown.now c.in-Some.there.now.set more c.args.set.now)) c.in-Some-2.is
     c.in_ok-more.ensures in
-    c.in_ok-targets-in-Some-2.ensures.steps c.args.set.now grown
+    c.in_ok-targets.ensures.steps c.args.set.now extended
 
 pub returns-in-Some-2-clause-reads : goal.returns-in-Some-2-clause-reads
 returns-in-Some-2-clause-reads g c =
     let change = c.args.change.now in
     let there = c.in-Some.there.now in
-    let grown = subst (λ (found : Option (List Oid)). IfSome found
+    let extended = subst (λ (found : Option (List Oid)). IfSome found
     (λ more. IsExtended change.dirty.now change.grown.now there.set more c.args.set.now)) c.in-Some-2.is
     c.in_ok-more.ensures in
     let stood = Contains-map (λ (n : GuideNode). n.set) change.guide.now.nodes there c.in-Some.ensures in
-    (c.in-Some-2.more, inr (c.requires.new, (there.set, stood, grown)), c.in_ok-targets-in-Some-2.ensures.reads)
+    (c.in-Some-2.more, inr (c.requires.new, (there.set, stood, extended)), c.in_ok-targets.ensures.reads)
 
-pub returns-in_default-clause-reads : goal.returns-in_default-clause-reads
-returns-in_default-clause-reads g c = (c.args.set.now, inl refl, c.in_ok-targets.ensures.reads)
-
-pub returns-in-None-clause-reads : goal.returns-in-None-clause-reads
-returns-in-None-clause-reads g c = (c.args.set.now, inl refl, c.in_ok-targets-in-None.ensures.reads)
-
-pub returns-in-None-clause-steps : goal.returns-in-None-clause-steps
-returns-in-None-clause-steps g c = c.in_ok-targets-in-None.ensures.steps c.args.change.now.guide.now.nodes
+pub returns-clause-steps : goal.returns-clause-steps
+returns-clause-steps g c = c.in_ok-targets-2.ensures.steps c.args.change.now.guide.now.nodes

@@ -1,8 +1,10 @@
-use Rattle.std.proofs.Common.{◌≤◌, ◌↔◌, ◌⊎◌, ◌+◌, ℕ, List, Contains, length, take, sym, ◌∙◌, subst, arith}
+use Rattle.std.proofs.Common.{Bor, ◌≡◌, ◌≢◌, ◌++◌, Option, Some, MatchOption, ◌≤◌, ◌↔◌, ◌⊎◌, ◌+◌, ℕ, List, Contains, length, take, sym, ◌∙◌, subst, arith}
 use Rattle.std.proofs.lemmas.Option.{slice_get_within}
+use Rattle.std.proofs.lemmas.Slice.Eq.{strip_prefix_is}
+use Rattle.oem_set.proofs.MemberSearch.{Decides-same_oid}
 use Rattle.dataguide.specs.Types.{Oid}
 use Rattle.dataguide.specs.Touched.{Meet}
-use Rattle.dataguide.proofs.GrowthLaws.{more-met, more-new, more-all, apart-met, apart-new, apart-all}
+use Rattle.dataguide.proofs.GrowthLaws.{more-met, more-new, more-all, apart-met, apart-new, apart-all, rest-apart, rest-parts}
 use Rattle.dataguide.proofs.growth.more_in.Goals as goal
 use Rattle.dataguide.proofs.growth.more_in.Goals.{then-stands_at, else-stands_at+in_ok-push}
 
@@ -43,10 +45,35 @@ oids-preserved c =
 
 pub returns-clause-parts : goal.returns-clause-parts
 returns-clause-parts c =
-    more-all c.args.oids.now c.args.others.now c.oids.more c.in_ok-set.set c.oids.oid-index c.oids.next c.oids.invariant.parts
-    c.oids-test.false (omega (arith, c.if-next-others.false)) c.in_ok-set.ensures.set.exact
+    more-all c.args.oids.now c.args.others.now c.oids.more c.in_ok-set-2.set c.oids.oid-index c.oids.next c.oids.invariant.parts
+    c.oids-test.false (omega (arith, c.if-next-others.false)) c.in_ok-set-2.ensures.set.exact
 
 pub returns-clause-apart : goal.returns-clause-apart
 returns-clause-apart c =
-    apart-all c.args.others.now c.oids.more c.in_ok-set.set c.oids.next c.oids.invariant.apart
-    (omega (arith, c.if-next-others.false)) c.in_ok-set.ensures.set.exact
+    apart-all c.args.others.now c.oids.more c.in_ok-set-2.set c.oids.next c.oids.invariant.apart
+    (omega (arith, c.if-next-others.false)) c.in_ok-set-2.ensures.set.exact
+
+-- what is left behind the others, where these come first
+behind : (oids others : List Oid) (found : Option (Bor (List Oid))) (rest : Bor (List Oid)) → found ≡ Some rest
+    → MatchOption found ((rest : List Oid) → oids ≢ others ++ rest) (λ rest. oids ≡ others ++ rest.now)
+    → oids ≡ others ++ rest.now
+behind oids others found rest is either = subst (λ (r : Option (Bor (List Oid))). MatchOption r ((rest : List Oid)
+    → oids ≢ others ++ rest) (λ rest. oids ≡ others ++ rest.now)) is either
+
+pub returns-in-Some-clause-apart : goal.returns-in-Some-clause-apart
+returns-in-Some-clause-apart c =
+    let oids = c.args.oids.now in
+    let others = c.args.others.now in
+    let are = behind oids others c.strip_prefix.result c.in-Some.rest c.in-Some.is
+    (strip_prefix_is Decides-same_oid oids others c.strip_prefix.result c.strip_prefix.ensures.cases) in
+    subst (λ (l : List Oid). ¬ Meet others l) (sym c.in_ok-set.ensures)
+    (rest-apart oids others c.in-Some.rest.now are c.requires)
+
+pub returns-in-Some-clause-parts : goal.returns-in-Some-clause-parts
+returns-in-Some-clause-parts c =
+    let oids = c.args.oids.now in
+    let others = c.args.others.now in
+    let are = behind oids others c.strip_prefix.result c.in-Some.rest c.in-Some.is
+    (strip_prefix_is Decides-same_oid oids others c.strip_prefix.result c.strip_prefix.ensures.cases) in
+    subst (λ (l : List Oid). (oid : Oid) → Contains oids oid ↔ (Contains others oid ⊎ Contains l oid)) (sym c.in_ok-set.ensures)
+    (rest-parts oids others c.in-Some.rest.now are c.requires)

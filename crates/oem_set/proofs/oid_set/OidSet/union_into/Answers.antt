@@ -1,21 +1,44 @@
-use Rattle.std.proofs.Common.{◌≡◌, List, ◌++◌, ◌⊎◌, Contains, inl, inr, ap, ◌∙◌}
+use Rattle.std.proofs.Common.{◌≡◌, List, ◌++◌, ◌⊎◌, ◌↔◌, Contains, inl, inr, sym, ap, ◌∙◌, subst}
 use Rattle.std.proofs.lemmas.List.Elements.{Contains-append_cases, Contains-append_left, Contains-append_right}
+use Rattle.lore_base.specs.TargetSets.{ListsInOrder}
 use Rattle.oem_set.specs.Types.{Oid}
+use Rattle.oem_set.specs.Sets.{IsSet}
 use Rattle.oem_set.proofs.MemberSearch.{same_oid, IsSet-from_less, lists-sorted}
 use Rattle.oem_set.proofs.oid_set.OidSet.union_into.Goals as goal
+
+-- two lists, one behind the other
+both-lists : (one other : List Oid) (oid : Oid) → Contains (one ++ other) oid ↔ (Contains one oid ⊎ Contains other oid)
+both-lists one other oid = (
+  λ at. Contains-append_cases one other oid at,
+  λ either. elim either [
+    | inl at ↦ Contains-append_left one other oid at
+    | inr at ↦ Contains-append_right one other oid at
+  ],
+)
 
 pub from_ascending-requires : goal.from_ascending-requires
 from_ascending-requires c = IsSet-from_less c.sort_set.new.self c.sort_set.ensures.ascend
 
-pub returns-clause-ok : goal.returns-clause-ok
-returns-clause-ok c =
+pub returns-then-come_behind-clause-ok : goal.returns-then-come_behind-clause-ok
+returns-then-come_behind-clause-ok c =
+    let mine = c.args.self.now in
+    let other = c.args.out.now in
+    let first : c.append.new.self ≡ mine = c.in_ok-append.ensures.ok ∙ ap (λ (l : List Oid). l ++ c.as_slice.result.now) c.in_ok-oids.ensures ∙ c.as_slice.ensures.oids in
+    let both : c.append-2.new.self ≡ mine ++ other =
+    c.in_ok-append-2.ensures.ok ∙ ap (λ (l : List Oid). l ++ c.as_slice-2.result.now) first ∙ ap (λ (l : List Oid). mine ++ l) c.as_slice-2.ensures.oids in
+    let behind : IsSet (mine ++ other) =
+    subst (λ (l : List Oid). IsSet (l ++ other)) c.as_slice-3.ensures.oids
+    (subst (λ (l : List Oid). IsSet (c.as_slice-3.result.now ++ l)) c.as_slice-4.ensures.oids
+    (c.come_behind.ensures c.if-come_behind.true)) in
+    subst (ListsInOrder (λ oid. Contains mine oid ⊎ Contains other oid)) (sym both)
+    (record { ascending = behind; exact = both-lists mine other })
+
+pub returns-else-come_behind-clause-ok : goal.returns-else-come_behind-clause-ok
+returns-else-come_behind-clause-ok c =
     let mine = c.args.self.now in
     let first : c.append.new.self ≡ mine = c.in_ok-append.ensures.ok ∙ ap (λ (l : List Oid). l ++ c.as_slice.result.now) c.in_ok-oids.ensures ∙ c.as_slice.ensures.oids in
     let both : c.append-2.new.self ≡ mine ++ c.args.out.now =
     c.in_ok-append-2.ensures.ok ∙ ap (λ (l : List Oid). l ++ c.as_slice-2.result.now) first ∙ ap (λ (l : List Oid). mine ++ l) c.as_slice-2.ensures.oids in
     rw c.from_ascending.ensures
     (lists-sorted (λ oid. Contains mine oid ⊎ Contains c.args.out.now oid) c.append-2.new.self c.sort_set.new.self c.sort_set.ensures.ascend (c.sort_set.ensures.members same_oid)
-    (λ oid. rw both (
-      λ at. Contains-append_cases mine c.args.out.now oid at,
-      λ h. elim h [ inl at ↦ Contains-append_left mine c.args.out.now oid at | inr at ↦ Contains-append_right mine c.args.out.now oid at ],
-    )))
+    (λ oid. rw both (both-lists mine c.args.out.now oid)))
