@@ -5,8 +5,8 @@
 
 The prover can't refuse a program that gives up with want of memory, nor one whose limits are other numbers than the documents
 name; these cases do. What the program has to write is worked out here. Each run may take 4 GiB and a minute of a processor, far
-more than any needs: so one that keeps what it need not, or does for each row what is done once, fails too. (`large_joins.py` has
-the cases of joins and conditions that are made for this.)
+more than any needs: so one that keeps what it need not, or does for each row what is done once, fails too. The cases of
+`large_joins.py` may take ten minutes, which stops only a run that hangs: `large_counts.py` counts what they take.
 
 Statuses: 0 all is as it has to be, 1 a case failed, 2 the program can't be run, or the words are wrong.
 """
@@ -32,23 +32,22 @@ from large_scripts import (EDGES, FACT_WEIGHT, HISTORY_WEIGHT, ITEMS, LABELS, LA
 HERE = os.path.dirname(os.path.abspath(__file__))
 PROGRAM = os.path.join(HERE, "..", "crates", "lore", "out", "lore")
 MEMORY = 4 * 1_073_741_824
-SECONDS = 60
+MIXED = 600  # more labels than a set's members have a list for each of, unless they come in order
 
 
-def limit():
-    """Sets how much a run may take."""
-    resource.setrlimit(resource.RLIMIT_AS, (MEMORY, MEMORY))
-    resource.setrlimit(resource.RLIMIT_CPU, (SECONDS, SECONDS))
+def run(program, case):
+    """The status and the bytes that the program writes for the script of a case, which a process of its own hands it."""
 
+    def limit():
+        resource.setrlimit(resource.RLIMIT_AS, (MEMORY, MEMORY))
+        resource.setrlimit(resource.RLIMIT_CPU, (case.seconds, case.seconds))
 
-def run(program, pieces):
-    """The status and the bytes that the program writes for a script in pieces, which a process of its own hands it."""
     process = subprocess.Popen([program], stdin=subprocess.PIPE, stdout=subprocess.PIPE, preexec_fn=limit)
     writer = os.fork()
     if writer == 0:
         process.stdout.close()
         with contextlib.suppress(BrokenPipeError):
-            for piece in pieces:
+            for piece in case.script:
                 process.stdin.write(piece.encode())
             process.stdin.close()
         os._exit(0)
@@ -137,6 +136,11 @@ def label_cases():
                ok(2, last, 2) + ok(ROWS + 3, last + ROWS, 4) + ok(2, last, 2))
     yield Case("as many labels as there are, browsed", [labelled("L", LABELS), "browse L;"], 0,
                ok(2, LABELS, 2) + "".join(["at L 1\n", *(f".l{i} 1\n" for i in range(LABELS)), f"labels {LABELS}\n"]))
+    parts = ", ".join(f"x {{ {', '.join(f'l{i} &1' + ' 0' * (i == 1) for i in range(first, MIXED, 2))} }}" for first in (1, 0))
+    yield Case("members whose labels come among one another's, of many", [labelled("L", MIXED), f"load A := {{ {parts} }};",
+               "browse A.x; select A.x.l7;"], 0,
+               ok(2, MIXED, 2) + ok(6, 2 * MIXED + 2, 5)
+               + "".join(["at A.x 2\n", *(f".l{i} 1\n" for i in range(MIXED)), f"labels {MIXED}\n"]) + rows(["&5 0"]))
     asked = ("select L.%; select L.l%; select L.%9; select L.#; select L.%.%;"
              "select path-of(P) from L.%@P X; select path-of(P) from L.%5@P X;")
     one = rows(["&2 0"])
@@ -420,10 +424,14 @@ def dump_cases():
     dump = "".join([*lines, *(f"edge &1 a &{i + 2}\n" for i in range(MEMBERS)), "end\n"])
     yield Case("as many objects as there may be, dumped", [numbered(MEMBERS), "dump;"], 0, ok(OBJECTS, MEMBERS, 2) + dump)
     yield Case("the same from its dump, and dumped again", ["restore ", dump, "; dump;"], 0, ok(OBJECTS, MEMBERS, 2) + dump)
-    flags = [f"a {word}" for word in ("true", "false")] * (MANY // 2)
-    found = [f"&{i + 2} {('true', 'false')[i % 2]}" for i in range(len(flags))]
-    yield Case("as many flags as there may be rows", [braces("F", flags), "select F.a; select X from F.a X where X < true;"], 0,
-               ok(len(flags) + 1, len(flags), 2) + rows(found) + rows(found[1::2]))
+    words = ("true", '"false"', '"true"', "false")
+    found = [f"&{i + 2} {words[i % 4]}" for i in range(MANY)]
+    yield Case("as many flags as there may be rows, and texts that read so",
+               [braces("F", (f"a {words[i % 4]}" for i in range(MANY))), "select F.a; select X from F.a X where X < true;"], 0,
+               ok(MANY + 1, MANY, 2) + rows(found) + rows(found[1::2]))
+    signed = [(-1) ** i * i * ROWS for i in range(MANY)]
+    yield Case("as many numbers of both signs", [braces("A", (f"a {number}" for number in signed)), "select X from A.a X where X < 0;"], 0,
+               ok(MANY + 1, MANY, 2) + rows(f"&{i + 2} {signed[i]}" for i in range(1, MANY, 2)))
     line = "label lost\n"
     entries = STATEMENT_BYTES // len(line) - 100
     yield Case("a dump text of almost the longest statement", ["restore ", head(1), line * entries, "end;"], 1,
@@ -439,6 +447,11 @@ def dump_cases():
            f"edge &1 a &2\nedge &1 a &{before}\nedge &{before} a &{last}\nend\n")
     yield Case("numbers far apart", ["restore ", far, "; update A.a.a := 6; dump;"], 0,
                ok(4, 3, 3) * 2 + far.replace(" 5\n", " 6\n"))
+    apart = range(2_000, 102_000, 1_000)
+    dump = "".join([head(last), "label a\nname A &1\nobject &1 {}\n", *(f"object &{i} {i}\n" for i in apart),
+                    *(f"edge &1 a &{i}\n" for i in apart), "end\n"])
+    yield Case("many numbers far apart", ["restore ", dump, "; select A.a; select X from A.a X where X = 50000; dump;"], 0,
+               ok(len(apart) + 1, len(apart), 2) + rows(f"&{i} {i}" for i in apart) + rows(["&50000 50000"]) + dump)
 
 
 def made_cases():
@@ -559,7 +572,7 @@ def main(words):
     failed = 0
     for case in cases():
         try:
-            got, written = run(program, case.script)
+            got, written = run(program, case)
         except (OSError, subprocess.SubprocessError) as error:
             print(f"large.py: {program}: {getattr(error, 'strerror', None) or error}", file=sys.stderr)
             return 2

@@ -30,6 +30,7 @@ HISTORY_WEIGHT = 1_073_741_824  # of a history: FACT_WEIGHT for each run of a fa
 FACT_WEIGHT = 64
 STATEMENT_BYTES = 67_108_864
 SCRIPT_BYTES = 1_073_741_824
+SECONDS = 60  # of a processor that a case may take
 
 MEMBERS = OBJECTS - 1  # of one object, where it and they are all that there is
 MANY = min(MEMBERS, ROWS)  # of these as many as an answer or an update has rows
@@ -42,12 +43,13 @@ TooManyViews UnknownView""".split()
 
 @dataclass
 class Case:
-    """A script in pieces, and what it has to end with and to write."""
+    """A script in pieces, what it has to end with and to write, and how long it may take."""
 
     name: str
     script: Iterable
     status: int
     replies: str
+    seconds: int = SECONDS
 
 
 def ok(objects, edges, nodes):

@@ -8,6 +8,7 @@ passed and what failed. Status 0: nothing failed. 1: something did. 2: a wrong a
 """
 import os
 import pathlib
+import shutil
 import subprocess
 import sys
 from concurrent.futures import ThreadPoolExecutor
@@ -52,7 +53,7 @@ def check_trial(tally):
         tally.leave(left, "case of print_cases at a limit" if left == 1 else "cases of print_cases at limits")
     # The one more is bin/lore with a program.
     tally.leave(len(odd_argument_runs()) + len(OUTSIDE) + 1, "checks of arguments and pipes that a trial can't make")
-    tally.leave(1, "program of large scripts (.ci/large.py)")
+    tally.leave(2, "programs of large scripts (.ci/large.py, .ci/large_counts.py)")
 
 
 def said(ran):
@@ -104,6 +105,14 @@ def check_outside(tally, program):
         tally.check(name, fault(program))
 
 
+def check_counts(tally, program):
+    """What questions take with some members and with twice as many, in instructions."""
+    if not shutil.which("valgrind"):
+        tally.leave(1, "check of counted instructions (.ci/large_counts.py)", "left since valgrind isn't on this machine")
+        return
+    tally.check("counted instructions", fault_of(sys.executable, TOP / ".ci" / "large_counts.py", program))
+
+
 def check_ours(tally, program):
     """What runs the program that stands in this checkout: bin/lore, and the large scripts."""
     if not OURS.exists() or not os.path.samefile(program, OURS):
@@ -119,6 +128,7 @@ def check_program(tally, program):
     runs = [*small_runs(), *odd_argument_runs(), *script_cases(CRATES / "script_cases")]
     check_runs(tally, Built(program).faults(runs))
     check_outside(tally, program)
+    check_counts(tally, program)
     check_ours(tally, program)
     tools.all_of_them(tally, TOP, program)
 

@@ -4,7 +4,8 @@ use Rattle.std.proofs.lemmas.List.Elements.{All-contains}
 use Rattle.list_laws.proofs.PlaceLaws.{Contains-from_place, place_of_member}
 use Rattle.dataguide.specs.Types.{Oid, Label, Edge, Node, GuideNode}
 use Rattle.lore_base.specs.TargetSets.{IsStep}
-use Rattle.dataguide.specs.Guides.{GuideGraph, StandsFor, sets_of, HasSet, HasEdge, HasItsSteps, IsEntry}
+use Rattle.dataguide.specs.Guides.{GuideGraph, StandsFor, HasEdge}
+use Rattle.set_explorer.specs.Nodes.{sets_of, HasSet, HasItsSteps, IsEntry}
 use Rattle.dataguide.specs.GuideLaws.{GoesOn, BeginsAt, HasAlikeGuides}
 use Rattle.set_steps.proofs.PlaceLaws.{at-map, at-unmap, zip-left, zip-right}
 

@@ -9,16 +9,31 @@ use Rattle.lore_base.proofs.MemberLaws.{Contains-none}
 use Rattle.lore_base.proofs.ToldLaws.{told_member, told_edge}
 use Rattle.list_laws.proofs.SumLaws.{sum_by-within}
 use Rattle.list_laws.proofs.MemberLaws.{All-from_members, Contains-map}
-use Rattle.dataguide.specs.Types.{Oid, Edge}
+use Rattle.dataguide.specs.Types.{Oid, Edge, Node, GuideNode}
 use Rattle.dataguide.specs.ReadCosts.{ReadsAtMost}
 use Rattle.set_steps.specs.SetSteps.{reads_of}
 use Rattle.set_steps.proofs.PlaceLaws.{AllZip-weaker}
-use Rattle.dataguide.specs.Guides.{GuideGraph}
-use Rattle.dataguide.specs.Touched.{IsTouched, IsExtended, IsRead, ReadsTouched, ReadsSome, parents_of}
+use Rattle.dataguide.specs.Guides.{GuideGraph, StandsFor}
+use Rattle.set_explorer.specs.Touched.{IsTouched, IsExtended, IsRead, ReadsTouched, ReadsSome, parents_of}
 use Rattle.dataguide.specs.Deltas.{StoodFor}
-use Rattle.dataguide.specs.inside.Founds.{Costs}
-use Rattle.dataguide.specs.inside.Gains.{IsChange}
-use Rattle.dataguide.proofs.DoneLaws.{nothing-stands}
+use Rattle.set_explorer.specs.Changes.{IsChange}
+
+-- the guide of no name
+pub nothing-stands : (nodes : List GuideNode) (entries : List (List ℕ × Node)) (edges : List Edge) → nodes ≡ []
+    → entries ≡ []
+    → StandsFor (record { nodes = nodes; entries = entries }) [] edges
+nothing-stands nodes entries edges bare none = rw (bare, none) (record {
+  nodes = record {
+    apart = λ i j d less within. absurd (omega (arith, within));
+    exact = λ set. (
+      λ there. absurd (Contains-none set there),
+      λ led. absurd
+          (Contains-none (led.0.name, led.1.start) led.1.named),
+    );
+  };
+  steps = λ k d within. absurd (omega (arith, within));
+  entries = tt;
+})
 
 -- the guide without nodes stood for every graph before
 pub stood-new : (guide : GuideGraph) (edges : List Edge) → guide.nodes ≡ [] → guide.entries ≡ []
@@ -36,11 +51,11 @@ stood-new guide edges nodes entries = record {
 -- a change, told by the lost and the fresh edges, with the objects that they leave
 pub stood-change : (guide : GuideGraph) (lost fresh after : List Edge) (dirty grown : List Oid)
     → StoodFor guide lost fresh after → AreAscendingEdges fresh → ListsInOrder (Contains (parents_of lost)) dirty
-    → ListsInOrder (Contains (parents_of fresh)) grown → IsChange guide dirty grown fresh after
+    → ListsInOrder (Contains (parents_of fresh)) grown → IsChange guide.nodes dirty grown fresh after
 stood-change guide lost fresh after dirty grown stood ascend dirty_are grown_are = record {
   names = stood.names;
   before = stood.before;
-  stands = stood.stands;
+  stands = record { nodes = stood.stands.nodes; steps = stood.stands.steps };
   stay = λ edge was clean. (elim (told_member told_edge after edge) [
     | inl there ↦ there
     | inr gone ↦ absurd (clean ((dirty_are.exact edge.parent).1
@@ -107,13 +122,6 @@ module _ (kept : List (List Oid)) (dirty other : List Oid) (same : (oid : Oid) �
     each = AllZip-weaker (IsRead kept dirty grown) (IsRead kept other new) read-same reads.sets reads.read reads.each;
     counted = reads.counted;
   }
-
-  pub costs-same : (edges : List Edge) (set : List Oid) (before now : ℕ) → Costs kept dirty grown edges set before now
-      → Costs kept other new edges set before now
-  costs-same edges set before now costs = elim costs [
-    | inl read ↦ inl ((touched-same set).0 read.0, (read.1.0, read-same set read.1.0 read.1.1, read.1.2))
-    | inr left ↦ inr (λ touched. left.0 ((touched-same set).1 touched), left.1)
-  ]
 
 -- where no set was before, each is read whole
 whole-reads : (dirty grown : List Oid) (sets read : List (List Oid)) → AllZip (IsRead [] dirty grown) sets read

@@ -1,4 +1,4 @@
--- Entries: how one is found by its name, and that they fit the names that they were made of.
+-- Entries: how one is found by its name, and that they stay in order.
 use Rattle.std.proofs.Common.{◌≡◌, ℕ, ◌<◌, inl, inr, Less, Equal, Err, List, [], ◌∷◌, ◌++◌, length}
 use Rattle.std.proofs.Common.{get_or, true, Some, None, All, Contains, refl, sym, ap, ◌∙◌, subst, arith}
 use Rattle.std.specs.List.{AllZip, AllByRecursion}
@@ -14,9 +14,9 @@ use Rattle.std.proofs.lemmas.Map.Views.{Contains-from_lookup, lookup-from_Contai
 use Rattle.list_laws.proofs.OrderLaws.{comparison_rises}
 use Rattle.lore_base.specs.Bytes.{bytes_cmp}
 use Rattle.dataguide.specs.Types.{Oid, Node, GuideNode}
-use Rattle.dataguide.specs.Guides.{IsEntry, node_of}
-use Rattle.dataguide.specs.inside.NodeTables.{AreAscendingEntries}
-use Rattle.dataguide.proofs.StopLaws.{keys-ascend}
+use Rattle.set_explorer.specs.Nodes.{AreAscendingEntries}
+use Rattle.dataguide.specs.Guides.{node_of}
+use Rattle.set_explorer.proofs.StopLaws.{keys-ascend}
 
 -- names that compare as equal are one
 same_name : (first second : List ℕ) → eq_by_cmp bytes_cmp first second ≡ true → first ≡ second
@@ -69,16 +69,6 @@ module _ (entries : List (List ℕ × Node)) (name : List ℕ) (ascend : AreAsce
         | Some node ↦ λ is. absurd (gap-apart place gap node
             (Contains-from_lookup {eq = eq_by_cmp bytes_cmp} same_name name node entries is))
       ] refl
-
--- entries of names have the names as keys
-pub entry-keys : (nodes : List GuideNode) (names : List (List ℕ × Oid)) (entries : List (List ℕ × Node))
-    → AllZip (IsEntry nodes) names entries → keys_of entries ≡ keys_of names
-entry-keys nodes [] [] zip = refl
-entry-keys nodes [] (entry ∷ entries) zip = absurd zip
-entry-keys nodes (named ∷ names) [] zip = absurd zip
-entry-keys nodes (named ∷ names) (entry ∷ entries) zip =
-    ap (λ (n : List ℕ). n ∷ keys_of entries) zip.0.name
-    ∙ ap (λ (l : List (List ℕ)). named.0 ∷ l) (entry-keys nodes names entries zip.1)
 
 -- an entry whose name comes after all others is put behind
 pub entries-push : (entries : List (List ℕ × Node)) (entry : List ℕ × Node) → AreAscendingEntries entries

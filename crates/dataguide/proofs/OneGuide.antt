@@ -10,12 +10,12 @@ use Rattle.list_laws.proofs.MemberLaws.{Contains-from_map}
 use Rattle.dataguide.specs.Types.{Oid, Label, Edge, Node, GuideNode}
 use Rattle.lore_base.specs.TargetSets.{LabelPath, IsStep, AreTargetSets}
 use Rattle.lore_base.specs.PathOrder.{IsLeastPath, AreInPathOrder, ComesBefore}
-use Rattle.dataguide.specs.Guides.{sets_of, HasItsSteps, IsEntry}
+use Rattle.set_explorer.specs.Nodes.{sets_of, HasItsSteps, IsEntry}
 use Rattle.dataguide.specs.GuideLaws.{HasOneOrderedGuide}
-use Rattle.dataguide.specs.inside.Trails.{Stop}
-use Rattle.dataguide.proofs.PathOrder.{before-not_back}
+use Rattle.set_explorer.specs.inside.Trails.{Stop}
+use Rattle.set_explorer.proofs.PathOrder.{before-not_back}
 use Rattle.set_steps.proofs.PlaceLaws.{one-place}
-use Rattle.dataguide.proofs.TrailLaws.{set_of}
+use Rattle.set_explorer.proofs.TrailLaws.{set_of}
 
 AllPairs-unmap : {X Y : Type 0} (f : X → Y) (R : Y → Y → Type 0) (xs : List X) → AllPairs R (map f xs)
     → AllPairs (λ a b. R (f a) (f b)) xs

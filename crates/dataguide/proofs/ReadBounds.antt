@@ -8,7 +8,7 @@ use Rattle.list_laws.proofs.MemberLaws.{All-from_members}
 use Rattle.lore_base.specs.TargetSets.{IsLedTo}
 use Rattle.dataguide.specs.Types.{Oid, Edge}
 use Rattle.set_steps.specs.SetSteps.{reads_of}
-use Rattle.dataguide.specs.Touched.{IsTouched, IsRead}
+use Rattle.set_explorer.specs.Touched.{IsTouched, IsRead}
 use Rattle.dataguide.specs.GuideLaws.{ReadsAreWithin, SomeReadsAreWithin}
 
 -- what is read of a set costs no more than the whole set

@@ -10,7 +10,8 @@ use Rattle.lore_base.specs.TargetSets.{LabelPath, LeadsTo, IsLedTo, LeavesTo, Ar
 use Rattle.dataguide.specs.Types.{Oid, Label, Edge, GuideNode}
 use Rattle.lore_base.specs.PathOrder.{IsLeastPath, AreInPathOrder}
 use Rattle.lore_base.specs.GuideLimits.{FitsGuide, AreFirstSets, ExceedsNodes, ExceedsCells}
-use Rattle.dataguide.specs.Guides.{GuideGraph, StandsFor, sets_of, HasItsSteps}
+use Rattle.dataguide.specs.Guides.{GuideGraph, StandsFor}
+use Rattle.set_explorer.specs.Nodes.{sets_of, HasItsSteps}
 use Rattle.dataguide.specs.GuideLaws.{AgreeWhereReached, ReachedEdgesDecide}
 use Rattle.set_steps.proofs.PlaceLaws.{AllZip-weaker}
 

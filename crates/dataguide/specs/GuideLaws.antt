@@ -7,8 +7,9 @@ use Rattle.lore_base.specs.TargetSets.{LabelPath, IsTargetSet, IsStep, LeadsTo, 
 use Rattle.lore_base.specs.PathOrder.{AreInPathOrder}
 use Rattle.lore_base.specs.GuideLimits.{KeepLimits, FitsGuide, ExceedsNodes, ExceedsCells}
 use Rattle.dataguide.specs.Types.{Oid, Label, Edge, Node}
-use Rattle.dataguide.specs.Touched.{ReadsTouched, ReadsSome, ReadsWithin}
-use Rattle.dataguide.specs.Guides.{GuideGraph, StandsFor, IsOrderedGuide, sets_of, HasSet, HasEdge}
+use Rattle.set_explorer.specs.Touched.{ReadsTouched, ReadsSome, ReadsWithin}
+use Rattle.dataguide.specs.Guides.{GuideGraph, StandsFor, IsOrderedGuide, HasEdge}
+use Rattle.set_explorer.specs.Nodes.{sets_of, HasSet}
 
 -- the target set of a longer word is the step of the shorter word's
 abbrev pub LongerWordsStep : Type 0

@@ -1,8 +1,8 @@
 pub mod Types
+pub use Rattle.set_explorer.specs.Touched
+pub use Rattle.set_explorer.specs.GuideCauses
 pub mod ReadCosts
 pub mod Guides
-pub mod Touched
 pub mod Deltas
-pub mod GuideCauses
 pub mod GuideLaws
 pub mod inside

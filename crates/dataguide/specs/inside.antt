@@ -1,7 +1,4 @@
 -- Definitions that no public contract cites.
-pub mod Entering
+pub use Rattle.set_explorer.specs.inside.Trails
 pub mod NodeTables
-pub mod Trails
 pub mod Fills
-pub mod Founds
-pub mod Gains

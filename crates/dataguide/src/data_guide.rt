@@ -2,17 +2,17 @@ ghost use Rattle.std.specs.Prelude.{◌≡◌, ◌↔◌, ◌<◌, List, [], len
 ghost use Rattle.std.specs.Prelude.{IsTrue, IfSome, IfNone, IsOk, All, Contains};
 ghost use Rattle.std.specs.Option.{option_copied};
 ghost use Rattle.dataguide.specs.Types.{Edge as TheEdge, Node as TheNode};
-ghost use Rattle.dataguide.specs.Guides.{StandsFor, sets_of, node_of as the_node_of, edge_at, HasSet, HasEdge};
-ghost use Rattle.dataguide.specs.Guides.{AscendByLabel};
+ghost use Rattle.dataguide.specs.Guides.{StandsFor, node_of as the_node_of, edge_at, HasEdge};
+ghost use Rattle.set_explorer.specs.Nodes.{sets_of, HasSet};
+ghost use Rattle.set_explorer.specs.Nodes.{AscendByLabel};
 ghost use Rattle.dataguide.specs.Deltas.{guide_then, IsReady};
-ghost use Rattle.dataguide.specs.inside.NodeTables.{IsHashed};
+ghost use Rattle.set_explorer.specs.HashedNodes.{IsHashed};
 
 use crate::delta::GuideDelta;
 use crate::entries::Entries;
-use crate::fill::{Filled, fill};
-use crate::nodes::{GuideNode, Node, next_by, node_at};
 use lore_base::{Label, NoMemory, OemText};
 use oem_set::OidSet;
+use set_explorer::{Filled, GuideNode, GuideNodes, Node, fill_nodes, find_node, next_by, node_at};
 use std::alloc::Global;
 use std::marker::Model;
 
@@ -35,46 +35,6 @@ impl Model for Guide {
     ghost view = { λ g. record { nodes = g.nodes.items; entries = g.entries } };
 
     ghost invariant = { λ g. IsNodeTable g.by_hash.items g.nodes.items };
-}
-
-// Whether the node is there and has the set.
-fn has_set(nodes: &[GuideNode], node: Node, set: &OidSet) -> bool
-    ensures { IsTrue result ↔ HasSet nodes.now node set.now }
-{
-    match nodes.get(node.0 as usize) {
-        Some(there) => there.set.equal(set),
-        None => false,
-    }
-}
-
-// The node with the set, looked for among those under its hash. Takes no memory.
-fn find_node(nodes: &[GuideNode], by_hash: &[(u64, Node)], set: &OidSet) -> Option<Node>
-    requires { IsHashed by_hash.now nodes.now }
-    ensures found { IfSome result (λ node. HasSet nodes.now node set.now) }
-    ensures none { IfNone result (¬ Contains (sets_of nodes.now) set.now) }
-{
-    let hash = set.hash64();
-    let start = by_hash.partition_point(|entry| entry.0 < hash);
-    let mut place = start;
-    'run: while place < by_hash.len() {
-        let entry = by_hash[place];
-        if entry.0 != hash {
-            return None;
-        }
-        if has_set(nodes, entry.1, set) {
-            return Some(entry.1);
-        }
-        place += 1;
-    }
-    None
-}
-
-// The node of the guide with the number.
-pub(crate) fn node_of(guide: &Guide, node: Node) -> &GuideNode
-    requires { node.0 < length guide.now.nodes }
-    ensures { slice_get guide.now.nodes node.0 ≡ Some result.now }
-{
-    &guide.nodes()[node.0 as usize]
 }
 
 impl Guide {
@@ -157,6 +117,17 @@ impl Guide {
         find_node(self.nodes.as_slice(), self.by_hash.as_slice(), set)
     }
 
+    // The nodes, and the hashes of their sets, by which they are found.
+    pub(crate) fn table(&self) -> GuideNodes<'_>
+        ensures nodes { result.nodes.now ≡ self.now.nodes }
+        ensures hashed { IsHashed result.by_hash.now self.now.nodes }
+    {
+        GuideNodes {
+            nodes: self.nodes.as_slice(),
+            by_hash: self.by_hash.as_slice(),
+        }
+    }
+
     /// The edge of the node at place `i` in the order of labels, counted from 0; None exactly where
     /// there are not so many. Takes no memory.
     pub fn labels_of(&self, node: Node, i: u32) -> Option<(Label, Node)>
@@ -188,7 +159,7 @@ impl Guide {
         } = delta;
         let alloc = self.allocator();
         let old = std::mem::replace(&mut self.nodes, Vec::new(alloc));
-        let Filled { nodes, mut by_hash } = fill(old, nodes, room, by_hash);
+        let Filled { nodes, mut by_hash } = fill_nodes(old, nodes, room, by_hash);
         by_hash.sort_unstable_by_key(|entry| entry.0);
         self.nodes = nodes;
         self.entries = entries;

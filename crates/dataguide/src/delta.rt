@@ -3,13 +3,12 @@ ghost use Rattle.std.specs.Prelude.{slice_set, IfOk, OnOk, OnErr};
 ghost use Rattle.std.specs.declared.cmp.Ordering.TheVariants.{Less};
 ghost use Rattle.lore_base.specs.Bytes.{bytes_cmp};
 ghost use Rattle.dataguide.specs.Types.{DeltaNode as TheDeltaNode};
-ghost use Rattle.dataguide.specs.Guides.{node_number};
+ghost use Rattle.set_explorer.specs.Nodes.{node_number};
 ghost use Rattle.dataguide.specs.Deltas.{HasLabelsBelow, with_edge};
 
 use crate::entries::Entries;
-use crate::nodes::{EdgeList, GuideNode, Node};
-use crate::planned_nodes::{DeltaNode, Origin};
 use lore_base::{Label, NoMemory, OemText};
+use set_explorer::{DeltaNode, EdgeList, GuideNode, Node, Origin};
 use std::alloc::Global;
 use std::marker::Model;
 

@@ -2,10 +2,10 @@ ghost use Rattle.std.specs.Prelude.{◌≡◌, [], ◌∷◌, ◌++◌, All, OnO
 ghost use Rattle.std.specs.declared.cmp.Ordering.TheVariants.{Less};
 ghost use Rattle.lore_base.specs.Bytes.{bytes_cmp};
 ghost use Rattle.dataguide.specs.Guides.{node_of};
-ghost use Rattle.dataguide.specs.inside.NodeTables.{AreAscendingEntries};
+ghost use Rattle.set_explorer.specs.Nodes.{AreAscendingEntries};
 
-use crate::nodes::Node;
 use lore_base::{NoMemory, OemText, TryCopy};
+use set_explorer::Node;
 use std::alloc::Global;
 use std::marker::Model;
 
@@ -19,7 +19,7 @@ pub(crate) struct Entries {
 impl Model for Entries {
     ghost use Rattle.std.specs.Prelude.{ℕ, List};
     ghost use Rattle.dataguide.specs.Types.{Node};
-    ghost use Rattle.dataguide.specs.inside.NodeTables.{AreAscendingEntries};
+    ghost use Rattle.set_explorer.specs.Nodes.{AreAscendingEntries};
 
     ghost Value = { List (List ℕ × Node) };
 

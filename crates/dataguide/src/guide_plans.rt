@@ -5,22 +5,19 @@ ghost use Rattle.lore_base.specs.GuideLimits.{FitsGuide};
 ghost use Rattle.dataguide.specs.Types.faults;
 ghost use Rattle.dataguide.specs.ReadCosts.{ReadsAtMost};
 ghost use Rattle.set_steps.specs.SetSteps.{reads_of};
-ghost use Rattle.dataguide.specs.Touched.{ReadsTouched, ReadsSome, parents_of};
-ghost use Rattle.dataguide.specs.Guides.{StandsFor, sets_of};
-ghost use Rattle.dataguide.specs.Deltas.{guide_then, nodes_then, IsReady, StoodFor};
-ghost use Rattle.dataguide.specs.GuideCauses.{GuideCause};
+ghost use Rattle.set_explorer.specs.Touched.{ReadsTouched, ReadsSome, parents_of as the_parents};
+ghost use Rattle.dataguide.specs.Guides.{StandsFor};
+ghost use Rattle.set_explorer.specs.Nodes.{sets_of};
+ghost use Rattle.dataguide.specs.Deltas.{guide_then, IsReady, StoodFor};
+ghost use Rattle.set_explorer.specs.PlannedNodes.{nodes_then};
+ghost use Rattle.set_explorer.specs.GuideCauses.{GuideCause};
 
-use crate::change::Change;
 use crate::data_guide::Guide;
 use crate::delta::GuideDelta;
 use crate::entries::Entries;
-use crate::explore::{Reading, expand, name_targets};
-use crate::faults::GuideFault;
-use crate::found::{Found, enter_all};
-use crate::gains;
 use index_traits::Adjacent;
 use lore_base::{Edge, Names, Steps};
-use set_steps::StepReader;
+use set_explorer::{Change, Explored, GuideFault, explore_sets, parents_of};
 use std::alloc::Global;
 use std::sync::ledger::Ledger;
 
@@ -78,38 +75,27 @@ impl Guide {
         ensures fits { IfOk result (λ _. FitsGuide limit names.now (A.edges after.now)) }
         ensures ready { IfOk result (λ delta. IsReady self.now.nodes delta) }
         ensures steps { IfOk result (λ delta. ReadsTouched (sets_of self.now.nodes)
-            (parents_of lost.now) (parents_of fresh.now) (A.edges after.now)
+            (the_parents lost.now) (the_parents fresh.now) (A.edges after.now)
             (sets_of (nodes_then self.now.nodes delta.nodes)) steps.old steps.new) }
         ensures cause { IfErr result
             (λ fault. GuideCause limit names.now (A.edges after.now) fault) }
         ensures reads { IfErr result (λ fault. (fault ≡ faults.NoMemory → ⊥)
-            → ReadsSome (sets_of self.now.nodes) (parents_of lost.now) (parents_of fresh.now)
+            → ReadsSome (sets_of self.now.nodes) (the_parents lost.now) (the_parents fresh.now)
             limit names.now (A.edges after.now) steps.old steps.new) }
     {
         let alloc = self.allocator();
-        let mut found = Found::new(alloc, self)?;
-        let starts = name_targets(alloc, names)?;
-        let row = enter_all(alloc, &mut found, self, starts, limit)?;
-        let entries = row.into_items();
-        let dirty = gains::parents_of(alloc, lost)?;
-        let grown = gains::parents_of(alloc, fresh)?;
+        let dirty = parents_of(alloc, lost)?;
+        let grown = parents_of(alloc, fresh)?;
+        let guide = self.table();
         let change = Change {
-            guide: self,
+            guide,
             dirty: &dirty,
             grown: &grown,
             fresh,
             after,
         };
-        let mut reading = Reading {
-            reader: StepReader::new(alloc),
-            bases: Vec::new(alloc),
-        };
-        let mut next = 0;
-        'nodes: while next < found.nodes.len() {
-            expand(alloc, &mut found, next, &change, &mut reading, limit, steps)?;
-            next += 1;
-        }
-        let Found { nodes, .. } = found;
+        let explored = explore_sets(alloc, &change, names, limit, steps)?;
+        let Explored { nodes, entries } = explored;
         let room = Vec::with_capacity(alloc, nodes.len())?;
         let by_hash = Vec::with_capacity(alloc, nodes.len())?;
         Ok(GuideDelta {

@@ -8,22 +8,10 @@
 
 pub use data_guide::Guide;
 pub use delta::GuideDelta;
-pub use faults::GuideFault;
-pub use nodes::{EdgeList, GuideNode, Node};
-pub use planned_nodes::{DeltaNode, Origin};
+pub use set_explorer::{DeltaNode, EdgeList, GuideFault, GuideNode, Node, Origin};
 
-mod change;
 mod data_guide;
 mod delta;
 mod entries;
-mod explore;
-mod faults;
-mod fill;
-mod found;
-mod gains;
-mod growth;
 mod guide_plans;
-mod hash_lists;
 pub mod laws;
-mod nodes;
-mod planned_nodes;

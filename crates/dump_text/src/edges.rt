@@ -41,10 +41,13 @@ pub(crate) fn numbered_edges(
         IfNone found (¬ All (λ entry. Contains labels.now entry.1) entries.now)) }
 {
     let mut edges = EdgeBuf::with_capacity(alloc, entries.len())?;
+    // Members that repeat their labels in order have the one behind the last.
+    let mut likely = 0;
     'entries: for entry in entries {
-        let Some(label) = labels.find(&entry.1) else {
+        let Some(label) = labels.find_at(likely, &entry.1) else {
             return Ok(None);
         };
+        likely = label.0 as usize + 1;
         edges.push(Edge {
             parent: entry.0,
             label,

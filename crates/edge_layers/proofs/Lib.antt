@@ -8,5 +8,5 @@ pub mod EnterLaws
 pub mod RunLaws
 pub mod CutLaws
 pub mod PlaceLaws
-pub mod BackLaws
+pub mod ChainLaws
 pub mod ViewLaws

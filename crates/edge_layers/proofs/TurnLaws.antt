@@ -6,7 +6,7 @@ use Rattle.std.proofs.lemmas.Bool.Decides.{nat_tests}
 use Rattle.std.proofs.lemmas.List.{get_or-map, length-map, get_or_default}
 use Rattle.std.proofs.lemmas.List.Kept.{AllPairs-filter}
 use Rattle.slab.specs.Slab.{Slab}
-use Rattle.strand_sort.specs.StrandSorts.{AreSorted, AreJoined}
+use Rattle.strand_sort.specs.StrandSorts.{AreJoined}
 use Rattle.lore_base.specs.Walks.{edge_cmp, entering_cmp, out_of, ListsEntering}
 use Rattle.lore_base.specs.Databases.{AreAscendingEdges}
 use Rattle.lore_base.proofs.MemberLaws.{Contains-filter, unfiltered}
@@ -20,7 +20,8 @@ use Rattle.edge_lists.proofs.ViewLaws.{edges_lie, edges_ascend}
 use Rattle.edge_layers.specs.Types.{Oid, Label, Edge}
 use Rattle.edge_layers.specs.EdgeTests.{edge_eq}
 use Rattle.edge_layers.specs.Layers.{staying, layered}
-use Rattle.edge_layers.specs.Turned.{turn, AreTurned, IsLayeredList, ListsLayered, has_label}
+use Rattle.edge_layers.specs.Turned.{turn, IsLayeredList, ListsLayered, has_label}
+use Rattle.edge_layers.specs.inside.Chains.{IsEnteringRun}
 use Rattle.edge_layers.proofs.EdgeLaws.{edge_same}
 use Rattle.edge_layers.proofs.LayerLaws.{same-edges, members-layered, ascend-layered, members-staying, number_of, number_is}
 
@@ -51,16 +52,6 @@ ascend_turned side edges ascend i j d lt len =
     let len_i : i < length edges = omega (arith, lt, len_j) in
     rw (get_or-map (turn side) edges i (turn side d) d len_i, get_or-map (turn side) edges j (turn side d) d len_j)
     (sym (turn_order side (get_or edges i (turn side d)) (get_or edges j (turn side d))) ∙ ascend i j (turn side d) lt len_j)
-
--- edges that were turned and sorted
-pub turned_sorted : (edges turned sorted : List Edge) → turned ≡ map (turn In) edges → AreSorted edge_cmp edge_eq turned sorted → AreTurned edges sorted
-turned_sorted edges turned sorted is all = record {
-  ascend = all.ascend;
-  exact = λ edge. (
-    λ at. (in_turned In edges edge).0 (subst (λ (l : List Edge). Contains l edge) is ((all.members edge_same edge).0 at)),
-    λ at. (all.members edge_same edge).1 (subst (λ (l : List Edge). Contains l edge) (sym is) ((in_turned In edges edge).1 at)),
-  );
-}
 
 pub in_run : (oid : Oid) (edges : List Edge) (edge : Edge) → Contains (out_of oid edges) edge ↔ (Contains edges edge × (edge.parent ≡ oid))
 in_run oid edges edge = (
@@ -181,9 +172,9 @@ label_kept (Some given) edge = refl
 within : (a b : Edge) → edge_cmp a b ≡ Less → a.parent.0 ≡ b.parent.0 → entering_cmp (turn In a) (turn In b) ≡ Less
 within a b less same = grind (arith, nat_tests)
 
-pub entering_is : (records : Slab EdgeRecord) (lost fresh lost_in fresh_in : List Edge) (oid : Oid) (given : Option Label) (edges : List Edge) → AreTurned lost lost_in → AreTurned fresh fresh_in
-    → ListsLayered records lost_in fresh_in oid given edges → ListsEntering (layered (edges_of records) lost fresh) oid given edges
-entering_is records lost fresh lost_in fresh_in oid given edges lost_turned fresh_turned lists =
+pub entering_is : (records : Slab EdgeRecord) (lost fresh lost_in fresh_in : List Edge) (oid : Oid) (given : Option Label) (edges : List Edge) → IsEnteringRun lost oid lost_in
+    → IsEnteringRun fresh oid fresh_in → ListsLayered records lost_in fresh_in oid given edges → ListsEntering (layered (edges_of records) lost fresh) oid given edges
+entering_is records lost fresh lost_in fresh_in oid given edges lost_run fresh_run lists =
     subst (λ (l : List Edge). ListsEntering whole oid given l) (sym lists.2) of_list
   where
     whole : List Edge
@@ -212,16 +203,16 @@ entering_is records lost fresh lost_in fresh_in oid given edges lost_turned fres
             let parts = unfiltered (has_label given) list (turn In edge) here in
             let both = (lists.1.exact (turn In edge)).0 parts.0 in (
               (members-layered (edges_of records) lost fresh edge).1 (elim both.0 [
-                | inl stays ↦ inl ((edges_lie records edge).1 stays.0, λ loses. stays.1 ((lost_turned.exact (turn In edge)).1 loses))
-                | inr new ↦ inr ((fresh_turned.exact (turn In edge)).0 new)
+                | inl stays ↦ inl ((edges_lie records edge).1 stays.0, λ loses. stays.1 ((lost_run.exact (turn In edge)).1 (loses, both.1)))
+                | inr new ↦ inr ((fresh_run.exact (turn In edge)).0 new).0
               ]),
               both.1,
               has_it given edge (sym (label_kept given edge) ∙ parts.1),
             ),
         λ h. (in_turned In kept edge).1 (Contains-filter (has_label given) list (turn In edge) ((lists.1.exact (turn In edge)).1 (
           elim ((members-layered (edges_of records) lost fresh edge).0 h.0) [
-            | inl stays ↦ inl ((edges_lie records edge).0 stays.0, λ loses. stays.1 ((lost_turned.exact (turn In edge)).0 loses))
-            | inr new ↦ inr ((fresh_turned.exact (turn In edge)).1 new)
+            | inl stays ↦ inl ((edges_lie records edge).0 stays.0, λ loses. stays.1 ((lost_run.exact (turn In edge)).0 loses).0)
+            | inr new ↦ inr ((fresh_run.exact (turn In edge)).1 (new, h.1))
           ],
           h.1,
         )) (label_kept given edge ∙ passes given edge h.2)),

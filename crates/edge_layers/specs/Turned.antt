@@ -11,11 +11,6 @@ abbrev pub turn : Side → Edge → Edge
 turn Out edge = edge
 turn In edge = record { parent = edge.child; label = edge.label; child = edge.parent }
 
--- the edges turned round, in ascending order
-pub record AreTurned (edges turned : List Edge) : Type 0 where
-  pub ascend : AreAscendingEdges turned
-  pub exact : (edge : Edge) → Contains turned edge ↔ Contains edges (turn In edge)
-
 -- the turned edges of an object's list, without those that are lost and with those that are fresh
 pub record IsLayeredList (side : Side) (records : Slab EdgeRecord) (lost fresh : List Edge) (owner : Oid) (list : List Edge) : Type 0 where
   pub ascend : AreAscendingEdges list

@@ -1,4 +1,4 @@
 -- Definitions that no public contract cites.
 pub mod Overlaid
 pub mod Places
-pub mod JoinOrders
+pub mod Chains

@@ -4,8 +4,9 @@ ghost use Rattle.edge_lists.specs.Views.{edges_of};
 ghost use Rattle.edge_layers.specs.Lists.{AreLists};
 ghost use Rattle.edge_layers.specs.Overlays.{overlaid};
 
+use crate::chains::Chains;
 use crate::edge_runs::run_of;
-use crate::edge_sets::turned_set;
+use crate::entering::{child_chains, entering_run};
 use crate::layers::{push_entering, push_leaving};
 use edge_lists::{EdgeRecord, ObjectRecord};
 use index_traits::{Adjacent, Links};
@@ -23,9 +24,9 @@ pub struct Overlay<'a> {
     records: &'a Slab<EdgeRecord>,
     lost: EdgeBuf,
     fresh: EdgeBuf,
-    // The same edges in the order of child, label and parent, turned round.
-    lost_in: EdgeBuf,
-    fresh_in: EdgeBuf,
+    // Where those of each child stand among them.
+    lost_in: Chains,
+    fresh_in: Chains,
 }
 
 impl<'a> Model for Overlay<'a> {
@@ -59,8 +60,8 @@ impl<'a> Overlay<'a> {
         requires fresh { AreAscendingEdges fresh }
         ensures { IfOk result (λ overlay. overlay ≡ overlaid (edges_of records.now) lost fresh) }
     {
-        let lost_in = turned_set(alloc, lost.as_slice())?;
-        let fresh_in = turned_set(alloc, fresh.as_slice())?;
+        let lost_in = child_chains(alloc, lost.as_slice())?;
+        let fresh_in = child_chains(alloc, fresh.as_slice())?;
         Ok(Overlay {
             objects,
             records,
@@ -115,7 +116,10 @@ impl<'a> Links for Overlay<'a> {
         steps: &mut Steps<L>,
     ) -> Result<(), NoMemory> {
         let before = buf.len();
-        let (lost, fresh) = (self.lost_in.as_slice(), self.fresh_in.as_slice());
+        let alloc = buf.allocator();
+        let lost = entering_run(alloc, self.lost.as_slice(), &self.lost_in, oid)?;
+        let fresh = entering_run(alloc, self.fresh.as_slice(), &self.fresh_in, oid)?;
+        let (lost, fresh) = (lost.as_slice(), fresh.as_slice());
         push_entering(self.objects, self.records, lost, fresh, oid, label, buf)?;
         steps.tick(1 + (buf.as_slice().len() - before) as u64);
         Ok(())

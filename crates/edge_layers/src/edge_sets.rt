@@ -6,12 +6,9 @@ ghost use Rattle.edge_lists.specs.Objects.{AreAscendingObjects};
 ghost use Rattle.edge_lists.specs.Chains.{AreChained};
 ghost use Rattle.edge_layers.specs.EdgeTests.{edge_eq, is_listed, AreFound};
 ghost use Rattle.edge_layers.specs.Layers.{staying};
-ghost use Rattle.edge_layers.specs.Turned.{AreTurned};
 ghost use Rattle.strand_sort.specs.StrandSorts.{AreJoined};
 
-use crate::turned::turned_all;
-use edge_lists::{EdgeRecord, ObjectRecord, Side, Sifted, sift};
-use key_sort::{Key, set_by_keys};
+use edge_lists::{EdgeRecord, ObjectRecord, Sifted, sift};
 use lore_base::{Edge, EdgeBuf, NoMemory};
 use slab::Slab;
 use std::alloc::Global;
@@ -85,49 +82,4 @@ pub(crate) fn layered_run(
     let stay = without_kept(alloc, lost, kept)?;
     let run = joined(alloc, stay.as_slice(), fresh)?;
     Ok(run)
-}
-
-// From so many edges on they are put in order by keys.
-const MANY: usize = 64;
-
-// The key of the parent, which comes first.
-struct ByParent;
-
-impl Key<Edge> for ByParent {
-    ghost key_of = { λ edge. edge.parent.0 };
-
-    fn key(edge: &Edge) -> u32 {
-        edge.parent.0
-    }
-}
-
-// The key of the label.
-struct ByLabel;
-
-impl Key<Edge> for ByLabel {
-    ghost key_of = { λ edge. edge.label.0 };
-
-    fn key(edge: &Edge) -> u32 {
-        edge.label.0
-    }
-}
-
-// The edges turned round, in ascending order. Edges that ascend come by parent and label, and turned
-// round they are many ascending lists, one for each parent: so keys put them in order where they are
-// many.
-pub(crate) fn turned_set(alloc: Global, edges: &[Edge]) -> Result<EdgeBuf, NoMemory>
-    ensures { IfOk result (AreTurned edges.now) }
-{
-    let turned = turned_all(alloc, Side::In, edges)?;
-    if are_many(edges) {
-        let by_keys = set_by_keys::<Edge, ByLabel, ByParent>(alloc, turned)?;
-        return Ok(by_keys);
-    }
-    let sorted = sorted_set(alloc, turned.as_slice())?;
-    Ok(sorted)
-}
-
-// Whether keys pay for so many edges.
-fn are_many(edges: &[Edge]) -> bool {
-    edges.len() >= MANY
 }

@@ -15,10 +15,12 @@ pub use layers::push_leaving;
 pub use places::places_by_child;
 pub use run_starts::RunStarts;
 
+mod chains;
 mod edge_copies;
 mod edge_overlay;
 mod edge_runs;
 mod edge_sets;
+mod entering;
 mod join_orders;
 mod layers;
 mod places;

@@ -10,7 +10,7 @@ use Rattle.near_links.specs.Links.{IsNearest, AreAtKeys, AreLinked}
 use Rattle.edge_lists.specs.Edges.{owner_of, side_cmp, Precedes}
 use Rattle.edge_lists.specs.Records.{link_at, edge_in, LiesAt}
 use Rattle.edge_lists.specs.Objects.{head_of}
-use Rattle.edge_lists.specs.Chains.{next_of, StandsAt, AreChained, IsStart, IsPlace}
+use Rattle.edge_lists.specs.Chains.{next_of, StandsAt, AreChained, IsStart, IsPlace, IsPast}
 use Rattle.near_links.proofs.NearLaws.{IsOrder, found}
 use Rattle.near_links.proofs.LinkLaws.{leads_on}
 use Rattle.edge_lists.proofs.EdgeLaws.{side_total, cmp_self, side_order}
@@ -60,11 +60,6 @@ apart owner R order at after before first linked one j k x at_j at_k = by_back (
 
 pub stands_once : (records : Slab EdgeRecord) (waiting : List ℕ) → AreAtKeys (StandsAt records waiting)
 stands_once records waiting k x y at_x at_y = some_same (sym at_x.0 ∙ at_y.0)
-
--- what follows a place isn't before the edge, or nothing follows
-abbrev pub IsPast : Side → Slab EdgeRecord → Edge → Option ℕ → Type 0
-IsPast side records edge None = Unit {0}
-IsPast side records edge (Some next) = (other : Edge) → LiesAt records next other → ¬ Precedes side other edge
 
 module _ (side : Side) (objects : List ObjectRecord) (records : Slab EdgeRecord) (waiting : List ℕ) (chained : AreChained side objects records waiting) where
   order : IsOrder (owner_of side) (Precedes side)

@@ -81,6 +81,11 @@ abbrev pub IsPlace : Side → Slab EdgeRecord → List ℕ → Edge → Option �
 IsPlace side records waiting edge place =
     IsNearest (StandsAt records waiting) (λ other. Precedes side other edge) (λ a b. Precedes side b a) place
 
+-- what follows a place isn't before the edge, or nothing follows
+abbrev pub IsPast : Side → Slab EdgeRecord → Edge → Option ℕ → Type 0
+IsPast side records edge None = Unit {0}
+IsPast side records edge (Some next) = (other : Edge) → LiesAt records next other → ¬ Precedes side other edge
+
 -- those of the records that wait and come before the edge have edges of these
 abbrev pub WaitAmong : Side → Slab EdgeRecord → List ℕ → Edge → List Edge → Type 0
 WaitAmong side records waiting edge come =

@@ -10,7 +10,7 @@ use crate::chains::{join, part};
 use crate::objects::ObjectRecord;
 use crate::records::EdgeRecord;
 use crate::sides::Side;
-use crate::walks::spot_of;
+use crate::walks::spot_near;
 use lore_base::Edge;
 use slab::Slab;
 
@@ -31,7 +31,7 @@ pub(crate) fn put_out(
     ensures { IsPutOut edge.now result objects.old records.old objects.new records.new }
 {
     let key = records.insert_reserved(EdgeRecord::alone(*edge));
-    let spot = spot_of(objects, records, Side::Out, edge, start, &[]);
+    let spot = spot_near(objects, records, Side::Out, edge, start, &[]);
     join(objects, records, Side::Out, key, edge.parent, spot);
     key
 }
@@ -57,7 +57,7 @@ pub(crate) fn put_in(
     ensures { IsPutIn edge.now key start come.now
         objects.old records.old objects.new records.new }
 {
-    let spot = spot_of(objects, records, Side::In, edge, start, come);
+    let spot = spot_near(objects, records, Side::In, edge, start, come);
     join(objects, records, Side::In, key, edge.child, spot);
 }
 

@@ -1,7 +1,7 @@
-ghost use Rattle.std.specs.Prelude.{◌≡◌, ◌↔◌, ℕ, List, [], IsTrue, IfSome, IfNone, Some, Contains, is_some};
+ghost use Rattle.std.specs.Prelude.{◌≡◌, ◌↔◌, ℕ, List, [], IsTrue, IfSome, IfNone, Some, Contains, is_some, true};
 ghost use Rattle.edge_lists.specs.Objects.{AreAscendingObjects};
 ghost use Rattle.edge_lists.specs.Edges.{owner_of, Ascend};
-ghost use Rattle.edge_lists.specs.Chains.{next_of, AreChained, IsStart, IsPlace, WaitAmong};
+ghost use Rattle.edge_lists.specs.Chains.{next_of, AreChained, IsStart, IsPlace, IsPast, WaitAmong};
 ghost use Rattle.edge_lists.specs.Records.{LiesAt, HasEdge};
 ghost use Rattle.edge_lists.specs.Views.{is_there};
 ghost use Rattle.edge_lists.specs.Types.{Out};
@@ -53,6 +53,48 @@ pub(crate) fn spot_of(
         place = Some(later);
     }
     Spot { place, next: None }
+}
+
+// The same spot, told at once where the edge comes right behind the start, as most new ones do.
+pub(crate) fn spot_near(
+    objects: &[ObjectRecord],
+    records: &Slab<EdgeRecord>,
+    side: Side,
+    edge: &Edge,
+    start: Option<usize>,
+    come: &[Edge],
+) -> Spot
+    requires ascend { AreAscendingObjects objects.now }
+    requires order { Ascend Out come.now }
+    requires chained { (waiting : List ℕ) × AreChained side objects.now records.now waiting
+        × WaitAmong side records.now waiting edge.now come.now
+        × IsStart side records.now waiting edge.now start }
+    ensures place { (waiting : List ℕ) → AreChained side objects.now records.now waiting
+        → WaitAmong side records.now waiting edge.now come.now
+        → IsStart side records.now waiting edge.now start
+        → IsPlace side records.now waiting edge.now result.place }
+    ensures next { result.next
+        ≡ next_of side objects.now records.now (owner_of side edge.now) result.place }
+{
+    let owner = side.owner(edge);
+    let next = next_of(objects, records, side, owner, start);
+    if !is_past(records, side, edge, next) {
+        return spot_of(objects, records, side, edge, start, come);
+    }
+    Spot { place: start, next }
+}
+
+// Whether what follows a place, if anything does, doesn't stand before the edge in its list.
+fn is_past(records: &Slab<EdgeRecord>, side: Side, edge: &Edge, next: Option<usize>) -> bool
+    ensures { result ≡ true → IsPast side records.now edge.now next }
+{
+    let Some(key) = next else {
+        return true;
+    };
+    match records.get(key) {
+        Some(record) => !side.precedes(&record.edge, edge),
+        None => false,
+    }
 }
 
 // Whether the record at the key is that of the edge.

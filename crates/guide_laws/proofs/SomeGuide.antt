@@ -12,9 +12,7 @@ use Rattle.list_laws.proofs.AscentLaws.{IsSetOf, some_ordered}
 use Rattle.list_laws.proofs.PairLaws.{AllPairs-nil}
 use Rattle.list_laws.proofs.MemberLaws.{Contains-map, All-from_members}
 use Rattle.list_laws.proofs.PlaceLaws.{Contains-from_place, place_of_member}
-use Rattle.dataguide.specs.Types.{Oid, Label, Edge}
-use Rattle.dataguide.specs.declared.nodes.Node.{Node}
-use Rattle.dataguide.specs.declared.nodes.GuideNode.{GuideNode}
+use Rattle.dataguide.specs.Types.{Oid, Label, Edge, Node, GuideNode}
 use Rattle.lore_base.specs.TargetSets.{AreTargetSets, LeavesTo, IsStep}
 use Rattle.dataguide.specs.Guides.{GuideGraph, sets_of, AscendByLabel, HasItsSteps, IsEntry, StandsFor}
 use Rattle.dataguide.specs.inside.Trails.{start_path}

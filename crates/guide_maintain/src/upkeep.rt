@@ -2,7 +2,7 @@ ghost use Rattle.std.specs.Prelude.{◌≡◌, ◌++◌, IfOk, IfErr};
 ghost use Rattle.lore_base.specs.Databases.{AreAscendingEdges};
 ghost use Rattle.lore_base.specs.PathOrder.{AreInPathOrder};
 ghost use Rattle.lore_base.specs.GuideLimits.{FitsGuide};
-ghost use Rattle.dataguide.specs.declared.faults.GuideFault.TheVariants as faults;
+ghost use Rattle.dataguide.specs.Types.faults;
 ghost use Rattle.dataguide.specs.Touched.{ReadsTouched, ReadsSome, ReadsWithin, parents_of};
 ghost use Rattle.dataguide.specs.Guides.{StandsFor, sets_of};
 ghost use Rattle.dataguide.specs.Deltas.{guide_then, nodes_then, IsReady, StoodFor};

@@ -17,13 +17,14 @@ use Rattle.plan_ops.proofs.DescribeLawsProbe.{last_edge, candidate}
 use Rattle.index_eval.specs.Types.{Oid, Edge, Value, ValueEntry, Path, BoundStart, Plain}
 use Rattle.index_eval.specs.Types.bound_starts
 use Rattle.index_eval.specs.Indexes.{AreIndexes}
-use Rattle.index_eval.specs.declared.clues.Clue.{Clue}
-use Rattle.index_eval.specs.declared.clues.Given.{Given}
-use Rattle.index_eval.specs.declared.clues.Given.TheVariants as given
-use Rattle.index_eval.specs.declared.clues.End.{End}
-use Rattle.index_eval.specs.declared.clues.End.TheVariants as e
-use Rattle.index_eval.specs.inside.Asked.{Follows, IsOutside, IsOperandOutside, asked, asked_of, given_operand}
-use Rattle.index_eval.specs.inside.Clues.{IsEnd, IsStartGiven, IsGivenBy, IsEndGiven, GivesFor, HasEnds, LeadBack, LeadToEnds, IsServed}
+use Rattle.member_clues.specs.declared.clues.Clue.{Clue}
+use Rattle.member_clues.specs.declared.clues.Given.{Given}
+use Rattle.member_clues.specs.declared.clues.Given.TheVariants as given
+use Rattle.member_clues.specs.declared.clues.End.{End}
+use Rattle.member_clues.specs.declared.clues.End.TheVariants as e
+use Rattle.member_clues.specs.Asked.{Follows, IsOutside, IsOperandOutside, asked, asked_of, given_operand}
+use Rattle.member_clues.specs.Clues.{IsEnd, IsStartGiven, IsGivenBy, IsEndGiven}
+use Rattle.index_eval.specs.inside.Ends.{GivesFor, HasEnds, LeadBack, LeadToEnds, IsServed}
 
 -- what depends on known slots alone is given alike where these have the same objects
 given_alike : (labels : List (List ℕ)) (edges : List Edge) (objects : List (Oid × Value)) (known : List Bool) (a b : List Oid) (own : Given) (value : Value)
@@ -58,7 +59,7 @@ met_outside labels edges slots around (bound_starts.Named named) rest oid outsid
 met_outside labels edges slots around (bound_starts.Slot slot) rest oid outside meets = meets
 met_outside labels edges slots around (bound_starts.Quantified depth) rest oid outside meets = absurd outside
 
-reached_back : (labels : List (List ℕ)) (edges links : List Edge) → ((edge : Edge) → Contains links edge ↔ Contains edges edge) → (rest : PathTree)
+pub reached_back : (labels : List (List ℕ)) (edges links : List Edge) → ((edge : Edge) → Contains links edge ↔ Contains edges edge) → (rest : PathTree)
     (start oid : Oid) → Reaches labels edges rest start oid → Reaches labels links rest start oid
 reached_back labels edges links links_are rest start oid reached =
     (reached.0, reached.1, Walk-within edges links (λ edge. (links_are edge).1) start reached.0 oid reached.2)

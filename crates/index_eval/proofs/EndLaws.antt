@@ -20,13 +20,13 @@ use Rattle.lorel_bound.specs.SlotRows.{BoundStartsAt, MeetsBy}
 use Rattle.lorel_bound.specs.Plans.{IsCandidate}
 use Rattle.product_walk.specs.ProductWalks.{ReachesInto}
 use Rattle.index_eval.specs.Types.{Oid, Label, Edge, Value, Op, ValueEntry, Path, BoundStart}
-use Rattle.index_eval.specs.declared.clues.Clue.{Clue}
-use Rattle.index_eval.specs.declared.clues.Comparison.{Comparison}
-use Rattle.index_eval.specs.declared.clues.End.{End}
-use Rattle.index_eval.specs.declared.clues.End.TheVariants as e
-use Rattle.index_eval.specs.declared.clues.Meeting.{Meeting}
-use Rattle.index_eval.specs.inside.Clues.{TakesEnds, TakesEndsFor, TakesEndsOf, HasCompared, HasComparedBy, HasMet, HasEnds, LeadBack, LeadToEnds}
-use Rattle.index_eval.specs.inside.Asked.{given_operand}
+use Rattle.member_clues.specs.declared.clues.Clue.{Clue}
+use Rattle.member_clues.specs.declared.clues.Comparison.{Comparison}
+use Rattle.member_clues.specs.declared.clues.End.{End}
+use Rattle.member_clues.specs.declared.clues.End.TheVariants as e
+use Rattle.member_clues.specs.declared.clues.Meeting.{Meeting}
+use Rattle.member_clues.specs.Asked.{given_operand}
+use Rattle.index_eval.specs.inside.Ends.{TakesEnds, TakesEndsFor, TakesEndsOf, HasCompared, HasComparedBy, HasMet, HasEnds, LeadBack, LeadToEnds}
 
 pub ends_none : (objects : List (Oid × Value)) (entries : List ValueEntry) (asked : Comparison) (ends : List Oid) → TakesEndsOf objects entries asked [] ends
 ends_none objects entries asked ends from oid value at has found = absurd (Contains-none from at)

@@ -1,5 +1,5 @@
 pub mod ClueLaws
 pub mod EndLaws
-pub mod MadeLaws
+pub mod ListedLaws
+pub mod SplitLaws
 pub mod TestLaws
-pub mod TurnedLaws

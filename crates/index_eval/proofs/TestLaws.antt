@@ -9,10 +9,11 @@ use Rattle.lorel_bound.specs.SlotRows.{HoldsOver}
 use Rattle.lorel_eval.specs.Tests.{CondOver}
 use Rattle.index_eval.specs.Types.{Oid, Edge, Value, ValueEntry, BoundCond}
 use Rattle.index_eval.specs.Indexes.{AreIndexes}
-use Rattle.index_eval.specs.declared.clues.Clue.{Clue}
-use Rattle.index_eval.specs.declared.clues.End.{End}
-use Rattle.index_eval.specs.declared.clues.End.TheVariants as e
-use Rattle.index_eval.specs.inside.Clues.{IsEnd, IsClueOf, IsProbedEnd, IsClueIn, IsEndGiven, IsServed, LeadToEnds, AreTold}
+use Rattle.member_clues.specs.declared.clues.Clue.{Clue}
+use Rattle.member_clues.specs.declared.clues.End.{End}
+use Rattle.member_clues.specs.declared.clues.End.TheVariants as e
+use Rattle.member_clues.specs.Clues.{IsEnd, IsClueOf, IsEndGiven}
+use Rattle.index_eval.specs.inside.Ends.{IsProbedEnd, IsClueIn, IsServed, LeadToEnds, AreTold}
 use Rattle.index_eval.proofs.ClueLaws.{served_fits}
 
 -- clues of a condition that is there

@@ -3,12 +3,12 @@ pub use Rattle.lore_base.specs.declared.edges.Oid.{Oid}
 pub use Rattle.lore_base.specs.declared.edges.Label.{Label}
 pub use Rattle.lore_base.specs.declared.edges.Edge.{Edge}
 pub use Rattle.lore_base.specs.declared.values.Value.{Value}
+pub use Rattle.lore_base.specs.declared.values.Value.TheVariants.{Complex}
 pub use Rattle.index_traits.specs.declared.entries.ValueEntry.{ValueEntry}
 pub use Rattle.lore_base.specs.declared.operators.Op.{Op}
 pub use Rattle.lore_base.specs.declared.paths.Path.{Path}
 pub use Rattle.lore_base.specs.declared.paths.Pattern.TheVariants.{Plain}
 pub use Rattle.lorel_bound.specs.declared.conditions.BoundCond.{BoundCond}
-pub use Rattle.lorel_bound.specs.declared.conditions.BoundPath.{BoundPath}
 pub use Rattle.lorel_bound.specs.declared.conditions.BoundStart.{BoundStart}
 pub use Rattle.lorel_bound.specs.declared.conditions.BoundStart.TheVariants as bound_starts
 pub use Rattle.lore_base.specs.declared.limits.TheConstants.{LEAVES}

@@ -1,3 +1,3 @@
 -- Definitions that no public contract cites.
-pub mod Asked
-pub mod Clues
+pub mod Ends
+pub mod Listing

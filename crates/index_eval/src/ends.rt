@@ -6,16 +6,16 @@ ghost use Rattle.lore_base.specs.Paths.{path_tree};
 ghost use Rattle.lore_base.specs.TargetSets.{ListsInOrder};
 ghost use Rattle.product_walk.specs.ProductWalks.{ReachesInto};
 ghost use Rattle.lorel_bound.specs.Conditions.{at};
-ghost use Rattle.index_eval.specs.inside.Clues.{TakesEnds, TakesEndsFor, TakesEndsOf};
-ghost use Rattle.index_eval.specs.inside.Clues.{HasComparedBy, HasCompared, HasMet, HasEnds};
-ghost use Rattle.index_eval.specs.inside.Clues.{IsProbedEnd, LeadToEnds, AreTold};
+ghost use Rattle.index_eval.specs.inside.Ends.{TakesEnds, TakesEndsFor, TakesEndsOf};
+ghost use Rattle.index_eval.specs.inside.Ends.{HasComparedBy, HasCompared, HasMet, HasEnds};
+ghost use Rattle.index_eval.specs.inside.Ends.{IsProbedEnd, LeadToEnds, AreTold};
 
-use crate::choosing::is_asked;
-use crate::clues::{Clue, Comparison, End, Given, Meeting};
+use crate::pace::{Pace, more_ends};
 use index_traits::{Adjacent, Links, Row, ValueOf, Values};
 use lore_base::limits::RANGES;
-use lore_base::{NoMemory, Oid, OidBuf, Steps, Value};
+use lore_base::{NoMemory, Oid, OidBuf, Op, Steps, Value};
 use lorel_bound::BoundStart;
+use member_clues::{Clue, Comparison, End, Given, Meeting, is_asked};
 use oem_labels::LabelTable;
 use product_walk::{Route, WayBack};
 use std::alloc::Global;
@@ -23,21 +23,58 @@ use std::sync::ledger::Ledger;
 
 const LAST_SLOT: u32 = RANGES as u32 - 1;
 
-/// What the objects of a clue are found in, and how many may be at its end.
+/// What the objects of a clue are found in, how many may be at its end, and what was done so far.
 #[derive(Drop)]
-pub(crate) struct Readers<'r, G, K, V> {
+pub(crate) struct Readers<'r, 'p, G, K, V> {
     pub(crate) graph: &'r G,
     pub(crate) labels: &'r LabelTable,
     pub(crate) links: &'r K,
     pub(crate) values: &'r V,
     pub(crate) most: usize,
+    pub(crate) pace: &'p Pace,
 }
 
-/// The objects that the first clue tells, of those to be asked for the slot, at whose end aren't
-/// too many; None where no clue tells them.
+/// The objects that a clue tells, of those to be asked for the slot: the first at whose end are few
+/// objects, or else the first with no more there than the rows that were tested allow. None where
+/// no clue tells them.
 pub(crate) fn objects_in_turn<G: Adjacent + ValueOf, K: Links, V: Values, L: Ledger>(
     alloc: Global,
-    readers: &Readers<'_, G, K, V>,
+    readers: &Readers<'_, '_, G, K, V>,
+    clues: &[Clue<'_>],
+    known: &[bool; RANGES],
+    slot: u32,
+    row: &Row,
+    steps: &mut Steps<L>,
+) -> Result<Option<OidBuf>, NoMemory>
+    requires { All (λ clue. IsProbedEnd clue.end) clues.now }
+    ensures { IfOk result (λ found. IfSome found (AreTold readers.now.labels.now
+        (G.edges readers.now.graph.now) (G.objects readers.now.graph.now)
+        (K.edges readers.now.links.now) (V.entries readers.now.values.now)
+        clues.now known.now slot row.now)) }
+{
+    let found = objects_of_first(alloc, readers, clues, known, slot, row, steps)?;
+    if found.is_some() {
+        return Ok(found);
+    }
+    let most = more_ends(known, readers.pace);
+    if most <= readers.most {
+        return Ok(None);
+    }
+    let more = Readers {
+        graph: readers.graph,
+        labels: readers.labels,
+        links: readers.links,
+        values: readers.values,
+        most,
+        pace: readers.pace,
+    };
+    objects_of_first(alloc, &more, clues, known, slot, row, steps)
+}
+
+// The objects that the first of these clues tells at whose end aren't too many.
+fn objects_of_first<G: Adjacent + ValueOf, K: Links, V: Values, L: Ledger>(
+    alloc: Global,
+    readers: &Readers<'_, '_, G, K, V>,
     clues: &[Clue<'_>],
     known: &[bool; RANGES],
     slot: u32,
@@ -64,7 +101,7 @@ pub(crate) fn objects_in_turn<G: Adjacent + ValueOf, K: Links, V: Values, L: Led
 /// The objects from which the clue's path leads to its end; None where too many objects are there.
 pub(crate) fn objects_by<G: Adjacent + ValueOf, K: Links, V: Values, L: Ledger>(
     alloc: Global,
-    readers: &Readers<'_, G, K, V>,
+    readers: &Readers<'_, '_, G, K, V>,
     clue: &Clue<'_>,
     row: &Row,
     steps: &mut Steps<L>,
@@ -77,6 +114,7 @@ pub(crate) fn objects_by<G: Adjacent + ValueOf, K: Links, V: Values, L: Ledger>(
     let Some(ends) = ends_of(alloc, readers, &clue.end, row, steps)? else {
         return Ok(None);
     };
+    readers.pace.note_ends(ends.len());
     let found = objects_back(alloc, readers, &clue.way, &ends, steps)?;
     match &clue.through {
         Some(first) => {
@@ -87,10 +125,10 @@ pub(crate) fn objects_by<G: Adjacent + ValueOf, K: Links, V: Values, L: Ledger>(
     }
 }
 
-// The objects from which the way leads to one of these.
-fn objects_back<G, K: Links, V, L: Ledger>(
+/// The objects from which the way leads to one of these.
+pub(crate) fn objects_back<G, K: Links, V, L: Ledger>(
     alloc: Global,
-    readers: &Readers<'_, G, K, V>,
+    readers: &Readers<'_, '_, G, K, V>,
     way: &WayBack<'_>,
     to: &OidBuf,
     steps: &mut Steps<L>,
@@ -106,7 +144,7 @@ fn objects_back<G, K: Links, V, L: Ledger>(
 // The objects at the end of a clue; None where there are too many.
 fn ends_of<G: Adjacent + ValueOf, K, V: Values, L: Ledger>(
     alloc: Global,
-    readers: &Readers<'_, G, K, V>,
+    readers: &Readers<'_, '_, G, K, V>,
     end: &End<'_>,
     row: &Row,
     steps: &mut Steps<L>,
@@ -125,7 +163,7 @@ fn ends_of<G: Adjacent + ValueOf, K, V: Values, L: Ledger>(
 // The objects that the other path reaches; None where there are too many.
 fn ends_met<G: Adjacent, K, V, L: Ledger>(
     alloc: Global,
-    readers: &Readers<'_, G, K, V>,
+    readers: &Readers<'_, '_, G, K, V>,
     meeting: &Meeting<'_>,
     row: &Row,
     steps: &mut Steps<L>,
@@ -148,7 +186,7 @@ fn ends_met<G: Adjacent, K, V, L: Ledger>(
 // there are too many.
 fn ends_compared<G: Adjacent + ValueOf, K, V: Values, L: Ledger>(
     alloc: Global,
-    readers: &Readers<'_, G, K, V>,
+    readers: &Readers<'_, '_, G, K, V>,
     comparison: &Comparison<'_>,
     row: &Row,
     steps: &mut Steps<L>,
@@ -169,7 +207,7 @@ fn ends_compared<G: Adjacent + ValueOf, K, V: Values, L: Ledger>(
 // The same for a value.
 fn ends_of_value<G, K, V: Values>(
     alloc: Global,
-    readers: &Readers<'_, G, K, V>,
+    readers: &Readers<'_, '_, G, K, V>,
     comparison: &Comparison<'_>,
     value: &Value,
 ) -> Result<Option<OidBuf>, NoMemory>
@@ -185,7 +223,7 @@ fn ends_of_value<G, K, V: Values>(
 // The same for the values of all objects that a path reaches.
 fn ends_of_path<G: Adjacent + ValueOf, K, V: Values, L: Ledger>(
     alloc: Global,
-    readers: &Readers<'_, G, K, V>,
+    readers: &Readers<'_, '_, G, K, V>,
     comparison: &Comparison<'_>,
     start: BoundStart,
     route: &Route<'_>,
@@ -213,10 +251,11 @@ fn ends_of_path<G: Adjacent + ValueOf, K, V: Values, L: Ledger>(
     ends_of_each(alloc, readers, comparison, found.as_slice())
 }
 
-// The ends for the values of all these objects.
+// The ends for the values of all these objects; None where there are too many. Most often they are
+// few, so those that are equal are listed without being counted first.
 fn ends_of_each<G: ValueOf, K, V: Values>(
     alloc: Global,
-    readers: &Readers<'_, G, K, V>,
+    readers: &Readers<'_, '_, G, K, V>,
     comparison: &Comparison<'_>,
     found: &[Oid],
 ) -> Result<Option<OidBuf>, NoMemory>
@@ -226,18 +265,38 @@ fn ends_of_each<G: ValueOf, K, V: Values>(
 {
     let mut ends = OidBuf::new(alloc);
     'found: for oid in found {
-        let count = count_of_ends(readers, comparison, *oid);
-        if ends.len().saturating_add(count as usize) > readers.most {
+        if !may_list_more(readers, comparison, *oid, ends.len()) {
             return Ok(None);
         }
         append_ends_of(readers, comparison, *oid, &mut ends)?;
+        if ends.len() > readers.most {
+            readers.pace.note_too_many();
+            return Ok(None);
+        }
     }
     Ok(Some(ends))
 }
 
+// Whether to list the ends for the value of an object too, where so many are listed. They are
+// counted to tell, but for those that are equal, as long as no ends were listed in vain.
+fn may_list_more<G: ValueOf, K, V: Values>(
+    readers: &Readers<'_, '_, G, K, V>,
+    comparison: &Comparison<'_>,
+    from: Oid,
+    listed: usize,
+) -> bool
+    requires { IsProbed comparison.now.op }
+{
+    if matches!(comparison.op, Op::Eq) && !readers.pace.counts_first() {
+        return true;
+    }
+    let count = count_of_ends(readers, comparison, from);
+    listed.saturating_add(count as usize) <= readers.most
+}
+
 // How many ends there are for the value of an object. None is listed.
 fn count_of_ends<G: ValueOf, K, V: Values>(
-    readers: &Readers<'_, G, K, V>,
+    readers: &Readers<'_, '_, G, K, V>,
     comparison: &Comparison<'_>,
     from: Oid,
 ) -> u32
@@ -257,7 +316,7 @@ fn count_of_ends<G: ValueOf, K, V: Values>(
 
 // Appends the ends for the value of an object.
 fn append_ends_of<G: ValueOf, K, V: Values>(
-    readers: &Readers<'_, G, K, V>,
+    readers: &Readers<'_, '_, G, K, V>,
     comparison: &Comparison<'_>,
     from: Oid,
     ends: &mut OidBuf,
@@ -304,8 +363,8 @@ fn object_of(start: BoundStart, row: &Row) -> Option<Oid>
     }
 }
 
-// The object in the slot; None where there are not so many.
-fn in_slot(row: &Row, slot: u32) -> Option<Oid>
+/// The object in the slot; None where there are not so many.
+pub(crate) fn in_slot(row: &Row, slot: u32) -> Option<Oid>
     ensures { result ≡ slice_get row.now slot }
 {
     let oid = row.get(slot.min(LAST_SLOT));

@@ -1,35 +1,31 @@
 -- What is kept where links come and go.
-use Rattle.std.proofs.Common.{◌≡◌, ◌≢◌, ◌⊎◌, ◌↔◌, ℕ, ◌+◌, ◌<◌, ◌≤◌, Less, Option, Some, None, List, [], ◌∷◌, ◌++◌, length, get_or, take, drop, map, All, Contains, refl, sym, ap, ◌∙◌, inl, inr, subst, arith}
+use Rattle.std.proofs.Common.{◌≡◌, ℕ, ◌+◌, ◌<◌, Less, List, [], ◌∷◌, length, get_or, take, drop, All, Contains, refl, sym, ap, ◌∙◌, inl, inr, subst, arith}
 use Rattle.std.proofs.lemmas.List.{take_more, length-take, take-append-drop, get_or_append_left, get_or_default}
-use Rattle.std.proofs.lemmas.List.Elements.{All-contains, Contains-get_or}
+use Rattle.std.proofs.lemmas.List.Elements.{All-contains}
 use Rattle.near_links.proofs.SlotLaws.{ascend_listed}
 use Rattle.sorted_list.specs.SortedLists.{Ascends, IsChange, IsLessWith}
-use Rattle.link_index.specs.Types.{Oid}
 use Rattle.link_index.specs.declared.link.Link.{Link}
 use Rattle.link_index.specs.declared.records.LinkRecord.{LinkRecord}
 use Rattle.link_index.specs.declared.heads.Head.{Head}
 use Rattle.link_index.specs.inside.LinkEdges.{order}
-use Rattle.link_index.specs.inside.Records.{link_in, nothing, links_of, LiesAt, HasLink, AreAscendingHeads, IsListed, AreChained, ArePut, AreTaken, IsLinked}
-use Rattle.link_index.specs.inside.Heads.{SameHeads}
+use Rattle.link_index.specs.inside.Records.{link_in, nothing, links_of, HasLink, AreAscendingHeads, AreChained, ArePut, AreTaken}
 use Rattle.link_index.proofs.LinkLaws.{tied_link}
 use Rattle.link_index.proofs.RecordLaws.{link_total, link_self, less≢equal, put_more, take_more as taken_more}
-use Rattle.link_index.proofs.HeadLaws.{heads_chain}
 use Rattle.link_index.proofs.RunLaws.{links_lie}
 
 -- ---- one after another
-pub put_none : (heads : List Head) (records : List LinkRecord) → AreAscendingHeads heads → AreChained heads records → ArePut [] heads records heads records
+pub put_none : (heads : List Head) (records : List LinkRecord) → AreAscendingHeads heads → AreChained heads records → ArePut [] records heads records
 put_none heads records ascend chained = record {
-  children = refl;
   ascend = ascend;
   chained = chained;
   links = λ x. (λ has. inl has, λ either. elim either [ inl old ↦ old | inr at ↦ absurd (omega (arith, at.1)) ]);
   kept = λ k x lies. lies;
 }
 
-pub put_step : (come : List Link) (i : ℕ) (d : Link) → i < length come → (h0 h1 h2 : List Head) (r0 r1 r2 : List LinkRecord) → ArePut (take i come) h0 r0 h1 r1
-    → ArePut (get_or come i d ∷ []) h1 r1 h2 r2 → ArePut (take (i + 1) come) h0 r0 h2 r2
-put_step come i d lt h0 h1 h2 r0 r1 r2 all one =
-    subst (λ (xs : List Link). ArePut xs h0 r0 h2 r2) (sym (take_more come i d lt)) (put_more (take i come) (get_or come i d) h0 h1 h2 r0 r1 r2 all one)
+pub put_step : (come : List Link) (i : ℕ) (d : Link) → i < length come → (h1 h2 : List Head) (r0 r1 r2 : List LinkRecord) → ArePut (take i come) r0 h1 r1
+    → ArePut (get_or come i d ∷ []) r1 h2 r2 → ArePut (take (i + 1) come) r0 h2 r2
+put_step come i d lt h1 h2 r0 r1 r2 all one =
+    subst (λ (xs : List Link). ArePut xs r0 h2 r2) (sym (take_more come i d lt)) (put_more (take i come) (get_or come i d) h1 h2 r0 r1 r2 all one)
 
 pub taken_none : (heads : List Head) (records : List LinkRecord) → AreAscendingHeads heads → AreChained heads records → AreTaken [] heads records heads records
 taken_none heads records ascend chained = record {
@@ -57,9 +53,9 @@ not_before links ascends i d lt at =
     let here : get_or links i e ≡ e = get_or_default links i e d lt in
     less≢equal (sym (subst (λ (x : Link). order x e ≡ Less) read (subst (λ (x : Link). order (get_or links k e) x ≡ Less) here (ascends k i e lt_k lt))) ∙ link_self e)
 
-pub fresh_at : (come : List Link) (h0 h1 : List Head) (r0 r1 : List LinkRecord) (i : ℕ) (d : Link) → ArePut (take i come) h0 r0 h1 r1 → Ascends order come
+pub fresh_at : (come : List Link) (heads : List Head) (r0 r1 : List LinkRecord) (i : ℕ) (d : Link) → ArePut (take i come) r0 heads r1 → Ascends order come
     → All (λ link. ¬ HasLink r0 link) come → i < length come → ¬ HasLink r1 (get_or come i d)
-fresh_at come h0 h1 r0 r1 i d put ascends new lt has = elim ((put.links (get_or come i d)).0 has) [
+fresh_at come heads r0 r1 i d put ascends new lt has = elim ((put.links (get_or come i d)).0 has) [
   | inl old ↦ new i d lt old
   | inr at ↦ not_before come ascends i d lt at
 ]
@@ -67,9 +63,6 @@ fresh_at come h0 h1 r0 r1 i d put ascends new lt has = elim ((put.links (get_or 
 pub still_has : (gone : List Link) (h0 h1 : List Head) (r0 r1 : List LinkRecord) (i : ℕ) (d : Link) → AreTaken (take i gone) h0 r0 h1 r1 → Ascends order gone
     → All (HasLink r0) gone → i < length gone → HasLink r1 (get_or gone i d)
 still_has gone h0 h1 r0 r1 i d taken ascends has lt = (taken.links (get_or gone i d)).1 (has i d lt, not_before gone ascends i d lt)
-
-pub listed_same : (old new : List Head) → map (λ (h : Head). h.child) new ≡ map (λ (h : Head). h.child) old → (child : Oid) → IsListed old child → IsListed new child
-listed_same old new same child listed = subst (λ (xs : List Oid). Contains xs child) (sym same) listed
 
 -- ---- the whole change
 pub new_links : (kept gone come : List Link) → IsChange kept gone come → All (λ link. ¬ Contains gone link) come → All (λ link. ¬ Contains kept link) come
@@ -81,12 +74,12 @@ all_lack records come lack k d lt has = lack k d lt ((links_lie records (get_or 
 pub all_have : (records : List LinkRecord) (gone : List Link) → All (Contains (links_of records)) gone → All (HasLink records) gone
 all_have records gone kept k d lt = (links_lie records (get_or gone k d)).0 (kept k d lt)
 
-pub all_still : (come : List Link) (h0 h1 : List Head) (r0 r1 : List LinkRecord) → ArePut come h0 r0 h1 r1 → (gone : List Link) → All (HasLink r0) gone → All (HasLink r1) gone
-all_still come h0 h1 r0 r1 put gone has k d lt = (put.links (get_or gone k d)).1 (inl (has k d lt))
+pub all_still : (come : List Link) (heads : List Head) (r0 r1 : List LinkRecord) → ArePut come r0 heads r1 → (gone : List Link) → All (HasLink r0) gone → All (HasLink r1) gone
+all_still come heads r0 r1 put gone has k d lt = (put.links (get_or gone k d)).1 (inl (has k d lt))
 
-pub less_with : (gone come : List Link) (h0 h1 h2 h3 : List Head) (r0 r1 r2 : List LinkRecord) → ArePut come h0 r0 h1 r1 → AreTaken gone h2 r1 h3 r2
+pub less_with : (gone come : List Link) (h1 h2 h3 : List Head) (r0 r1 r2 : List LinkRecord) → ArePut come r0 h1 r1 → AreTaken gone h2 r1 h3 r2
     → All (HasLink r0) gone → All (λ link. ¬ HasLink r0 link) come → IsLessWith (links_of r0) gone come (links_of r2)
-less_with gone come h0 h1 h2 h3 r0 r1 r2 put taken has new link = (
+less_with gone come h1 h2 h3 r0 r1 r2 put taken has new link = (
   λ at.
       let both = (taken.links link).0 ((links_lie r2 link).0 at) in
       elim ((put.links link).0 both.0) [

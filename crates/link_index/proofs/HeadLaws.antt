@@ -1,6 +1,6 @@
 -- The first records of children, where one of them is set, and where children are listed or taken out of the list.
-use Rattle.std.proofs.Common.{◌≡◌, ◌≢◌, ◌⊎◌, ℕ, zero, suc, ◌+◌, ◌-◌, ◌<◌, ◌≤◌, Bool, true, false, Option, Some, None, is_some, cond, nat_eq, ltb, nat_cmp, Less, Equal, Greater, Err, List, [], ◌∷◌, ◌++◌, length, get_or, set, take, drop, map, All, Contains, AllPairs, refl, sym, ap, ◌∙◌, inl, inr, subst, arith, length-append}
-use Rattle.std.specs.List.{filter, slice_get}
+use Rattle.std.proofs.Common.{◌≡◌, ◌≢◌, ℕ, zero, suc, ◌+◌, ◌-◌, ◌<◌, ◌≤◌, Bool, true, false, Option, Some, None, is_some, cond, nat_eq, ltb, nat_cmp, Less, Equal, Greater, Err, List, [], ◌∷◌, ◌++◌, length, get_or, set, map, All, refl, sym, ap, ◌∙◌, inl, inr, subst, arith, length-append}
+use Rattle.std.specs.List.{slice_get}
 use Rattle.std.specs.Bool.{OnTrue}
 use Rattle.std.specs.Option.{IfSome}
 use Rattle.std.proofs.lemmas.Option.{get_or_from_slice_get}
@@ -11,18 +11,17 @@ use Rattle.std.specs.Ordering.{ordering_index}
 use Rattle.std.proofs.lemmas.Bool.{cases_eq, cases_lt, true≢false, ltb-true}
 use Rattle.std.proofs.lemmas.Bool.Decides.{nat_tests}
 use Rattle.std.proofs.lemmas.Cmp.{ranked}
-use Rattle.std.proofs.lemmas.List.{get_or_default, get_or-map, length-map, get_or-set_same, length-set}
-use Rattle.std.proofs.lemmas.List.Kept.{AllPairs-filter}
-use Rattle.lore_base.proofs.ListLaws.{AllPairs-tail, AllPairs-head}
-use Rattle.lore_base.proofs.MemberLaws.{Contains-head, Contains-tail}
-use Rattle.near_links.specs.Links.{IsNearest, AreAhead}
+use Rattle.std.proofs.Math.Seq.{set-append_seam}
+use Rattle.std.proofs.lemmas.List.{get_or-map, length-map, get_or-set_same, length-set, get_or-append_right}
+use Rattle.lore_base.proofs.ListLaws.{AllPairs-tail}
+use Rattle.near_links.specs.Links.{IsNearest}
 use Rattle.near_links.proofs.NearLaws.{found}
 use Rattle.near_links.proofs.AheadLaws.{none_some}
 use Rattle.link_index.specs.Types.{Oid}
 use Rattle.link_index.specs.declared.heads.Head.{Head}
 use Rattle.link_index.specs.declared.link.Link.{Link}
 use Rattle.link_index.specs.declared.records.LinkRecord.{LinkRecord}
-use Rattle.link_index.specs.inside.Records.{head_of, AreAscendingHeads, IsListed, IsHeaded, LiesAt, HasLink, after_at, child_of, Precedes, AreChained}
+use Rattle.link_index.specs.inside.Records.{head_of, AreAscendingHeads, IsListed, IsHeaded, LiesAt, HasLink, child_of, Precedes, AreChained}
 use Rattle.link_index.specs.inside.Heads.{SameHeads, IsGap, IsWithChild}
 
 -- a child other than the first has its record elsewhere
@@ -247,6 +246,28 @@ with_child heads child place ascend gap = record {
 pub pushed_child : (heads new : List Head) (child : Oid) → AreAscendingHeads heads → All (λ h. h.child.0 < child.0) heads → new ≡ heads ++ alone child ∷ [] → IsWithChild heads child new
 pushed_child heads new child ascend below is =
     subst (λ (l : List Head). IsWithChild heads child l) (insert_end heads (alone child) ∙ sym is) (with_child heads child (length heads) ascend (gap_behind heads child below))
+
+-- its head is set there
+pub headed_last : (heads : List Head) (child : Oid) (first : Option ℕ) → AreAscendingHeads (heads ++ alone child ∷ [])
+    → IsHeaded (heads ++ alone child ∷ []) child first (heads ++ record { child = child; first = first } ∷ [])
+headed_last heads child first ascend =
+    subst (λ (l : List Head). IsHeaded (heads ++ alone child ∷ []) child first l) is
+    (headed (heads ++ alone child ∷ []) ascend (length heads) (alone child) child first within (ap (λ (h : Head). h.child) here))
+  where
+    within : length heads < length (heads ++ alone child ∷ [])
+    within = omega (arith, length-append heads (alone child ∷ []))
+
+    none : length heads - length heads ≡ 0
+    none = omega arith
+
+    here : get_or (heads ++ alone child ∷ []) (length heads) (alone child) ≡ alone child
+    here = get_or-append_right heads (alone child ∷ []) (length heads) (length heads) (alone child) refl (omega arith) ∙ ap (λ (n : ℕ). get_or (alone child ∷ []) n (alone child)) none
+
+    is : set (heads ++ alone child ∷ []) (length heads) (record (get_or (heads ++ alone child ∷ []) (length heads) (alone child)) { first = first })
+        ≡ heads ++ record { child = child; first = first } ∷ []
+    is =
+        ap (λ (h : Head). set (heads ++ alone child ∷ []) (length heads) (record h { first = first })) here
+        ∙ set-append_seam heads (alone child) [] (record { child = child; first = first })
 
 pub listed_already : (heads : List Head) (child : Oid) → AreAscendingHeads heads → IsListed heads child → IsWithChild heads child heads
 listed_already heads child ascend listed = record {

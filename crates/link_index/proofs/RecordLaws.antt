@@ -1,5 +1,5 @@
 -- Records of links in the lists of their children.
-use Rattle.std.proofs.Common.{◌≡◌, ◌≢◌, ◌⊎◌, ◌↔◌, ℕ, ◌+◌, ◌-◌, ◌<◌, ◌≤◌, Less, Equal, Greater, Option, Some, None, List, [], ◌∷◌, ◌++◌, length, get_or, set, take, drop, map, Contains, refl, sym, ap, ◌∙◌, inl, inr, subst, arith}
+use Rattle.std.proofs.Common.{◌≡◌, ◌≢◌, ◌⊎◌, ℕ, ◌-◌, ◌<◌, Less, Equal, Greater, Option, Some, None, List, [], ◌∷◌, ◌++◌, length, get_or, set, take, drop, map, Contains, refl, sym, ap, ◌∙◌, inl, inr, subst, arith}
 use Rattle.std.specs.Cmp.{IsTotalOrder}
 use Rattle.std.specs.Option.{IfSome}
 use Rattle.std.specs.Ordering.{ordering_reverse}
@@ -9,10 +9,10 @@ use Rattle.std.proofs.lemmas.Bool.Decides.{nat_tests}
 use Rattle.std.proofs.lemmas.Cmp.{nat_cmp_total, on_total, then_total}
 use Rattle.std.proofs.lemmas.List.{get_or-set_same, get_or-set_other, length-set, get_or_past, get_or_append_left, get_or-append_right, length_push, get_or_default, length-map, take-append-le, take_all}
 use Rattle.std.proofs.lemmas.List.Elements.{Contains-append_left, Contains-append_right, Contains-append_cases}
-use Rattle.near_links.specs.Links.{IsNearest, IsAdded, IsRemoved, AreAtKeys, AreAhead, AreJoinedAhead, ArePartedAhead}
+use Rattle.near_links.specs.Links.{IsNearest, IsAdded, IsRemoved, AreAtKeys, AreJoinedAhead, ArePartedAhead}
 use Rattle.near_links.proofs.NearLaws.{IsOrder}
 use Rattle.near_links.proofs.LinkLaws.{joined-ahead, parted-ahead}
-use Rattle.near_links.proofs.AheadLaws.{some_same, none_some, next_nearest, next_is}
+use Rattle.near_links.proofs.AheadLaws.{some_same, none_some, next_nearest, next_is, place_here}
 use Rattle.near_links.proofs.SlotLaws.{key_within}
 use Rattle.link_index.specs.Types.{Oid}
 use Rattle.link_index.specs.declared.link.Link.{Link}
@@ -139,9 +139,8 @@ place_written records new link key written (Some p) here put =
 
 pub put_one : (h0 h1 : List Head) (r0 r1 r2 : List LinkRecord) (link : Link) (place next : Option ℕ) (key : ℕ) → AreChained h0 r0 → (¬ HasLink r0 link)
     → IsPlace r0 link place → next ≡ next_of h0 r0 link.child place → IsWritten r0 key (record { edge = Some link; after = next }) r1
-    → IsLed link.child place (Some key) h0 r1 h1 r2 → ArePut (link ∷ []) h0 r0 h1 r2
+    → IsLed link.child place (Some key) h0 r1 h1 r2 → ArePut (link ∷ []) r0 h1 r2
 put_one h0 h1 r0 r1 r2 link place next key chained new here next_at put led = record {
-  children = led.children;
   ascend = led.ascend;
   chained = joined-ahead child_of Precedes list_order same_child (LiesAt r0) (LiesAt r2) (lies_once r0) (after_at r0) (head_of h0) chained key link added fresh
       place next here (subst (λ (l : Option ℕ). IsNearest (LiesAt r0) (λ y. Precedes link y) Precedes l) (sym next_at)
@@ -194,10 +193,9 @@ put_one h0 h1 r0 r1 r2 link place next key chained new here next_at put led = re
       other_heads = led.heads;
     }
 
-pub put_more : (come : List Link) (link : Link) (h0 h1 h2 : List Head) (r0 r1 r2 : List LinkRecord) → ArePut come h0 r0 h1 r1 → ArePut (link ∷ []) h1 r1 h2 r2
-    → ArePut (come ++ link ∷ []) h0 r0 h2 r2
-put_more come link h0 h1 h2 r0 r1 r2 all one = record {
-  children = one.children ∙ all.children;
+pub put_more : (come : List Link) (link : Link) (h1 h2 : List Head) (r0 r1 r2 : List LinkRecord) → ArePut come r0 h1 r1 → ArePut (link ∷ []) r1 h2 r2
+    → ArePut (come ++ link ∷ []) r0 h2 r2
+put_more come link h1 h2 r0 r1 r2 all one = record {
   ascend = one.ascend;
   chained = one.chained;
   links = λ x. (
@@ -215,6 +213,21 @@ put_more come link h0 h1 h2 r0 r1 r2 all one = record {
   );
   kept = λ k x lies. one.kept k x (all.kept k x lies);
 }
+
+-- a link is put behind the last one of its list
+start_within : (old new : List LinkRecord) (link : Link) (key : ℕ) (written : LinkRecord) (place : ℕ) → IsStart old link (Some place) → IsWritten old key written new → place < length new
+start_within old new link key written place start put =
+    let other : place ≢ key = λ same. none_some (sym put.vacant ∙ subst (λ (n : ℕ). LiesAt old n start.0) same start.1) in
+    lies_within new place start.0 (ap link_in (put.others place other) ∙ start.1)
+
+pub put_behind : (heads : List Head) (r0 r1 : List LinkRecord) (link : Link) (place key : ℕ) (was : LinkRecord) → AreAscendingHeads heads → AreChained heads r0 → (¬ HasLink r0 link)
+    → IsStart r0 link (Some place) → after_at r0 place ≡ None → IsWritten r0 key (record { edge = Some link; after = None }) r1 → was ≡ get_or r1 place was
+    → ArePut (link ∷ []) r0 heads (set r1 place (record was { after = Some key }))
+put_behind heads r0 r1 link place key was ascend chained new start last put is =
+    subst (λ (r : LinkRecord). ArePut (link ∷ []) r0 heads (set r1 place (record r { after = Some key }))) (sym is)
+    (put_one heads heads r0 r1 (set r1 place (record (get_or r1 place was) { after = Some key })) link (Some place) None key chained new
+    (place_here child_of Precedes list_order (LiesAt r0) (lies_once r0) (after_at r0) (head_of heads) chained link (Some place) None start last tt)
+    (sym last) put (led_record heads r1 link.child place (Some key) was ascend (start_within r0 r1 link key (record { edge = Some link; after = None }) place start put)))
 
 -- ---- a link is taken
 pub next_lies : (heads : List Head) (records : List LinkRecord) (link : Link) (place : Option ℕ) → AreChained heads records → IsPlace records link place → (has : HasLink records link)
@@ -333,7 +346,7 @@ led_within child place next h0 r0 h1 r1 key link lies led = omega (arith, lies_w
 -- the same where the place was found in slices of the records
 pub put_through : (h0 h1 : List Head) (r0 r1 r2 s1 s2 s3 : List LinkRecord) → s1 ≡ r0 → s2 ≡ r0 → s3 ≡ r1 → (link : Link) (place next : Option ℕ) (key : ℕ) → AreChained h0 r0 → (¬ HasLink r0 link)
     → IsPlace s1 link place → next ≡ next_of h0 s2 link.child place → IsWritten r0 key (record { edge = Some link; after = next }) r1
-    → IsLed link.child place (Some key) h0 s3 h1 r2 → ArePut (link ∷ []) h0 r0 h1 r2
+    → IsLed link.child place (Some key) h0 s3 h1 r2 → ArePut (link ∷ []) r0 h1 r2
 put_through h0 h1 r0 r1 r2 s1 s2 s3 first second third link place next key chained new here next_at put led =
     put_one h0 h1 r0 r1 r2 link place next key chained new (subst (λ (r : List LinkRecord). IsPlace r link place) first here)
     (subst (λ (r : List LinkRecord). next ≡ next_of h0 r link.child place) second next_at) put

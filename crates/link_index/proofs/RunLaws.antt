@@ -1,13 +1,12 @@
 -- The run of links to one child.
-use Rattle.std.proofs.Common.{◌≡◌, ◌↔◌, ℕ, ◌+◌, ◌<◌, Bool, true, false, Less, Option, Some, None, IfSome, List, [], ◌∷◌, ◌++◌, length, get_or, map, nat_eq, Contains, AllPairs, refl, sym, ap, subst, ◌∙◌, inl, inr, arith}
-use Rattle.std.specs.List.{filter}
+use Rattle.std.proofs.Common.{◌≡◌, ◌↔◌, ℕ, ◌<◌, true, Less, Option, Some, None, IfSome, List, [], ◌∷◌, ◌++◌, length, get_or, Contains, refl, sym, ap, subst, ◌∙◌, arith}
 use Rattle.std.proofs.lemmas.Bool.Decides.{nat_tests}
 use Rattle.std.proofs.lemmas.List.{get_or-map, length-map, map-append, append_assoc, append-nil}
-use Rattle.std.proofs.lemmas.List.Elements.{Contains-get_or, filter-append}
+use Rattle.std.proofs.lemmas.List.Elements.{filter-append}
 use Rattle.std.proofs.lemmas.List.Kept.{AllPairs-filter}
 use Rattle.lore_base.proofs.MemberLaws.{Contains-filter, unfiltered}
 use Rattle.lore_base.specs.Walks.{entering_cmp, ListsEntering}
-use Rattle.near_links.specs.Links.{IsRun, IsRunTo, follows}
+use Rattle.near_links.specs.Links.{IsRunTo}
 use Rattle.near_links.proofs.AheadLaws.{run_none, run_more, run_all}
 use Rattle.near_links.proofs.SlotLaws.{members}
 use Rattle.link_index.specs.Types.{Oid, Label, Edge}

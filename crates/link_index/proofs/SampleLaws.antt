@@ -1,5 +1,5 @@
 -- Laws of lists of one edge, and of the links of edges.
-use Rattle.std.proofs.Common.{◌≡◌, ◌<◌, List, [], ◌∷◌, get_or, All, Contains, arith}
+use Rattle.std.proofs.Common.{List, [], ◌∷◌, get_or, All, arith}
 use Rattle.std.proofs.lemmas.List.Elements.{All-cons, All-nil, All-contains, Contains-get_or}
 use Rattle.index_traits.specs.Entries.{AreLinks}
 use Rattle.lore_base.specs.Databases.{AreAscendingEdges}

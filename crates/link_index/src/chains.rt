@@ -64,6 +64,18 @@ pub(crate) fn start_of(records: &[LinkRecord], link: &Link, last: Option<usize>)
     }
 }
 
+// The place, where it is given and nothing follows it in its list.
+pub(crate) fn last_at(records: &[LinkRecord], place: Option<usize>) -> Option<usize>
+    ensures given { IfSome result (λ last. place ≡ Some last) }
+    ensures last { IfSome result (λ last. spec.after_at records.now last ≡ None) }
+{
+    let place = place?;
+    match after_at(records, place) {
+        Some(_) => None,
+        None => Some(place),
+    }
+}
+
 // How many records of a list are walked before later ones are looked for by strides.
 const SHORT: usize = 16;
 

@@ -9,7 +9,7 @@ use crate::heads::Head;
 use crate::link_lists::sorted_links;
 use crate::link_plan::LinkPlan;
 use crate::link_runs::push_run;
-use crate::listing::{drop_childless, list_children};
+use crate::listing::drop_childless;
 use crate::records::LinkRecord;
 use index_traits::Links;
 use lore_base::{EdgeBuf, Label, NoMemory, Oid, Steps};
@@ -95,13 +95,7 @@ impl LinkIndex {
     {
         let LinkPlan { gone, come } = plan;
         let (gone, come) = (gone.as_slice(), come.as_slice());
-        list_children(&mut self.heads, come);
-        put_links(
-            self.heads.as_mut_slice(),
-            &mut self.records,
-            &mut self.free,
-            come,
-        );
+        put_links(&mut self.heads, &mut self.records, &mut self.free, come);
         take_links(
             self.heads.as_mut_slice(),
             self.records.as_mut_slice(),

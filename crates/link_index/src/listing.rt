@@ -7,50 +7,8 @@ use crate::heads::{Head, first_of, place_of};
 use crate::link::Link;
 use lore_base::Oid;
 
-// Lists the children of these links, each without a record as yet where it wasn't listed. Takes no
-// memory.
-pub(crate) fn list_children(heads: &mut Vec<Head>, links: &[Link])
-    requires ascend { AreAscendingHeads heads.old.items }
-    requires room { vec_len heads.old + length links.now ≤ vec_capacity heads.old }
-    ensures listed { All (λ link. IsListed heads.new.items link.child) links.now }
-    ensures ascend { AreAscendingHeads heads.new.items }
-    ensures same { SameHeads heads.old.items heads.new.items }
-{
-    'links: for link in links {
-        list_child(heads, link.child);
-    }
-}
-
-// Lists a child, without a record as yet where it wasn't listed. Most children come behind all that
-// are listed.
-fn list_child(heads: &mut Vec<Head>, child: Oid)
-    requires ascend { AreAscendingHeads heads.old.items }
-    requires room { vec_len heads.old < vec_capacity heads.old }
-    ensures listed { IsWithChild heads.old.items child heads.new.items }
-    ensures len { vec_len heads.new ≤ vec_len heads.old + 1 }
-    ensures capacity { vec_capacity heads.new ≡ vec_capacity heads.old }
-{
-    if are_below(heads.as_slice(), child) {
-        push_child(heads, child);
-        return;
-    }
-    insert_child(heads, child);
-}
-
-// Lists a child behind those that are listed.
-fn push_child(heads: &mut Vec<Head>, child: Oid)
-    requires ascend { AreAscendingHeads heads.old.items }
-    requires below { All (λ head. head.child.0 < child.0) heads.old.items }
-    requires room { vec_len heads.old < vec_capacity heads.old }
-    ensures listed { IsWithChild heads.old.items child heads.new.items }
-    ensures len { vec_len heads.new ≤ vec_len heads.old + 1 }
-    ensures capacity { vec_capacity heads.new ≡ vec_capacity heads.old }
-{
-    heads.push_reserved(Head { child, first: None });
-}
-
-// Lists a child among the others where it wasn't listed.
-fn insert_child(heads: &mut Vec<Head>, child: Oid)
+// Lists a child, without a record as yet, where it wasn't listed. Takes no memory.
+pub(crate) fn insert_child(heads: &mut Vec<Head>, child: Oid)
     requires ascend { AreAscendingHeads heads.old.items }
     requires room { vec_len heads.old < vec_capacity heads.old }
     ensures listed { IsWithChild heads.old.items child heads.new.items }
@@ -82,7 +40,7 @@ fn gap_of(heads: &[Head], child: Oid) -> Option<usize>
 }
 
 // Whether all children are below this one, told by the last of them.
-fn are_below(heads: &[Head], child: Oid) -> bool
+pub(crate) fn are_below(heads: &[Head], child: Oid) -> bool
     requires { AreAscendingHeads heads.now }
     ensures { OnTrue result (All (λ head. head.child.0 < child.0) heads.now) }
 {

@@ -1,6 +1,6 @@
 ghost use Rattle.std.specs.Prelude.{◌≡◌, ◌<◌, ◌≤◌, ◌+◌, IfSome, length, vec_len, vec_capacity, None};
 ghost use Rattle.link_index.specs.inside.Records as spec;
-ghost use Rattle.link_index.specs.inside.Records.{IsWritten};
+ghost use Rattle.link_index.specs.inside.Records.{IsWritten, record_of};
 
 use crate::link::Link;
 
@@ -42,18 +42,48 @@ fn free_at(records: &[LinkRecord], place: Option<usize>) -> Option<usize>
     }
 }
 
-// Writes a record over a free one, from the head of the chain of these on, or behind all where there
-// is none. Takes no memory.
+// Writes the record of a link, behind which comes this one, behind all or over a free one. Takes no
+// memory.
 pub(crate) fn add_record(
     records: &mut Vec<LinkRecord>,
     free: &mut Option<usize>,
-    written: LinkRecord,
+    link: &Link,
+    after: Option<usize>,
 ) -> usize
     requires { vec_len records.old < vec_capacity records.old }
-    ensures written { IsWritten records.old.items result written records.new.items }
+    ensures written { IsWritten records.old.items result (record_of link.now after)
+        records.new.items }
     ensures len { vec_len records.new ≤ vec_len records.old + 1 }
     ensures capacity { vec_capacity records.new ≡ vec_capacity records.old }
 {
+    if free.is_some() {
+        return fill_record(records, free, link, after);
+    }
+    records.push_reserved(LinkRecord {
+        edge: Some(*link),
+        after,
+    });
+    records.len() - 1
+}
+
+// Writes it over a free record, from the head of the chain of these on, or behind all where there is
+// none.
+fn fill_record(
+    records: &mut Vec<LinkRecord>,
+    free: &mut Option<usize>,
+    link: &Link,
+    after: Option<usize>,
+) -> usize
+    requires { vec_len records.old < vec_capacity records.old }
+    ensures written { IsWritten records.old.items result (record_of link.now after)
+        records.new.items }
+    ensures len { vec_len records.new ≤ vec_len records.old + 1 }
+    ensures capacity { vec_capacity records.new ≡ vec_capacity records.old }
+{
+    let written = LinkRecord {
+        edge: Some(*link),
+        after,
+    };
     if let Some(place) = free_at(records.as_slice(), *free) {
         *free = after_at(records.as_slice(), place);
         records[place] = written;

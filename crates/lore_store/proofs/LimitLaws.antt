@@ -4,7 +4,7 @@ use Rattle.std.proofs.lemmas.List.{length-map}
 use Rattle.lore_store.specs.Types.{Mode, NODES}
 use Rattle.lore_base.specs.Databases.{Database, IsRestorable, IsValid}
 use Rattle.dataguide.specs.Guides.{GuideGraph}
-use Rattle.dataguide.specs.declared.nodes.GuideNode.{GuideNode}
+use Rattle.dataguide.specs.Types.{GuideNode}
 use Rattle.dataguide.proofs.CountLaws.{nodes_are_counted}
 use Rattle.lore_store.specs.Stores.{IsGuided, IsLimit}
 

@@ -10,7 +10,7 @@ use Rattle.lore_base.specs.declared.edges.Oid.{Oid}
 use Rattle.lore_base.specs.Databases.{OemGraph, IsValid, new_database, new_graph}
 use Rattle.lore_base.proofs.MemberLaws.{Contains-none, Contains-head}
 use Rattle.list_laws.proofs.PairLaws.{AllPairs-nil}
-use Rattle.dataguide.specs.declared.nodes.GuideNode.{GuideNode}
+use Rattle.dataguide.specs.Types.{GuideNode}
 use Rattle.dataguide.specs.Guides.{GuideGraph, StandsFor, sets_of}
 use Rattle.lore_base.specs.PathOrder.{AreInPathOrder, ComesBefore}
 use Rattle.index_traits.specs.declared.entries.ValueEntry.{ValueEntry}

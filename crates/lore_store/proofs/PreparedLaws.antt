@@ -17,7 +17,7 @@ use Rattle.oem_labels.specs.Labels.{first_uses}
 use Rattle.oem_labels.proofs.TextSetLaws.{first_uses-apart}
 use Rattle.oem_changes.proofs.ValidLaws.{valid_after, rooted_graph}
 use Rattle.oem_changes.proofs.DeterminedLaws.{one_between, one_after}
-use Rattle.dataguide.specs.declared.faults.GuideFault.{GuideFault}
+use Rattle.dataguide.specs.Types.{GuideFault}
 use Rattle.lore_base.specs.Databases.{AreAscendingEdges}
 use Rattle.lore_base.specs.PathOrder.{AreInPathOrder}
 use Rattle.lore_base.specs.declared.deltas.Delta.{Delta}

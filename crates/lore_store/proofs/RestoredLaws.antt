@@ -16,8 +16,8 @@ use Rattle.index_traits.specs.declared.entries.ValueEntry.{ValueEntry}
 use Rattle.index_traits.specs.Entries.{AreLinks}
 use Rattle.value_changes.specs.EntryChanges.{AreEntryChanges}
 use Rattle.value_changes.specs.Reads.{AreRead}
-use Rattle.dataguide.specs.declared.faults.GuideFault.{GuideFault}
-use Rattle.dataguide.specs.declared.faults.GuideFault.TheVariants as guides
+use Rattle.dataguide.specs.Types.{GuideFault}
+use Rattle.dataguide.specs.Types.faults as guides
 use Rattle.dataguide.specs.Guides.{GuideGraph, StandsFor, sets_of}
 use Rattle.dataguide.specs.GuideCauses.{GuideCause}
 use Rattle.lore_base.specs.PathOrder.{AreInPathOrder}

@@ -7,8 +7,8 @@ use Rattle.lore_base.specs.Databases.{OemGraph, Database}
 use Rattle.lore_base.specs.ChangeSets.{IsGraphAfter}
 use Rattle.lore_base.specs.ChangeCauses.{DatabaseCause}
 use Rattle.lore_base.specs.Verdicts.{IsFirst, IsClear, IsToldBy}
-use Rattle.dataguide.specs.declared.faults.GuideFault.{GuideFault}
-use Rattle.dataguide.specs.declared.faults.GuideFault.TheVariants as guides
+use Rattle.dataguide.specs.Types.{GuideFault}
+use Rattle.dataguide.specs.Types.faults as guides
 use Rattle.dataguide.specs.GuideCauses.{GuideCause}
 use Rattle.guide_laws.proofs.LimitLaws.{fitting_passes_none, one_limit_is_passed}
 use Rattle.lore_store.specs.Faults.{refusal_of, guide_fault}

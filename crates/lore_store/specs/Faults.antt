@@ -4,8 +4,8 @@ use Rattle.lore_base.specs.GuideLimits.{ExceedsNodes, ExceedsCells}
 use Rattle.lore_base.specs.Databases.{Database}
 use Rattle.lore_store.specs.Types.refusals
 use Rattle.lore_store.specs.Types.{Refusal}
-use Rattle.dataguide.specs.declared.faults.GuideFault.{GuideFault}
-use Rattle.dataguide.specs.declared.faults.GuideFault.TheVariants as guide
+use Rattle.dataguide.specs.Types.{GuideFault}
+use Rattle.dataguide.specs.Types.faults as guide
 use Rattle.lore_store.specs.declared.faults.StoreFault.{StoreFault}
 use Rattle.lore_store.specs.declared.faults.StoreFault.TheVariants as fault
 use Rattle.lore_store.specs.declared.faults.RestoreFault.{RestoreFault}

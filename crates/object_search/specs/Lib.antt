@@ -1,4 +1,5 @@
 pub mod Types
 pub mod Reached
+pub mod LowerParents
 pub mod EdgeTests
 pub mod inside

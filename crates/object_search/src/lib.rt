@@ -3,12 +3,14 @@
 #![tactic(auto)]
 
 pub use graph_arcs::GraphArcs;
+pub use lower_parents::noted_as_led;
 pub use out_arcs::OutArcs;
 pub use reached::reached_from;
 pub use sorted_edges::SortedEdges;
 
 mod children;
 mod graph_arcs;
+mod lower_parents;
 mod met;
 mod out_arcs;
 mod reached;

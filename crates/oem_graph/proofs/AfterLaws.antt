@@ -13,15 +13,16 @@ use Rattle.lore_base.specs.ChangeSets.{NamesThen, ObjectsThen, EdgesThen, IsLive
 use Rattle.lore_base.specs.ChangeSets.{IsReachedThen, AreEdgesThen, FitsGraph, IsGraphAfter}
 use Rattle.lore_base.specs.ChangeSets.{AreDead}
 use Rattle.oem_graph.specs.Types.{Oid, Edge, Value, Complex, Changes}
-use Rattle.oem_graph.specs.Plans.{PlannedGraph, with_objects, put_edges, graph_then}
+use Rattle.oem_graph.specs.Plans.{PlannedGraph, graph_then}
+use Rattle.graph_changes.specs.Puts.{with_objects, put_edges}
 use Rattle.edge_layers.specs.EdgeTests.{AreFresh, AreLost}
 use Rattle.edge_layers.specs.Layers.{layered, staying}
-use Rattle.oem_graph.specs.inside.Left.{AreOrdered, ListsGiven, is_among, not_dead, edges_left}
+use Rattle.graph_changes.specs.Left.{AreOrdered, ListsGiven, is_among, not_dead, edges_left}
 use Rattle.edge_layers.proofs.LayerLaws.{same-edges, members-staying, ascend-staying, members-layered}
-use Rattle.oem_graph.proofs.LeftLaws.{members-not_dead, ascend-not_dead, members-edges_left}
-use Rattle.oem_graph.proofs.GivenLaws.{members-with_objects, ascend-with_objects}
-use Rattle.oem_graph.proofs.PutLaws.{members-put_edges, ascend-put_edges}
-use Rattle.oem_graph.proofs.ObjectLaws.{number_at}
+use Rattle.graph_changes.proofs.LeftLaws.{members-not_dead, ascend-not_dead, members-edges_left}
+use Rattle.graph_changes.proofs.GivenLaws.{members-with_objects, ascend-with_objects}
+use Rattle.graph_changes.proofs.PutLaws.{members-put_edges, ascend-put_edges}
+use Rattle.graph_changes.proofs.ObjectLaws.{number_at}
 
 module _ (before : OemGraph) (changes : Changes) (formed : IsWellFormed before) (fits : FitsGraph before changes) where
   -- what is live stays live until things vanish

@@ -11,11 +11,11 @@ use Rattle.edge_lists.specs.Views.{edges_of, is_there, those_there}
 use Rattle.edge_lists.proofs.ViewLaws as views
 use Rattle.edge_lists.proofs.ViewLaws.{edges_ascend}
 use Rattle.oem_graph.specs.Types.{Edge, EdgeRecord}
-use Rattle.oem_graph.specs.Plans.{put_edges}
+use Rattle.graph_changes.specs.Puts.{put_edges}
 use Rattle.edge_layers.specs.EdgeTests.{is_listed}
 use Rattle.edge_layers.specs.Layers.{staying}
 use Rattle.edge_layers.proofs.LayerLaws.{same-edges}
-use Rattle.oem_graph.proofs.PutLaws.{length-put_edges}
+use Rattle.graph_changes.proofs.PutLaws.{length-put_edges}
 use Rattle.edge_layers.proofs.SearchLaws.{listed, unlisted}
 
 module _ (records : Slab EdgeRecord) (gone : List Edge) where

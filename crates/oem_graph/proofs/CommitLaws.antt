@@ -1,20 +1,19 @@
 -- What a graph becomes where a plan is put in place.
-use Rattle.std.proofs.Common.{◌≡◌, ◌⊎◌, ℕ, ◌+◌, ◌-◌, ◌<◌, ◌≤◌, Bool, true, false, not, cond, Option, Some, None, List, [], ◌∷◌, length, get_or, map, All, Contains, refl, sym, ap, ◌∙◌, inl, inr, subst, arith}
+use Rattle.std.proofs.Common.{◌≡◌, ◌⊎◌, ℕ, ◌+◌, ◌-◌, ◌<◌, ◌≤◌, Bool, true, false, not, Option, Some, None, List, [], length, get_or, map, All, Contains, refl, sym, ap, ◌∙◌, inl, inr, subst, arith}
 use Rattle.std.specs.List.{filter}
 use Rattle.std.proofs.lemmas.Bool.{true≢false}
-use Rattle.std.proofs.lemmas.List.{get_or-map, length-map}
+use Rattle.std.proofs.lemmas.List.{length-map}
 use Rattle.std.proofs.lemmas.List.Elements.{Contains-get_or, All-contains}
 use Rattle.std.proofs.lemmas.List.Kept.{AllPairs-filter}
-use Rattle.list_laws.proofs.MemberLaws.{Contains-from_map, Contains-map}
 use Rattle.slab.specs.Slab.{Slab, slab_len}
 use Rattle.near_links.proofs.LinkLaws.{leads_on}
 use Rattle.near_links.specs.Links.{IsNearest}
 use Rattle.lore_base.specs.Databases as base
-use Rattle.lore_base.specs.Databases.{OemGraph, AreAscendingEdges}
+use Rattle.lore_base.specs.Databases.{OemGraph}
 use Rattle.oem_graph.specs.Types.{Side, Out, In, EdgeRecord, ObjectRecord}
 use Rattle.edge_lists.specs.Edges.{owner_of, Precedes}
 use Rattle.edge_lists.specs.Records.{HasEdge}
-use Rattle.edge_lists.specs.Objects.{object_of, first_of, head_of, AreAscendingObjects, IsLive}
+use Rattle.edge_lists.specs.Objects.{object_of, first_of, head_of, IsLive}
 use Rattle.edge_lists.specs.Chains.{StandsAt, AreChained}
 use Rattle.edge_lists.specs.Commits.{AreChanged}
 use Rattle.edge_lists.specs.Views.{edges_of}
@@ -23,44 +22,19 @@ use Rattle.edge_lists.proofs.LivingLaws.{heads_left, heads_chain}
 use Rattle.edge_lists.proofs.ViewLaws.{edges_lie, edges_ascend}
 use Rattle.oem_graph.specs.Types.{Oid, Edge, Value}
 use Rattle.oem_graph.specs.Graphs.{RoomyGraph, IsIndexable, HasEnds}
-use Rattle.oem_graph.specs.Plans.{PlannedGraph, graph_then, with_objects, put_edges}
-use Rattle.oem_graph.specs.inside.Given.{ArePutIn}
+use Rattle.oem_graph.specs.Plans.{PlannedGraph, graph_then}
+use Rattle.graph_changes.specs.Puts.{with_objects, put_edges}
+use Rattle.graph_changes.specs.Given.{ArePutIn}
 use Rattle.edge_layers.specs.Layers.{staying}
-use Rattle.oem_graph.specs.inside.Left.{is_among, not_dead}
+use Rattle.graph_changes.specs.Left.{is_among, not_dead}
 use Rattle.edge_layers.specs.Lists.{AreLists}
 use Rattle.oem_graph.specs.inside.Linked.{IsLinkedGraph}
 use Rattle.oem_graph.specs.inside.Planned.{IsPlan}
-use Rattle.oem_graph.proofs.GivenLaws.{drop-with_objects, members-with_objects}
+use Rattle.graph_changes.proofs.PairLaws.{pairs-ascend, live-record, dropped-pairs}
+use Rattle.graph_changes.proofs.GivenLaws.{drop-with_objects, members-with_objects}
 use Rattle.edge_layers.proofs.LayerLaws.{same-edges, members-staying}
-use Rattle.oem_graph.proofs.LeftLaws.{members-not_dead, ascend-not_dead, among-back}
-use Rattle.oem_graph.proofs.PutLaws.{members-put_edges, put-back_all}
-
--- ---- objects as records and as pairs
-pub pairs-ascend : (objects : List ObjectRecord) → AreAscendingObjects objects → base.AreAscendingObjects (map object_of objects)
-pairs-ascend objects ascend i j d lt len =
-    let len_j : j < length objects = omega (arith, len, length-map objects object_of) in
-    let r : ObjectRecord = record { oid = d.0; value = d.1; first_out = None; first_in = None } in
-    rw (get_or-map object_of objects i r d (omega (arith, lt, len_j)), get_or-map object_of objects j r d len_j) (ascend i j r lt len_j)
-
-pub live-record : (objects : List ObjectRecord) (oid : Oid) → base.IsLive (map object_of objects) oid → IsLive objects oid
-live-record objects oid live =
-    let from = Contains-from_map object_of objects (oid, live.0) live.1 in
-    subst (λ (o : Oid). Contains (map (λ (r : ObjectRecord). r.oid) objects) o) (ap (λ (p : Oid × Value). p.0) from.2) (Contains-map (λ (r : ObjectRecord). r.oid) objects from.0 from.1)
-
-pub live-pair : (objects : List ObjectRecord) (oid : Oid) → IsLive objects oid → base.IsLive (map object_of objects) oid
-live-pair objects oid live =
-    let from = Contains-from_map (λ (r : ObjectRecord). r.oid) objects oid live in
-    (from.0.value, subst (λ (o : Oid). Contains (map object_of objects) (o, from.0.value)) from.2 (Contains-map object_of objects from.0 from.1))
-
-dropped-pairs : (dead : List Oid) (objects : List ObjectRecord) → map object_of (filter (λ (o : ObjectRecord). not (is_among dead o.oid)) objects) ≡ not_dead dead (map object_of objects)
-dropped-pairs dead [] = refl
-dropped-pairs dead (first ∷ objects) =
-    let rest = dropped-pairs dead objects in
-    elim (is_among dead first.oid) as (λ b. map object_of (cond (not b) (first ∷ filter (λ (o : ObjectRecord). not (is_among dead o.oid)) objects) (filter (λ (o : ObjectRecord). not (is_among dead o.oid)) objects))
-    ≡ cond (not b) (object_of first ∷ not_dead dead (map object_of objects)) (not_dead dead (map object_of objects))) [
-      | true ↦ rest
-      | false ↦ ap (λ (l : List (Oid × Value)). object_of first ∷ l) rest
-    ]
+use Rattle.graph_changes.proofs.LeftLaws.{members-not_dead, ascend-not_dead, among-back}
+use Rattle.graph_changes.proofs.PutLaws.{members-put_edges, put-back_all}
 
 -- ---- what a plan brings to a graph that it leads from
 module _ (names : List (List ℕ × Oid)) (o0 : List ObjectRecord) (r0 : Slab EdgeRecord) (next : ℕ) (plan : PlannedGraph)

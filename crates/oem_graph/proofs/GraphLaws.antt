@@ -10,7 +10,7 @@ use Rattle.oem_graph.specs.Graphs.{IsIndexable, HasEnds}
 use Rattle.oem_graph.specs.Types.{Oid, Complex, EdgeRecord, ObjectRecord}
 use Rattle.edge_layers.specs.Lists.{AreLists}
 use Rattle.oem_graph.specs.inside.Linked.{IsLinkedGraph}
-use Rattle.oem_graph.proofs.ObjectLaws.{length-objects}
+use Rattle.graph_changes.proofs.ObjectLaws.{length-objects}
 use Rattle.edge_layers.proofs.ViewLaws.{count-edges, empty-lists}
 
 pub indexable-new : IsIndexable new_graph

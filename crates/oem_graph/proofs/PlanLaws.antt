@@ -1,5 +1,5 @@
 -- Plans: what they keep, and what they lead to.
-use Rattle.std.proofs.Common.{◌≡◌, ◌⊎◌, ◌↔◌, ℕ, ◌+◌, ◌<◌, ◌≤◌, not, Less, List, [], length, get_or, map, All, Contains, sym, ap, ◌∙◌, inl, inr, subst, arith}
+use Rattle.std.proofs.Common.{◌≡◌, ◌⊎◌, ◌↔◌, ℕ, ◌+◌, ◌≤◌, not, Less, List, [], length, get_or, map, All, Contains, sym, ap, ◌∙◌, inl, inr, subst, arith}
 use Rattle.std.proofs.lemmas.List.Elements.{Contains-get_or, All-contains}
 use Rattle.std.proofs.lemmas.List.Kept.{AllPairs-filter}
 use Rattle.list_laws.proofs.MemberLaws.{none_in}
@@ -9,54 +9,29 @@ use Rattle.lore_base.specs.Walks.{edge_cmp}
 use Rattle.lore_base.specs.Databases.{OemGraph, IsWellFormed, AreAscendingObjects, AreAscendingEdges, new_graph}
 use Rattle.lore_base.specs.ChangeSets.{NamesThen, FitsGraph, AreDead, AreEdgesThen, IsGraphAfter}
 use Rattle.lore_base.specs.Deltas.{ListsOnlyIn, IsDelta}
-use Rattle.lore_base.proofs.ListLaws.{AllPairs-unique}
-use Rattle.lore_base.proofs.MemberLaws.{Contains-none}
 use Rattle.edge_lists.specs.Objects.{object_of}
 use Rattle.edge_lists.specs.Commits.{ArePlaces}
 use Rattle.edge_lists.specs.Views.{edges_of}
 use Rattle.edge_lists.proofs.ViewLaws.{edges_lie, edges_ascend}
 use Rattle.oem_graph.specs.Types.{Oid, Edge, Value, Changes, EdgeRecord, ObjectRecord}
 use Rattle.oem_graph.specs.Graphs.{IsIndexable, graph_from}
-use Rattle.oem_graph.specs.Plans.{PlannedGraph, with_objects, put_edges, graph_then}
+use Rattle.oem_graph.specs.Plans.{PlannedGraph, graph_then}
+use Rattle.graph_changes.specs.Puts.{with_objects, put_edges}
 use Rattle.edge_layers.specs.Layers.{layered, staying}
-use Rattle.oem_graph.specs.inside.Left.{AreAscendingOids, is_among, not_dead, ListsGiven}
+use Rattle.graph_changes.specs.Left.{AreAscendingOids, is_among, not_dead, ListsGiven}
 use Rattle.edge_layers.specs.Lists.{AreLists}
-use Rattle.oem_graph.specs.inside.Planned.{IsPlan, IsRead, ArePlannedEdges}
-use Rattle.oem_graph.specs.inside.Differing.{AreOnlyIn, AreDiffering, AreGoneObjects}
-use Rattle.oem_graph.proofs.DeltaLaws.{same-objects, objects-gone, objects-come, edges-gone, edges-come}
+use Rattle.oem_graph.specs.inside.Planned.{IsPlan, IsRead}
+use Rattle.graph_changes.specs.Planned.{ArePlannedEdges}
+use Rattle.graph_changes.specs.Differing.{AreOnlyIn, AreDiffering, AreGoneObjects}
+use Rattle.graph_changes.proofs.DeltaLaws.{same-objects, objects-gone, objects-come, edges-gone, edges-come}
 use Rattle.oem_graph.proofs.AfterLaws.{given-ascends, given-lives, graph-after, edges-after}
 use Rattle.edge_layers.proofs.FoundLaws.{found-lost, found-fresh}
-use Rattle.oem_graph.proofs.GivenLaws.{ascend-with_objects, members-with_objects}
-use Rattle.oem_graph.proofs.GoneLaws.{going}
-use Rattle.edge_layers.proofs.LayerLaws.{same-edges}
-use Rattle.oem_graph.proofs.LeftLaws.{members-edges_left}
+use Rattle.graph_changes.proofs.EmptyLaws.{no-edges, all-given, all-come}
+use Rattle.graph_changes.proofs.GoneLaws.{going}
+use Rattle.graph_changes.proofs.LeftLaws.{members-edges_left}
 use Rattle.edge_layers.proofs.OverlayLaws.{edges-layered}
-use Rattle.oem_graph.proofs.PutLaws.{members-put_edges, ascend-put_edges}
 
 -- ---- a plan that brings all of a graph
-no-objects : AreAscendingObjects []
-no-objects i j d lt len = absurd (omega (arith, len))
-
-no-edges : AreAscendingEdges []
-no-edges i j d lt len = absurd (omega (arith, len))
-
-pub all-given : (made : List (Oid × Value)) → AreAscendingObjects made → with_objects [] made ≡ made
-all-given made ascend =
-    AllPairs-unique (λ (a b : Oid × Value). a.0.0 < b.0.0) (λ a b less more. omega (arith, less, more))
-    (with_objects [] made) made (ascend-with_objects [] made no-objects) ascend
-    (λ o. (
-      λ at. elim ((members-with_objects [] made no-objects ascend o).0 at) [ inl new ↦ new | inr old ↦ absurd (Contains-none o old.0) ],
-      λ at. (members-with_objects [] made no-objects ascend o).1 (inl at),
-    ))
-
-all-come : (added : List Edge) → AreAscendingEdges added → put_edges [] added ≡ added
-all-come added ascend =
-    same-edges (put_edges [] added) added (ascend-put_edges [] added no-edges ascend (λ edge at there. Contains-none edge there)) ascend
-    (λ edge. (
-      λ at. elim ((members-put_edges [] added edge).0 at) [ inl old ↦ absurd (Contains-none edge old) | inr new ↦ new ],
-      λ at. (members-put_edges [] added edge).1 (inr at),
-    ))
-
 pub whole-is : (changes : Changes) (next : ℕ) → IsIndexable (graph_from changes next) → (plan : PlannedGraph) → plan.names ≡ changes.named → plan.delta.objects_come ≡ changes.made → plan.delta.edges_come ≡ changes.added
     → plan.next ≡ next → graph_then new_graph plan ≡ graph_from changes next
 whole-is changes next leads plan names given come same_next =

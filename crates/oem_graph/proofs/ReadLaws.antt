@@ -1,11 +1,8 @@
 -- What readers of a graph see: an object's edges, and its value.
-use Rattle.std.proofs.Common.{◌≡◌, ◌⊎◌, ◌↔◌, ℕ, zero, suc, ◌<◌, ◌==◌, ◌++◌, Less, Some, Option, None, List, [], ◌∷◌, Bool, true, false, cond, map, length, get_or, Contains, sym, ap, ◌∙◌, inl, inr, refl, subst}
-use Rattle.std.specs.List.{filter, slice_get}
+use Rattle.std.proofs.Common.{◌≡◌, ◌⊎◌, ◌↔◌, ℕ, zero, suc, ◌==◌, ◌++◌, Less, Some, Option, None, List, [], ◌∷◌, map, Contains, sym, ap, ◌∙◌, inl, inr, refl}
+use Rattle.std.specs.List.{slice_get}
 use Rattle.std.specs.Option.{IfNone}
-use Rattle.std.proofs.lemmas.List.{append-nil}
 use Rattle.std.proofs.lemmas.List.Kept.{AllPairs-filter}
-use Rattle.std.proofs.lemmas.List.Elements.{Contains-get_or}
-use Rattle.list_laws.proofs.MemberLaws.{Contains-map}
 use Rattle.slab.specs.Slab.{Slab}
 use Rattle.near_links.proofs.AheadLaws.{some_same}
 use Rattle.lore_base.specs.Walks.{edge_cmp, out_of}
@@ -14,13 +11,12 @@ use Rattle.edge_lists.specs.Objects.{object_of}
 use Rattle.edge_lists.specs.Runs.{ListsRun}
 use Rattle.edge_lists.specs.Views.{edges_of}
 use Rattle.edge_lists.proofs.ViewLaws.{edges_lie, edges_ascend}
-use Rattle.oem_graph.specs.Types.{Oid, Label, Edge, Value, Complex, Out, In, EdgeRecord, ObjectRecord}
-use Rattle.oem_graph.specs.Plans.{with_objects}
-use Rattle.oem_graph.specs.inside.Left.{not_dead}
-use Rattle.edge_layers.specs.Turned.{turn, has_label}
-use Rattle.oem_graph.proofs.GivenLaws.{members-with_objects}
+use Rattle.oem_graph.specs.Types.{Oid, Edge, Value, Out, EdgeRecord, ObjectRecord}
+use Rattle.graph_changes.specs.Puts.{with_objects}
+use Rattle.graph_changes.specs.Left.{not_dead}
+use Rattle.graph_changes.proofs.GivenLaws.{members-with_objects}
 use Rattle.edge_layers.proofs.LayerLaws.{same-edges}
-use Rattle.oem_graph.proofs.LeftLaws.{members-not_dead, ascend-not_dead}
+use Rattle.graph_changes.proofs.LeftLaws.{members-not_dead, ascend-not_dead}
 use Rattle.edge_layers.proofs.TurnLaws.{in_run}
 
 -- an object's list is the run of its edges
@@ -31,17 +27,6 @@ list-is records oid old new run = run.is ∙ ap (λ (l : List Edge). old ++ l) (
       λ at. (let both = (run.exact edge).0 at in (in_run oid (edges_of records) edge).1 ((edges_lie records edge).1 both.0, both.1)),
       λ at. (let both = (in_run oid (edges_of records) edge).0 at in (run.exact edge).1 ((edges_lie records edge).0 both.0, both.1)),
     )))
-
--- ---- values
--- some record of an object
-pub any_object : ObjectRecord
-any_object = record { oid = record { 0 = 0 }; value = Complex; first_out = None; first_in = None }
-
--- the object whose record stands at a place has the value that stands there
-pub value-at : (objects : List ObjectRecord) (oid : Oid) (place : ℕ) (d : ObjectRecord) → place < length objects → (get_or objects place d).oid ≡ oid
-    → Contains (map object_of objects) (oid, (get_or objects place d).value)
-value-at objects oid place d lt is = subst (λ (o : Oid). Contains (map object_of objects) (o, (get_or objects place d).value)) is
-    (Contains-map object_of objects (get_or objects place d) (Contains-get_or objects place d lt))
 
 -- ---- values as they are once objects are dead and others given
 module _ (dead : List Oid) (objects given : List (Oid × Value)) (ascend : AreAscendingObjects objects) (ordered : AreAscendingObjects given) where

@@ -8,9 +8,10 @@ use Rattle.list_laws.proofs.MemberLaws.{none_in}
 use Rattle.edge_lists.specs.Commits.{ArePlaces}
 use Rattle.oem_graph.specs.Types.{Oid, Value, Complex, Edge}
 use Rattle.oem_graph.specs.Graphs.{IsIndexable, HasEnds}
-use Rattle.oem_graph.specs.Plans.{PlannedGraph, graph_then, with_objects, put_edges}
+use Rattle.oem_graph.specs.Plans.{PlannedGraph, graph_then}
+use Rattle.graph_changes.specs.Puts.{with_objects, put_edges}
 use Rattle.edge_layers.specs.Layers.{staying}
-use Rattle.oem_graph.specs.inside.Left.{AreAscendingOids, not_dead}
+use Rattle.graph_changes.specs.Left.{AreAscendingOids, not_dead}
 use Rattle.oem_graph.specs.inside.Planned.{IsPlan}
 use Rattle.edge_layers.proofs.EdgeLaws.{ascend-one}
 use Rattle.oem_graph.specs.inside.Samples.{numbered, sample, sample_objects, edges_before, edges_after}

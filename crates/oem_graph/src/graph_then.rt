@@ -1,7 +1,6 @@
-use crate::dead_oids::is_dead;
-use crate::object_lists::{value_in, value_of};
 use edge_layers::{RunStarts, push_leaving};
 use edge_lists::{EdgeRecord, ObjectRecord};
+use graph_changes::{is_dead, value_in, value_of};
 use index_traits::{Adjacent, ValueOf};
 use lore_base::{Edge, EdgeBuf, NoMemory, Oid, Steps, Value};
 use slab::Slab;
@@ -24,9 +23,10 @@ pub struct GraphThen<'a> {
 impl<'a> Model for GraphThen<'a> {
     ghost use Rattle.edge_lists.specs.Objects.{object_of};
     ghost use Rattle.edge_lists.specs.Views.{edges_of};
-    ghost use Rattle.oem_graph.specs.Plans.{GraphLists, with_objects, put_edges};
+    ghost use Rattle.oem_graph.specs.Plans.{GraphLists};
+    ghost use Rattle.graph_changes.specs.Puts.{with_objects, put_edges};
     ghost use Rattle.edge_layers.specs.Layers.{staying};
-    ghost use Rattle.oem_graph.specs.inside.Left.{not_dead};
+    ghost use Rattle.graph_changes.specs.Left.{not_dead};
     ghost use Rattle.oem_graph.specs.inside.Planned.{IsRead};
     ghost use Rattle.std.specs.Prelude.{map};
 

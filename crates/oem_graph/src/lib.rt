@@ -12,13 +12,6 @@ pub use graph_plan::GraphPlan;
 pub use graph_then::GraphThen;
 pub use linked_graph::Graph;
 
-mod dead_oids;
-mod deltas;
-mod edge_plans;
-mod edges_then;
 mod graph_plan;
 mod graph_then;
 mod linked_graph;
-mod object_changes;
-mod object_lists;
-mod objects_then;

@@ -11,15 +11,14 @@ ghost use Rattle.lore_base.specs.Deltas.{IsDelta};
 ghost use Rattle.oem_graph.specs.Graphs.{IsIndexable, graph_from};
 ghost use Rattle.oem_graph.specs.Plans.{graph_then, HasRoom};
 
-use crate::deltas::{differing, names_only_in, values_gone};
-use crate::edge_plans::planned_edges;
 use crate::graph_plan::GraphPlan;
 use crate::graph_then::GraphThen;
-use crate::object_changes::{count_objects, drop_objects, put_objects};
-use crate::object_lists::value_of;
-use crate::objects_then::objects_given;
 use edge_layers::{Overlay, RunStarts, copied_edges, join_order, sifted_set};
 use edge_lists::{EdgeRecord, ObjectRecord, Side, commit_edges, count_there, has_list, push_list};
+use graph_changes::{
+    count_objects, differing, drop_objects, names_only_in, objects_given, planned_edges,
+    put_objects, value_of, values_gone,
+};
 use index_traits::{Adjacent, ValueOf};
 use lore_base::{
     Changes, Delta, EdgeBuf, Names, NoMemory, ObjectList, OemText, Oid, OidBuf, Steps, TryCopy,

@@ -1,10 +1,8 @@
 -- Where each made object is a start or has a parent with a lower number, each is walked to.
-use Rattle.std.proofs.Common.{◌≡◌, ℕ, zero, suc, ◌+◌, ◌-◌, ◌<◌, ◌≤◌, ◌⊎◌, inl, inr, Bool, true, false, not, List, [], ◌∷◌, ◌++◌, length, get_or, Some, slice_get, replicate, map, AllPairs, Contains, refl, sym, ap, ◌∙◌, subst, arith, true≢false}
+use Rattle.std.proofs.Common.{◌≡◌, ℕ, zero, suc, ◌+◌, ◌-◌, ◌<◌, ◌≤◌, ◌⊎◌, inl, inr, Bool, true, false, not, List, [], ◌∷◌, ◌++◌, length, get_or, Some, slice_get, map, AllPairs, Contains, refl, sym, ap, ◌∙◌, subst, arith, true≢false}
 use Rattle.std.specs.List.{list_any}
 use Rattle.std.proofs.lemmas.Bool.{cases_lt}
-use Rattle.std.proofs.lemmas.List.{get_or-replicate, length-replicate}
 use Rattle.std.proofs.lemmas.List.Folds.{list_any_at}
-use Rattle.std.proofs.Math.ListN.{get_or-eq_default}
 use Rattle.std.proofs.lemmas.List.Elements.{All-contains}
 use Rattle.lore_base.specs.Walks.{edge_of}
 use Rattle.lore_base.specs.Databases.{OemGraph, IsRooted, IsLive}
@@ -14,7 +12,7 @@ use Rattle.lore_base.proofs.MemberLaws.{Contains-none, Contains-cases, Contains-
 use Rattle.lore_base.proofs.WalkLaws.{Walk-push}
 use Rattle.oem_reach.specs.Types.{Oid, Edge, Value, Changes}
 use Rattle.oem_reach.specs.inside.Doubts.{IsNamedThen}
-use Rattle.oem_reach.specs.inside.LowerParents.{IsLed, AreLed}
+use Rattle.object_search.specs.LowerParents.{IsLed, AreLed}
 use Rattle.list_laws.proofs.MemberLaws.{Contains-map}
 use Rattle.oem_reach.proofs.CutLaws.{live_before}
 use Rattle.oem_reach.proofs.DoubtLaws.{told_reached}
@@ -41,22 +39,6 @@ first_number next (object ∷ others) first at numbered =
     let same : first ≡ object = cc in
     ap (λ (o : Oid × Value). o.0.0) same ∙ numbered.0
 
--- where one more is noted that is led to, what is noted still is
-pub noted_more : (starts : List Oid) (edges : List Edge) (first number : ℕ) (old new : List Bool) → IsLed starts edges number
-    → ((place : ℕ) → get_or new place false ≡ true → (get_or old place false ≡ true) ⊎ (first + place ≡ number))
-    → AreLed starts edges first old → AreLed starts edges first new
-noted_more starts edges first number old new led each are place noted = elim (each place noted) [
-  | inl before ↦ are place before
-  | inr here ↦ subst (IsLed starts edges) (sym here) led
-]
-
--- none is noted at first
-pub none_noted : (starts : List Oid) (edges : List Edge) (first count : ℕ) (noted : List Bool) → noted ≡ replicate count false → AreLed starts edges first noted
-none_noted starts edges first count noted is place here = absurd (true≢false (sym here ∙ ap (λ (l : List Bool). get_or l place false) is ∙ elim (cases_lt place count) [
-  | inl within ↦ get_or-replicate count place false false within
-  | inr beyond ↦ get_or-eq_default (replicate count false) false (omega (arith, beyond, length-replicate count false))
-]))
-
 -- where no place is left out, each is noted
 pub all_noted : (is_out : Bool → Bool) (noted : List Bool) (place : ℕ) → is_out false ≡ true → list_any is_out noted ≡ false → place < length noted
     → get_or noted place false ≡ true
@@ -65,16 +47,12 @@ all_noted is_out noted place out none within = elim (get_or noted place false) a
   | false ↦ λ is. absurd (true≢false (sym (list_any_at is_out noted place false within (ap is_out is ∙ out)) ∙ none))
 ] refl
 
--- where no place is left out in the end, each number is led to
-pub all_led : (starts : List Oid) (edges : List Edge) (first count : ℕ) (is_out : Bool → Bool) (blank some noted read : List Bool) (left_out : Bool)
-    → is_out false ≡ true → blank ≡ replicate count false → length some ≡ length blank → length noted ≡ length some → read ≡ noted
-    → left_out ≡ list_any is_out read → (AreLed starts edges first blank → AreLed starts edges first some)
-    → (AreLed starts edges first some → AreLed starts edges first noted)
+-- where no place is left out, each number is led to
+pub all_led : (starts : List Oid) (edges : List Edge) (first count : ℕ) (is_out : Bool → Bool) (noted read : List Bool) (left_out : Bool)
+    → is_out false ≡ true → length noted ≡ count → read ≡ noted → left_out ≡ list_any is_out read → AreLed starts edges first noted
     → not left_out ≡ true → (place : ℕ) → place < count → IsLed starts edges (first + place)
-all_led starts edges first count is_out blank some noted read left_out out is long longer all any begin end none place within =
-    end (begin (none_noted starts edges first count blank is)) place
-    (all_noted is_out noted place out (ap (list_any is_out) (sym all) ∙ sym any ∙ not_true left_out none)
-    (omega (arith, within, long, longer, ap length is, length-replicate count false)))
+all_led starts edges first count is_out noted read left_out out long all any led none place within =
+    led place (all_noted is_out noted place out (ap (list_any is_out) (sym all) ∙ sym any ∙ not_true left_out none) (omega (arith, within, long)))
   where
     not_true : (b : Bool) → not b ≡ true → b ≡ false
     not_true true h = absurd (true≢false (sym h))

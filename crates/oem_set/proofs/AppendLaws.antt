@@ -1,7 +1,8 @@
 -- A set with objects behind it that are all greater.
-use Rattle.std.proofs.Common.{◌≡◌, ℕ, ◌-◌, ◌<◌, ◌≤◌, ◌++◌, List, length, get_or, inl, inr, refl, ap, arith}
+use Rattle.std.proofs.Common.{◌≡◌, ◌⊎◌, ◌↔◌, ℕ, ◌-◌, ◌<◌, ◌≤◌, ◌++◌, List, Contains, length, get_or, inl, inr, ap, arith}
 use Rattle.std.proofs.lemmas.Bool.{cases_lt}
-use Rattle.std.proofs.lemmas.List.{get_or_append_left, get_or-append_right, length-append}
+use Rattle.std.proofs.lemmas.List.Elements.{Contains-append_cases, Contains-append_left, Contains-append_right}
+use Rattle.lore_base.proofs.ListLaws.{AllPairs-append}
 use Rattle.oem_set.specs.Types.{Oid}
 use Rattle.oem_set.specs.Sets.{IsSet}
 
@@ -27,28 +28,21 @@ at-least-first oids ascend i d within = elim (cases_lt 0 i) [
 pub IsSet-append : (front back : List Oid) → IsSet front → IsSet back
     → ((d : Oid) → 0 < length front → 0 < length back → (get_or front (length front - 1) d).0 < (get_or back 0 d).0)
     → IsSet (front ++ back)
-IsSet-append front back ascends climbs behind i j d before within =
-    let count = length-append front back in
-    elim (cases_lt j (length front)) [
-      | inl early ↦ rw (
-        get_or_append_left front back d i (omega (arith, before, early)),
-        get_or_append_left front back d j early,
-      ) (ascends i j d before early)
-      | inr late ↦ (
-          let there : j - length front < length back = omega (arith, late, within, count) in
-          elim (cases_lt i (length front)) [
-            | inl early ↦ rw (
-              get_or_append_left front back d i early,
-              get_or-append_right front back (length front) j d refl late,
-            ) (omega (
-              arith,
-              at-most-last front ascends i d early,
-              behind d (omega (arith, early)) (omega (arith, there)),
-              at-least-first back climbs (j - length front) d there,
-            ))
-            | inr after ↦ rw (
-              get_or-append_right front back (length front) i d refl after,
-              get_or-append_right front back (length front) j d refl late,
-            ) (climbs (i - length front) (j - length front) d (omega (arith, before, after)) there)
-          ])
-    ]
+IsSet-append front back ascends climbs behind =
+    AllPairs-append (λ (a b : Oid). a.0 < b.0) front back ascends climbs (λ i j d early late.
+    omega (
+      arith,
+      at-most-last front ascends i d early,
+      behind d (omega (arith, early)) (omega (arith, late)),
+      at-least-first back climbs j d late,
+    ))
+
+-- what stands in two lists, one behind the other
+pub both-lists : (one other : List Oid) (oid : Oid) → Contains (one ++ other) oid ↔ (Contains one oid ⊎ Contains other oid)
+both-lists one other oid = (
+  λ at. Contains-append_cases one other oid at,
+  λ either. elim either [
+    | inl at ↦ Contains-append_left one other oid at
+    | inr at ↦ Contains-append_right one other oid at
+  ],
+)

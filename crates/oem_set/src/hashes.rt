@@ -15,11 +15,11 @@ pub(crate) fn hash_oids(oids: &[Oid]) -> u64
 }
 
 // The hash of a list that has these objects behind others, of whose list the hash is given.
-pub(crate) fn hash_after(others: u64, oids: &[Oid]) -> u64
-    ensures { (before : List TheOid) → others ≡ hash_of before
+pub(crate) fn hash_after(front: u64, oids: &[Oid]) -> u64
+    ensures { (before : List TheOid) → front ≡ hash_of before
         → result ≡ hash_of (before ++ oids.now) }
 {
-    let mut hash = others;
+    let mut hash = front;
     'oids: for oid in oids {
         hash = hash.wrapping_mul(FACTOR).wrapping_add(u64::from(oid.0));
     }

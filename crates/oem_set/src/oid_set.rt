@@ -144,8 +144,8 @@ impl OidSet {
         self.hash
     }
 
-    /// Puts the objects of this set into the other one, which keeps its own. Where all of these come
-    /// behind, nothing is sorted, and no more is hashed than they.
+    /// Puts the objects of this set into the other one, which keeps its own. Where all of the other
+    /// one's come behind this one's, nothing is sorted, and only the other one's are hashed.
     pub fn union_into(&self, out: &mut OidSet) -> Result<(), NoMemory>
         ensures ok { OnOk result
             (ListsInOrder (λ oid. Contains self.now oid ⊎ Contains out.old oid) out.new) }

@@ -37,15 +37,27 @@ fn note(executed: Result<Reply, NoMemory>, dump: &mut Vec<u8>) -> Result<(), NoM
     noted
 }
 
-/// Executes a statement, and puts the lines that it answers. A text that is none counts as want of
-/// memory, and so does a refusal, since all that is executed here is accepted.
-pub fn execute<L: Ledger>(
+fn is_refused(reply: &Reply) -> bool {
+    matches!(reply, Reply::Refused(_))
+}
+
+// Whether the statement was executed. What it answers is let go.
+fn was_executed(executed: Result<Reply, NoMemory>) -> bool {
+    let Ok(reply) = executed else {
+        return false;
+    };
+    let is_refused = is_refused(&reply);
+    drop(reply);
+    !is_refused
+}
+
+// The reply to a statement. A text that is none counts as want of memory.
+fn reply_to<L: Ledger>(
     alloc: Global,
     text: &[u8],
     db: &mut Db,
     steps: &mut Steps<L>,
-    dump: &mut Vec<u8>,
-) -> Result<(), NoMemory> {
+) -> Result<Reply, NoMemory> {
     if text.len() > CHUNK_BYTES {
         return Err(NoMemory);
     }
@@ -58,21 +70,30 @@ pub fn execute<L: Ledger>(
         Ok(statement) => {
             let executed = db.execute(alloc, &statement, steps);
             drop(statement);
-            note(executed, dump)
+            executed
         }
         Err(_) => Err(NoMemory),
     }
 }
 
-/// Whether a statement is executed. The lines that it answers are let go.
+/// Executes a statement, and puts the lines that it answers. A text that is none counts as want of
+/// memory, and so does a refusal, since all that is executed here is accepted.
+pub fn execute<L: Ledger>(
+    alloc: Global,
+    text: &[u8],
+    db: &mut Db,
+    steps: &mut Steps<L>,
+    dump: &mut Vec<u8>,
+) -> Result<(), NoMemory> {
+    note(reply_to(alloc, text, db, steps), dump)
+}
+
+/// Whether a statement is executed. What it answers is let go, so that no memory is wanted for it.
 pub fn is_accepted<L: Ledger>(
     alloc: Global,
     text: &[u8],
     db: &mut Db,
     steps: &mut Steps<L>,
 ) -> bool {
-    let mut none = Vec::new(alloc);
-    let executed = execute(alloc, text, db, steps, &mut none);
-    drop(none);
-    executed.is_ok()
+    was_executed(reply_to(alloc, text, db, steps))
 }

@@ -1,12 +1,11 @@
 -- Arcs: those of the edges that leave a set, and when they ascend.
-use Rattle.std.proofs.Common.{◌≡◌, ◌↔◌, ℕ, ◌+◌, ◌-◌, ◌<◌, ◌≤◌, ◌==◌, Less, inl, inr, List, [], ◌∷◌, ◌++◌}
-use Rattle.std.proofs.Common.{length, get_or, take, zero, suc, Contains, sym, ap, ◌∙◌, subst, arith}
+use Rattle.std.proofs.Common.{◌≡◌, ◌↔◌, ℕ, ◌+◌, ◌<◌, ◌≤◌, ◌==◌, Less, inl, inr, List, [], ◌∷◌, ◌++◌}
+use Rattle.std.proofs.Common.{length, get_or, take, Contains, sym, ap, ◌∙◌, subst, arith}
 use Rattle.std.specs.List.{flat_map}
 use Rattle.std.specs.Cmp.{IsTotalOrder}
-use Rattle.std.proofs.lemmas.Bool.{cases_lt}
 use Rattle.std.proofs.lemmas.Bool.Decides.{nat_tests}
 use Rattle.std.proofs.lemmas.Cmp.{nat_cmp_total, on_total, then_total}
-use Rattle.std.proofs.lemmas.List.{take_more, flat_map_more, get_or_default}
+use Rattle.std.proofs.lemmas.List.{take_more, flat_map_more}
 use Rattle.std.proofs.lemmas.List.Elements.{Contains-append_left, Contains-append_right, Contains-append_cases}
 use Rattle.lore_base.specs.Walks.{edge_of, out_of}
 use Rattle.lore_base.proofs.MemberLaws.{Contains-none, Contains-head, Contains-tail, Contains-cases, Contains-same}
@@ -16,6 +15,7 @@ use Rattle.list_laws.proofs.MemberLaws.{Contains-map, Contains-from_map}
 use Rattle.index_traits.proofs.ObjectLaws.{same_oid}
 use Rattle.set_steps.specs.Types.{Oid, Label, Edge}
 use Rattle.lore_base.specs.TargetSets.{LeavesTo}
+use Rattle.set_steps.proofs.PairLaws.{AllPairs-from_next}
 use Rattle.set_steps.specs.inside.Arcs.{arc_cmp, AscendAsArcs, leaving, arcs_of, AreArcs}
 
 -- ---- the edges that leave a set
@@ -97,23 +97,4 @@ oids-rise a b less same = grind (arith, nat_tests)
 pub ascend-from_next : (arcs : List (Label × Oid))
     → ((k : ℕ) (d : Label × Oid) → k + 1 < length arcs → arc_cmp (get_or arcs k d) (get_or arcs (k + 1) d) ≡ Less)
     → AscendAsArcs arcs
-ascend-from_next arcs next i zero d less within = absurd (omega (arith, less))
-ascend-from_next arcs next i (suc j) d less within =
-    let at : suc j ≡ j + 1 = omega arith in
-    let last : arc_cmp (get_or arcs j d) (get_or arcs (suc j) d) ≡ Less = rw at (next j d (omega (arith, within))) in
-    elim (cases_lt i j) [
-      | inl before ↦ arc_total.trans (get_or arcs i d) (get_or arcs j d) (get_or arcs (suc j) d)
-          (ascend-from_next arcs next i j d before (omega (arith, within))) last
-      | inr late ↦ let here : i ≡ j = omega (arith, late, less) in rw here last
-    ]
-
-pub next-at : (arcs : List (Label × Oid)) (place : ℕ) (e f : Label × Oid) → place < length arcs
-    → arc_cmp (get_or arcs (place - 1) e) (get_or arcs place f) ≡ Less
-    → (k : ℕ) (d : Label × Oid) → k + 1 ≡ place → arc_cmp (get_or arcs k d) (get_or arcs (k + 1) d) ≡ Less
-next-at arcs place e f within less k d here =
-    let before : place - 1 ≡ k = omega (arith, here) in
-    let first : get_or arcs k d ≡ get_or arcs (place - 1) e =
-    get_or_default arcs k d e (omega (arith, within, here)) ∙ ap (λ n. get_or arcs n e) (sym before) in
-    let second : get_or arcs (k + 1) d ≡ get_or arcs place f =
-    get_or_default arcs (k + 1) d f (omega (arith, within, here)) ∙ ap (λ n. get_or arcs n f) here in
-    rw (first, second) less
+ascend-from_next arcs next = AllPairs-from_next (λ (a b : Label × Oid). arc_cmp a b ≡ Less) arc_total.trans arcs next

@@ -4,3 +4,4 @@ pub mod RowLaws
 pub mod RunLaws
 pub mod ArcLaws
 pub mod GroupLaws
+pub mod BucketLaws

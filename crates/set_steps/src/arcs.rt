@@ -62,9 +62,9 @@ fn ascend(arcs: &[(Label, Oid)]) -> bool
     true
 }
 
-// Puts the arcs into order, each once. They mostly are: where the set has one object, or its objects
-// have edges with one label. Else they come object by object, and the numbers of labels and of
-// children are mostly close together: so they are put by these keys.
+// Puts the arcs into order, each once. Those of one object are. Those of more come here only with
+// too many labels for buckets, object by object, and the numbers of labels and of children are
+// mostly close together: so they are put by these keys.
 pub(crate) fn put_in_order(arcs: &mut ArcBuf) -> Result<(), NoMemory>
     ensures ascend { OnOk result (AscendAsArcs arcs.new) }
     ensures members { OnOk result

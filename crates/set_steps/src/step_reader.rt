@@ -1,9 +1,11 @@
-ghost use Rattle.std.specs.Prelude.{◌≡◌, ◌+◌, IfOk, OnOk};
+ghost use Rattle.std.specs.Prelude.{◌≡◌, ◌+◌, IfOk, IfSome, OnOk};
 ghost use Rattle.lore_base.specs.Databases.{AreAscendingEdges};
 ghost use Rattle.set_steps.specs.SetSteps.{AreSteps, reads_of};
 ghost use Rattle.set_steps.specs.inside.Arcs.{leaving, AreStepsBy};
 
 use crate::arcs::{ArcBuf, list_arcs, put_in_order};
+use crate::bucket_sets::sets_of;
+use crate::buckets::buckets_of;
 use crate::edge_runs::run_of;
 use crate::groups::group_arcs;
 use index_traits::Adjacent;
@@ -49,6 +51,36 @@ fn list_edges(listed: &[Edge], set: &OidSet, edges: &mut EdgeBuf) -> Result<(), 
     Ok(())
 }
 
+// For how many edges of one object a label is worth a bucket.
+const WORTH_BUCKET: usize = 16;
+
+// Whether the edges leave one object, and may have too many labels for their number. They come object
+// by object, so the first and the last tell. No clause speaks of it, since both ways lead to the same
+// steps.
+fn are_in_order(edges: &[Edge]) -> bool {
+    match (edges.first(), edges.last()) {
+        (Some(first), Some(last)) => {
+            let labels = last.label.0.saturating_sub(first.label.0) as usize;
+            first.parent.0 == last.parent.0 && labels >= edges.len() / WORTH_BUCKET
+        }
+        _ => true,
+    }
+}
+
+// The steps by edges, label by label. None where these are in order, or have too many labels.
+fn steps_by_buckets(alloc: Global, edges: &[Edge]) -> Result<Option<Vec<(Label, OidSet)>>, NoMemory>
+    ensures { IfOk result (λ found. IfSome found (λ row. AreStepsBy edges.now row.items)) }
+{
+    if are_in_order(edges) {
+        return Ok(None);
+    }
+    let Some(buckets) = buckets_of(alloc, edges)? else {
+        return Ok(None);
+    };
+    let row = sets_of(alloc, buckets.as_slice())?;
+    Ok(Some(row))
+}
+
 impl StepReader {
     /// Takes no memory yet.
     pub fn new(alloc: Global) -> StepReader {
@@ -58,13 +90,17 @@ impl StepReader {
         }
     }
 
-    // The steps by the edges that were read.
+    // The steps by the edges that were read. Those of one object ascend by label and child.
     fn group(&mut self) -> Result<Vec<(Label, OidSet)>, NoMemory>
         ensures { IfOk result (λ row. AreStepsBy self.old.edges row.items) }
     {
+        let alloc = self.arcs.allocator();
+        if let Some(found) = steps_by_buckets(alloc, self.edges.as_slice())? {
+            return Ok(found);
+        }
         list_arcs(self.edges.as_slice(), &mut self.arcs)?;
         put_in_order(&mut self.arcs)?;
-        let row = group_arcs(self.arcs.allocator(), self.arcs.as_slice())?;
+        let row = group_arcs(alloc, self.arcs.as_slice())?;
         Ok(row)
     }
 

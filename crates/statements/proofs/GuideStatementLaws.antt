@@ -7,7 +7,7 @@ use Rattle.lore_base.specs.Databases.{Database, IsValid}
 use Rattle.lore_base.specs.Verdicts.{IsClear, IsToldBy}
 use Rattle.lore_base.proofs.VerdictLaws.{clear_both}
 use Rattle.lorel_trees.specs.Trees as t
-use Rattle.dataguide.specs.declared.nodes.GuideNode.{GuideNode}
+use Rattle.dataguide.specs.Types.{GuideNode}
 use Rattle.dataguide.specs.Guides.{GuideGraph, sets_of}
 use Rattle.guide_query.specs.GuideLines.{IsLabelledGuide, AreGuideLines}
 use Rattle.lore_store.specs.Stores.{IsGuided}

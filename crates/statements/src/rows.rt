@@ -1,29 +1,36 @@
-ghost use Rattle.std.specs.Prelude.{◌≡◌, ◌≤◌, ◌⊎◌, All, option_map, IsTrue, IfOk, IfErr, IfSome};
+ghost use Rattle.std.specs.Prelude.{◌≡◌, ◌≢◌, ◌≤◌, ◌⊎◌, map, All, option_map};
+ghost use Rattle.std.specs.Prelude.{IsTrue, IfOk, IfErr, IfSome};
 ghost use Rattle.std.specs.Option.{option_copied};
 ghost use Rattle.lorel_bound.specs.Bound.{bound_cond, bound_tree};
 ghost use Rattle.lorel_bound.specs.Conditions.{paths_in};
 ghost use Rattle.lorel_bound.specs.Runnable.{IsRunnable};
-ghost use Rattle.lorel_bound.specs.Plans.{IsPlanOf, steps_of};
+ghost use Rattle.lorel_bound.specs.Plans.{IsPlanOf, IsCandidate, filter, step_tree, steps_of};
 ghost use Rattle.plan_ops.specs.Steps.{Agrees};
-ghost use Rattle.plan_ops.specs.Rows.{WalksOrTests};
+ghost use Rattle.plan_ops.specs.Rows.{WalksOrTests, IsGuided};
+ghost use Rattle.plan_ops.specs.inside.Ready.{CanBeReady};
+ghost use Rattle.index_traits.specs.Entries.{IsProbed};
 ghost use Rattle.lorel_eval.specs.Tests.{rest_leaves};
 ghost use Rattle.index_eval.specs.Indexes.{AreIndexes};
 ghost use Rattle.answers.specs.Asked.{AreRows, AreTooMany};
-ghost use Rattle.statements.specs.Types.{LEAVES};
+ghost use Rattle.statements.specs.Types.{Oid as TheOid, Complex, LEAVES};
 ghost use Rattle.statements.specs.Types.refusals;
 ghost use Rattle.statements.specs.Stops.{told, OnReply};
-ghost use Rattle.statements.specs.inside.Views.{view_over, IsRowOf, ReadsNone};
+ghost use Rattle.statements.specs.inside.Views.{view_over, IsRowOf, ReadsNone, ReadsSome};
 
 use crate::stops::Stop;
 use answers::all_rows;
-use index_eval::IndexedTest;
+use index_eval::{IndexedTest, may_be_listed};
 use index_traits::{Adjacent, Links, Paths, ValueOf, Values};
-use lore_base::{NoMemory, Refusal, Steps};
-use lorel_bound::{Answer, Bound, BoundCond, Plan};
+use lore_base::{Label, NoMemory, Op, Refusal, Steps, Value};
+use lorel_bound::{Answer, Bound, BoundCond, Plan, PlanStep};
 use oem_labels::LabelTable;
 use plan_ops::Rows;
 use std::alloc::Global;
 use std::sync::ledger::Ledger;
+
+// From so many objects for the first slot on, what leads to those that fit is found once, and not
+// by a test of each.
+const MANY: usize = 1_024;
 
 /// What rows are found in: a graph, the texts of its labels, the indexes of its links and values,
 /// and what paths reach from its names.
@@ -75,7 +82,7 @@ pub(crate) fn rows_over<G: Adjacent + ValueOf, K: Links, V: Values, P: Paths, L:
 {
     let (graph, labels) = (view.graph, view.labels);
     let (links, values, paths) = (view.links, view.values, view.paths);
-    let test = test_over(alloc, view, bound.cond.as_ref())?;
+    let test = test_over(alloc, view, bound.cond.as_ref(), plan, steps)?;
     let mut rows = Rows::new(
         alloc, graph, links, values, paths, &test, bound, plan, labels,
     )?;
@@ -85,24 +92,123 @@ pub(crate) fn rows_over<G: Adjacent + ValueOf, K: Links, V: Values, P: Paths, L:
     }
 }
 
-// The test of a condition, with the help of the indexes where they are those of the graph.
-fn test_over<'a, G: Adjacent + ValueOf, K: Links, V: Values, P: Paths>(
+// The test of a condition, with the help of the indexes where they are those of the graph. Where
+// many rows are to be tested, the objects of a member that takes long walks are listed once. No
+// step is counted where the plan reads no edge.
+fn test_over<'a, G: Adjacent + ValueOf, K: Links, V: Values, P: Paths, L: Ledger>(
     alloc: Global,
     view: &View<'a, G, K, V, P>,
     cond: Option<&'a BoundCond>,
+    plan: &Plan,
+    steps: &mut Steps<L>,
 ) -> Result<IndexedTest<'a, G, K, V>, NoMemory>
     requires leaves { rest_leaves (paths_in (option_map bound_cond (option_copied cond))) ≤ LEAVES }
+    requires ready { All CanBeReady (steps_of plan.now) }
     requires indexed { IsTrue view.now.indexed → AreIndexes (G.objects view.now.graph.now)
         (G.edges view.now.graph.now) (K.edges view.now.links.now) (V.entries view.now.values.now) }
     ensures labels { IfOk result (λ test. test.labels ≡ view.now.labels.now) }
     ensures edges { IfOk result (λ test. test.edges ≡ G.edges view.now.graph.now) }
     ensures objects { IfOk result (λ test. test.objects ≡ G.objects view.now.graph.now) }
     ensures cond { IfOk result (λ test. test.cond ≡ option_copied cond.entry) }
+    ensures quiet { (ReadsSome (V.entries view.now.values.now) (steps_of plan.now) → ⊥)
+        → steps.new ≡ steps.old }
 {
     let (graph, labels, links, values) = (view.graph, view.labels, view.links, view.values);
-    if view.indexed {
-        IndexedTest::new(alloc, cond, graph, labels, links, values)
-    } else {
-        IndexedTest::plain(alloc, cond, graph, labels, links, values)
+    if !view.indexed {
+        return IndexedTest::plain(alloc, cond, graph, labels, links, values);
     }
+    if tests_many(alloc, view, cond, plan)? {
+        return IndexedTest::listed(alloc, cond, graph, labels, links, values, steps);
+    }
+    IndexedTest::new(alloc, cond, graph, labels, links, values)
+}
+
+// Whether many rows may be tested of a condition with a member whose objects may be listed.
+fn tests_many<G, K, V: Values, P: Paths>(
+    alloc: Global,
+    view: &View<'_, G, K, V, P>,
+    cond: Option<&BoundCond>,
+    plan: &Plan,
+) -> Result<bool, NoMemory>
+    requires { All CanBeReady (steps_of plan.now) }
+    ensures { IfOk result (λ answer. IsTrue answer
+        → ReadsSome (V.entries view.now.values.now) (steps_of plan.now)) }
+{
+    let Some(cond) = cond else {
+        return Ok(false);
+    };
+    if !may_be_listed(cond) {
+        return Ok(false);
+    }
+    begins_with_many(alloc, view.values, view.paths, plan.steps.as_slice())
+}
+
+// Whether many rows may be tested: the steps begin with many objects by the guide, or with values
+// that some object has. These may be few, but a plan that begins with few values has few objects
+// listed too. In both cases the steps may read an edge.
+fn begins_with_many<V: Values, P: Paths>(
+    alloc: Global,
+    values: &V,
+    paths: &P,
+    steps: &[PlanStep],
+) -> Result<bool, NoMemory>
+    requires { All CanBeReady (map step_tree steps.now) }
+    ensures { IfOk result (λ answer. IsTrue answer
+        → ReadsSome (V.entries values.now) (map step_tree steps.now)) }
+{
+    let Some((first, _)) = steps.split_first() else {
+        return Ok(false);
+    };
+    match first {
+        PlanStep::FromValue {
+            label,
+            op,
+            value,
+            ..
+        } => Ok(is_found(values, *label, *op, value)),
+        PlanStep::FromGuide { named, path, .. } => {
+            if !ends_in_test(steps) {
+                return Ok(false);
+            }
+            Ok(paths.count(alloc, path, *named)? >= MANY)
+        }
+        _ => Ok(false),
+    }
+}
+
+// Whether the last step tests the condition: then not all steps are told by the guide.
+fn ends_in_test(steps: &[PlanStep]) -> bool
+    ensures { IsTrue result → All IsGuided (map step_tree steps.now) → ⊥ }
+{
+    let Some(last) = steps.last() else {
+        return false;
+    };
+    is_test(last)
+}
+
+// Whether the step tests the condition.
+fn is_test(step: &PlanStep) -> bool
+    ensures { IsTrue result → step_tree step.now ≡ filter }
+{
+    match step {
+        PlanStep::Filter => true,
+        _ => false,
+    }
+}
+
+// Whether some object has such a value.
+fn is_found<V: Values>(values: &V, label: Option<Label>, op: Op, value: &Value) -> bool
+    requires op { IsProbed op }
+    requires value { value.now ≢ Complex }
+    ensures { IsTrue result
+        → ((oid : TheOid) → IsCandidate (V.entries values.now) label op value.now oid → ⊥) → ⊥ }
+{
+    let Some(label) = label else {
+        return false;
+    };
+    let count = values.probe_count(label, op, value);
+    if count == 0 {
+        return false;
+    }
+    true
 }

@@ -26,11 +26,12 @@ use crate::replies::Reply;
 use crate::rows::{View, rows_over};
 use crate::stops::Stop;
 use guide_query::GuidePaths;
+use index_eval::may_be_listed;
 use index_traits::{Adjacent, Paths, ValueOf};
 use lore_base::{Names, NoMemory, Steps};
 use lore_store::Store;
 use lorel_bind::bind;
-use lorel_bound::{Answer, Bound, Plan, PlanKind};
+use lorel_bound::{Answer, Bound, BoundCond, Plan, PlanKind};
 use lorel_trees::Select;
 use planner::{choose, forward_plan, guided_plan};
 use std::alloc::Global;
@@ -166,19 +167,27 @@ pub(crate) fn found<L: Ledger>(
     rows_over(alloc, &view, bound, &plan, steps)
 }
 
-// Whether the indexes may help to carry out the plan: there are further ranges to be joined; or it
-// doesn't begin with values as it is, and as far as was counted the range that a comparison reads has
-// more than a few objects.
+// Whether the indexes may help to carry out the plan: there are further ranges to be joined; or the
+// condition takes long walks; or the plan doesn't begin with values as it is, and as far as was counted
+// the range that a comparison reads has more than a few objects.
 fn can_help(bound: &Bound, plan: &Plan) -> bool {
     if bound.ranges.len() > 1 {
         return true;
     }
     if plan.kind == PlanKind::Bottom {
-        return false;
+        return takes_long_walks(bound.cond.as_ref());
     }
     match plan.found {
         Some(found) => found >= FEW,
         None => true,
+    }
+}
+
+// Whether objects for which the condition holds may be listed, in place of a long walk from each.
+fn takes_long_walks(cond: Option<&BoundCond>) -> bool {
+    match cond {
+        Some(cond) => may_be_listed(cond),
+        None => false,
     }
 }
 

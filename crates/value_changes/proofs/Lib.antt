@@ -1,8 +1,8 @@
 pub mod SortedLaws
+pub mod AddedLaws
 pub mod PairLaws
 pub mod TouchedLaws
 pub mod MovingLaws
-pub mod ChosenLaws
 pub mod TakenLaws
 pub mod StayLaws
 pub mod ChangeLaws

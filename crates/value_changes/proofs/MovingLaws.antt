@@ -72,6 +72,14 @@ pub moving-none : (others : List Pair) (given : List Oid) → AreSetOf pair_cmp 
 moving-none others given =
     set-none pair_cmp (IsMoving [] others given) (λ pair moves. Contains-none pair moves.0)
 
+-- all of them where there are no others
+pub moving-all : (pairs others : List Pair) (given : List Oid) → others ≡ [] → Ascends pair_cmp pairs
+    → AreSetOf pair_cmp (IsMoving pairs others given) pairs
+moving-all pairs others given none ascend = rw none (record {
+  ascend = ascend;
+  exact = λ pair. (λ at. (at, inr (λ there. Contains-none pair there)), λ moves. moves.0);
+})
+
 module _ (front others : List Pair) (given : List Oid) (moving : List Pair) (next : Pair)
     (sofar : AreSetOf pair_cmp (IsMoving front others given) moving) where
   moving-pushed : ((pair : Pair) → Contains front pair → pair_cmp pair next ≡ Less)

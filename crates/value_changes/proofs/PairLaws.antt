@@ -1,14 +1,15 @@
 -- Objects, edges and pairs that compare as equal are one, and the pairs of edges.
-use Rattle.std.proofs.Common.{◌≡◌, ◌↔◌, ◌&&◌, ◌==◌, true, List, ◌++◌, map, Contains, refl, ap, subst, inl, inr, arith}
+use Rattle.std.proofs.Common.{◌≡◌, ◌↔◌, ◌&&◌, ◌==◌, true, List, [], map, Contains, refl, ap, subst, inl, inr, arith}
 use Rattle.std.proofs.lemmas.Bool.Decides.{nat_tests, Decides-eqb}
-use Rattle.std.proofs.lemmas.List.Elements.{Contains-append_left, Contains-append_right, Contains-append_cases}
 use Rattle.lore_base.specs.Walks.{edge_of}
 use Rattle.lore_base.proofs.MemberLaws.{Contains-same}
 use Rattle.lore_base.proofs.ToldLaws.{IsTold, told_by, told_same, told_both, told_oid}
 use Rattle.list_laws.proofs.MemberLaws.{Contains-map, Contains-from_map}
-use Rattle.value_changes.specs.Types.{Oid, Edge}
+use Rattle.value_changes.specs.Types.{Oid, Edge, Value}
 use Rattle.value_changes.specs.declared.pairs.Pair.{Pair}
-use Rattle.value_changes.specs.inside.Pairs.{pair_of, AreKept, IsPairOf, IsThere}
+use Rattle.value_changes.specs.inside.Sets.{AreAdded}
+use Rattle.value_changes.specs.inside.Pairs.{pair_of, AreKept, IsPairOf, IsAtomic, IsAtomicPairOf, IsThere}
+use Rattle.value_changes.proofs.AddedLaws.{added-alone}
 
 pub same_pair : (a b : Pair) → ((a.label.0 == b.label.0) && (a.object.0 == b.object.0)) ≡ true → a ≡ b
 same_pair a b h =
@@ -45,19 +46,32 @@ paired edges pair = (
   λ h. Contains-same (map pair_of edges) (pair_of h.0) pair h.2 (Contains-map pair_of edges h.0 h.1),
 )
 
--- the pairs of edges that are kept, and of those that are fresh
-pub paired_then : (entering lost fresh kept : List Edge) → AreKept entering lost kept → (pair : Pair)
-    → Contains (map pair_of kept ++ map pair_of fresh) pair ↔ IsPairOf (IsThere entering lost fresh) pair
-paired_then entering lost fresh kept keeps pair = (
-  λ at. elim (Contains-append_cases (map pair_of kept) (map pair_of fresh) pair at) [
-    | inl first ↦ (let h = (paired kept pair).0 first in (h.0, inr ((keeps.exact h.0).0 h.1), h.2))
-    | inr second ↦ (let h = (paired fresh pair).0 second in (h.0, inl h.1, h.2))
-  ],
-  λ h. elim h.1 [
-    | inl new ↦
-        Contains-append_right (map pair_of kept) (map pair_of fresh) pair ((paired fresh pair).1 (h.0, new, h.2))
-    | inr stays ↦
-        Contains-append_left (map pair_of kept) (map pair_of fresh) pair
-        ((paired kept pair).1 (h.0, (keeps.exact h.0).1 stays, h.2))
-  ],
-)
+module _ (objects : List (Oid × Value)) where
+  -- the pairs of edges to atomic values
+  pub atomic-paired : (edges : List Edge) (pairs : List Pair) → AreAdded pair_of (IsAtomic objects) edges [] pairs
+      → (pair : Pair) → Contains pairs pair ↔ IsAtomicPairOf objects (Contains edges) pair
+  atomic-paired edges pairs adds pair =
+      let alone = added-alone pair_of (IsAtomic objects) edges pairs adds pair in (
+        λ at. ((paired edges pair).0 (alone.0 at).0, (alone.0 at).1),
+        λ h. alone.1 ((paired edges pair).1 h.0, h.1),
+      )
+
+  -- those of edges that are kept, and of edges that are fresh
+  pub atomic-paired_then : (entering lost fresh kept : List Edge) (first pairs : List Pair) → AreKept entering lost kept
+      → AreAdded pair_of (IsAtomic objects) kept [] first → AreAdded pair_of (IsAtomic objects) fresh first pairs
+      → (pair : Pair) → Contains pairs pair ↔ IsAtomicPairOf objects (IsThere entering lost fresh) pair
+  atomic-paired_then entering lost fresh kept first pairs keeps adds adds_fresh pair = (
+    λ at. elim ((adds_fresh.exact pair).0 at) [
+      | inl early ↦
+          let h = (atomic-paired kept first adds pair).0 early in
+          ((h.0.0, inr ((keeps.exact h.0.0).0 h.0.1), h.0.2), h.1)
+      | inr more ↦
+          let h = (paired fresh pair).0 more.0 in
+          ((h.0, inl h.1, h.2), more.1)
+    ],
+    λ h. (adds_fresh.exact pair).1 (elim h.0.1 [
+      | inl new ↦ inr ((paired fresh pair).1 (h.0.0, new, h.0.2), h.1)
+      | inr stays ↦ inl ((atomic-paired kept first adds pair).1
+          ((h.0.0, (keeps.exact h.0.0).1 stays, h.0.2), h.1))
+    ]),
+  )

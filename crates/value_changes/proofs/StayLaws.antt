@@ -1,7 +1,6 @@
 -- What stays where edges are lost, edges are fresh and values are given: edges into objects that are not touched, and
 -- the values of objects that an edge enters before and then.
 use Rattle.std.proofs.Common.{◌⊎◌, ◌↔◌, inl, inr, List, Contains, refl, subst}
-use Rattle.lore_base.specs.Databases.{IsLive}
 use Rattle.lore_base.specs.Walks.{edge_of}
 use Rattle.index_traits.specs.Entries.{IsEntered}
 use Rattle.lore_base.proofs.ToldLaws.{told_member, told_oid, told_edge}
@@ -10,12 +9,13 @@ use Rattle.value_changes.specs.declared.pairs.Pair.{Pair}
 use Rattle.value_changes.specs.EntryChanges.{State, IsSettled, AreGraphChanges}
 use Rattle.value_changes.specs.Reads.{IsValued}
 use Rattle.value_changes.specs.inside.Sets.{AreSetOf}
-use Rattle.value_changes.specs.inside.Touched.{oid_cmp, IsTouched}
-use Rattle.value_changes.specs.inside.Pairs.{pair_cmp, IsPairOf, IsThere}
+use Rattle.value_changes.specs.inside.Touched.{oid_cmp, IsOldGiven}
+use Rattle.value_changes.specs.inside.Pairs.{pair_cmp, IsAtomic, IsAtomicPairOf, IsThere}
 use Rattle.value_changes.proofs.PairLaws.{entered, told_pair}
+use Rattle.value_changes.proofs.TouchedLaws.{IsTouched, touched_of, touched-listed}
 
--- what is read of changes: the objects given values and those touched; the edges that enter these, as far as they have
--- an atomic value; and the pairs of before and of then
+-- what is read of changes: the objects given values, as far as they were live and have an atomic value; the edges that
+-- entered touched objects with an atomic value; and the pairs of before and of then whose objects have one
 pub record Reading : Type 0 where
   pub old : State
   pub new : State
@@ -23,23 +23,28 @@ pub record Reading : Type 0 where
   pub fresh : List Edge
   pub given : List (Oid × Value)
   pub oids : List Oid
-  pub touched : List Oid
   pub entering : List Edge
   pub before : List Pair
   pub then : List Pair
   pub settled : IsSettled old
   pub settled_then : IsSettled new
   pub changes : AreGraphChanges old new lost fresh given
-  pub gives : AreSetOf oid_cmp (IsLive given) oids
-  pub touches : AreSetOf oid_cmp (IsTouched lost fresh oids) touched
+  pub gives : AreSetOf oid_cmp (IsOldGiven old.objects new.objects given) oids
   pub enters : (edge : Edge) → IsValued old.objects new.objects edge.child
-      → Contains entering edge ↔ (Contains old.edges edge × Contains touched edge.child)
-  pub pairs : AreSetOf pair_cmp (IsPairOf (Contains entering)) before
-  pub pairs_then : AreSetOf pair_cmp (IsPairOf (IsThere entering lost fresh)) then
+      → Contains entering edge ↔ (Contains old.edges edge × Contains (touched_of lost fresh oids) edge.child)
+  pub pairs : AreSetOf pair_cmp (IsAtomicPairOf old.objects (Contains entering)) before
+  pub pairs_then : AreSetOf pair_cmp (IsAtomicPairOf new.objects (IsThere entering lost fresh)) then
 
 -- the object has an atomic value before or then
 abbrev pub Valued : Reading → Oid → Type 0
 Valued read oid = IsValued read.old.objects read.new.objects oid
+
+-- the objects given values and the children of lost and of fresh edges
+abbrev pub touched : Reading → List Oid
+touched read = touched_of read.lost read.fresh read.oids
+
+pub touches : (read : Reading) (oid : Oid) → Contains (touched read) oid ↔ IsTouched read.lost read.fresh read.oids oid
+touches read oid = touched-listed read.lost read.fresh read.oids oid
 
 module _ (read : Reading) where
   edge-stays : (edge : Edge) → Contains read.old.edges edge → (Contains read.lost edge → ⊥) → Contains read.new.edges edge
@@ -55,76 +60,88 @@ module _ (read : Reading) where
   ]
 
   -- an object that isn't touched is entered by the same edges
-  pub entered-stays : (label : Label) (oid : Oid) → (Contains read.touched oid → ⊥) → IsEntered read.old.edges label oid
+  pub entered-stays : (label : Label) (oid : Oid) → (Contains (touched read) oid → ⊥) → IsEntered read.old.edges label oid
       → IsEntered read.new.edges label oid
   entered-stays label oid untouched h =
       let edge : Edge = edge_of h.0 label oid in
-      (h.0, edge-stays edge h.1 (λ gone. untouched ((read.touches.exact oid).1 (inr (inl (edge, gone, refl))))))
+      (h.0, edge-stays edge h.1 (λ gone. untouched ((touches read oid).1 (inr (inl (edge, gone, refl))))))
 
-  pub entered-was : (label : Label) (oid : Oid) → (Contains read.touched oid → ⊥) → IsEntered read.new.edges label oid
+  pub entered-was : (label : Label) (oid : Oid) → (Contains (touched read) oid → ⊥) → IsEntered read.new.edges label oid
       → IsEntered read.old.edges label oid
   entered-was label oid untouched h =
       let edge : Edge = edge_of h.0 label oid in
-      (h.0, edge-was edge h.1 (λ new_one. untouched ((read.touches.exact oid).1 (inr (inr (edge, new_one, refl))))))
+      (h.0, edge-was edge h.1 (λ new_one. untouched ((touches read oid).1 (inr (inr (edge, new_one, refl))))))
 
   -- nor is a value given to it
-  pub not_given : (oid : Oid) → (Contains read.touched oid → ⊥) → Contains read.oids oid → ⊥
-  not_given oid untouched is_given = untouched ((read.touches.exact oid).1 (inl is_given))
+  pub not_given : (oid : Oid) → (Contains (touched read) oid → ⊥) → Contains read.oids oid → ⊥
+  not_given oid untouched is_given = untouched ((touches read oid).1 (inl is_given))
 
-  -- of objects with an atomic value, the pairs before are those of touched objects that edges enter before
-  pub before-exact : (pair : Pair) → Valued read pair.object
-      → Contains read.before pair ↔ (Contains read.touched pair.object × IsEntered read.old.edges pair.label pair.object)
-  before-exact pair valued = (
+  -- the pairs before are those of touched objects that edges enter before and that have an atomic value
+  pub before-exact : (pair : Pair)
+      → Contains read.before pair
+      ↔ ((Contains (touched read) pair.object × IsEntered read.old.edges pair.label pair.object)
+      × IsAtomic read.old.objects pair)
+  before-exact pair = (
     λ at.
-        let h = (entered (Contains read.entering) pair).0 ((read.pairs.exact pair).0 at) in
-        let parts = (read.enters (edge_of h.0 pair.label pair.object) valued).0 h.1 in
-        (parts.1, (h.0, parts.0)),
-    λ h. (read.pairs.exact pair).1 ((entered (Contains read.entering) pair).1
-        (h.1.0, (read.enters (edge_of h.1.0 pair.label pair.object) valued).1 (h.1.1, h.0))),
+        let passes = (read.pairs.exact pair).0 at in
+        let h = (entered (Contains read.entering) pair).0 passes.0 in
+        let parts = (read.enters (edge_of h.0 pair.label pair.object) (inl passes.1)).0 h.1 in
+        ((parts.1, (h.0, parts.0)), passes.1),
+    λ h. (read.pairs.exact pair).1 (
+      (entered (Contains read.entering) pair).1
+          (h.0.1.0, (read.enters (edge_of h.0.1.0 pair.label pair.object) (inl h.1)).1 (h.0.1.1, h.0.0)),
+      h.1,
+    ),
   )
 
   -- and likewise then
-  pub then-exact : (pair : Pair) → Valued read pair.object
-      → Contains read.then pair ↔ (Contains read.touched pair.object × IsEntered read.new.edges pair.label pair.object)
-  then-exact pair valued = (
+  pub then-exact : (pair : Pair)
+      → Contains read.then pair
+      ↔ ((Contains (touched read) pair.object × IsEntered read.new.edges pair.label pair.object)
+      × IsAtomic read.new.objects pair)
+  then-exact pair = (
     λ at.
-        let h = (entered (IsThere read.entering read.lost read.fresh) pair).0 ((read.pairs_then.exact pair).0 at) in
-        let edge : Edge = edge_of h.0 pair.label pair.object in
-        elim h.1 [
-          | inl new_one ↦ (
-            (read.touches.exact pair.object).1 (inr (inr (edge, new_one, refl))),
-            (h.0, ((read.changes.fresh_exact edge).0 new_one).0),
-          )
-          | inr stays ↦
-              let parts = (read.enters edge valued).0 stays.0 in
-              (parts.1, (h.0, edge-stays edge parts.0 stays.1))
-        ],
+        let passes = (read.pairs_then.exact pair).0 at in
+        let h = (entered (IsThere read.entering read.lost read.fresh) pair).0 passes.0 in
+        let edge : Edge = edge_of h.0 pair.label pair.object in (
+          elim h.1 [
+            | inl new_one ↦ (
+              (touches read pair.object).1 (inr (inr (edge, new_one, refl))),
+              (h.0, ((read.changes.fresh_exact edge).0 new_one).0),
+            )
+            | inr stays ↦
+                let parts = (read.enters edge (inr passes.1)).0 stays.0 in
+                (parts.1, (h.0, edge-stays edge parts.0 stays.1))
+          ],
+          passes.1,
+        ),
     λ h.
-        let edge : Edge = edge_of h.1.0 pair.label pair.object in
+        let edge : Edge = edge_of h.0.1.0 pair.label pair.object in
         let is_there : IsThere read.entering read.lost read.fresh edge = elim (told_member told_edge read.old.edges edge) [
           | inl there ↦ inr
-              ((read.enters edge valued).1 (there, h.0), λ gone. ((read.changes.lost_exact edge).0 gone).1 h.1.1)
-          | inr none ↦ inl ((read.changes.fresh_exact edge).1 (h.1.1, none))
+              ((read.enters edge (inr h.1)).1 (there, h.0.0), λ gone. ((read.changes.lost_exact edge).0 gone).1 h.0.1.1)
+          | inr none ↦ inl ((read.changes.fresh_exact edge).1 (h.0.1.1, none))
         ] in
-        (read.pairs_then.exact pair).1 ((entered (IsThere read.entering read.lost read.fresh) pair).1 (h.1.0, is_there)),
+        (read.pairs_then.exact pair).1
+        ((entered (IsThere read.entering read.lost read.fresh) pair).1 (h.0.1.0, is_there), h.1),
   )
 
-  -- an object that an edge enters then keeps its value where none is given to it
-  pub value-stays : (label : Label) (oid : Oid) (value : Value) → Contains read.old.objects (oid, value)
+  -- an object with an atomic value that an edge enters then keeps its value where none is given to it
+  pub value-stays : (label : Label) (oid : Oid) (value : Value) → Valued read oid → Contains read.old.objects (oid, value)
       → IsEntered read.new.edges label oid → (Contains read.oids oid → ⊥) → Contains read.new.objects (oid, value)
-  value-stays label oid value at h none_given =
+  value-stays label oid value valued at h none_given =
       elim (read.changes.keep oid value at (read.settled_then.children (edge_of h.0 label oid) h.1)) [
-        | inl is_given ↦ absurd (none_given ((read.gives.exact oid).1 is_given))
+        | inl is_given ↦ absurd (none_given ((read.gives.exact oid).1 (is_given, ((value, at), valued))))
         | inr there ↦ there
       ]
 
   -- and had it, where an edge entered it before too
-  pub value-was : (label : Label) (oid : Oid) (value : Value) → Contains read.new.objects (oid, value)
+  pub value-was : (label : Label) (oid : Oid) (value : Value) → Valued read oid → Contains read.new.objects (oid, value)
       → IsEntered read.old.edges label oid → IsEntered read.new.edges label oid → (Contains read.oids oid → ⊥)
       → Contains read.old.objects (oid, value)
-  value-was label oid value at was h none_given =
+  value-was label oid value valued at was h none_given =
       let live = read.settled.children (edge_of was.0 label oid) was.1 in
-      let there = value-stays label oid live.0 live.1 h none_given in
+      let there = value-stays label oid live.0 valued live.1 h none_given in
       let same = read.settled_then.one_value oid live.0 value there at in
       subst (λ (v : Value). Contains read.old.objects (oid, v)) same live.1
 

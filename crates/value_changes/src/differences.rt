@@ -7,7 +7,6 @@ use crate::entered::entered_before;
 use crate::entries::entries_of;
 use crate::pairs::{moving_pairs, pairs_before, pairs_then};
 use crate::touched::{given_objects, touched_objects};
-use crate::valued::old_valued;
 use index_traits::{EntryList, Links, ValueOf};
 use lore_base::{Edge, NoMemory, Oid, Steps, Value};
 use read_costs::entering_edges;
@@ -62,13 +61,12 @@ pub fn entry_changes<K: Links, V: ValueOf, W: ValueOf, L: Ledger>(
         given,
         added,
     } = changes;
-    let given = given_objects(alloc, given)?;
-    let touched = touched_objects(alloc, lost, fresh, given.as_slice())?;
-    let valued = old_valued(alloc, touched.as_slice(), before, after)?;
-    let read = entering_edges(alloc, links, valued.as_slice(), steps)?;
+    let given = given_objects(alloc, given, before, after)?;
+    let touched = touched_objects(alloc, lost, fresh, given.as_slice(), before, after)?;
+    let read = entering_edges(alloc, links, touched.as_slice(), steps)?;
     let entering = entered_before(alloc, read.as_slice(), added, lost)?;
-    let old = pairs_before(alloc, entering.as_slice())?;
-    let new = pairs_then(alloc, entering.as_slice(), lost, fresh)?;
+    let old = pairs_before(alloc, entering.as_slice(), before)?;
+    let new = pairs_then(alloc, entering.as_slice(), lost, fresh, after)?;
     let leaving = moving_pairs(alloc, old.as_slice(), new.as_slice(), given.as_slice())?;
     let coming = moving_pairs(alloc, new.as_slice(), old.as_slice(), given.as_slice())?;
     let gone = entries_of(alloc, leaving.as_slice(), before)?;

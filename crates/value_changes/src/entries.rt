@@ -1,15 +1,14 @@
-ghost use Rattle.std.specs.Prelude.{◌≡◌, ◌≢◌, Some, Contains, IfSome, IfOk};
-ghost use Rattle.std.specs.Option.{option_copied};
+ghost use Rattle.std.specs.Prelude.{IfOk};
 ghost use Rattle.index_traits.specs.Entries.{entry_cmp};
-ghost use Rattle.value_changes.specs.Types.{Value as TheValue, Complex};
 ghost use Rattle.sorted_list.specs.SortedLists.{Ascends};
 ghost use Rattle.value_changes.specs.inside.Sets.{AreSetOf};
 ghost use Rattle.value_changes.specs.inside.Pairs.{pair_cmp};
 ghost use Rattle.value_changes.specs.inside.PairEntries.{IsPairEntry};
 
 use crate::pairs::Pair;
+use crate::valued::atomic_value;
 use index_traits::{EntryList, ValueEntry, ValueOf};
-use lore_base::{NoMemory, Oid, TryCopy, Value};
+use lore_base::{NoMemory, TryCopy};
 use std::alloc::Global;
 
 // The entries of the pairs whose objects have atomic values, in the same order.
@@ -33,18 +32,4 @@ pub(crate) fn entries_of<V: ValueOf>(
         }
     }
     Ok(entries)
-}
-
-// The object's value, where it has one that is atomic.
-pub(crate) fn atomic_value<V: ValueOf>(values: &V, oid: Oid) -> Option<&Value>
-    ensures found { IfSome result (λ value. Contains (V.objects values.now) (oid, value.now)) }
-    ensures atomic { IfSome result (λ value. value.now ≢ Complex) }
-    ensures only { (value : TheValue) → Contains (V.objects values.now) (oid, value)
-        → value ≢ Complex → option_copied result ≡ Some value }
-{
-    let value = values.value_of(oid)?;
-    match value {
-        Value::Complex => None,
-        _ => Some(value),
-    }
 }

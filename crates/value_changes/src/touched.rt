@@ -1,9 +1,10 @@
-ghost use Rattle.std.specs.Prelude.{◌≡◌, ◌++◌, map, IfOk, OnOk};
-ghost use Rattle.lore_base.specs.Databases.{IsLive};
-ghost use Rattle.value_changes.specs.Types.{Edge as TheEdge};
-ghost use Rattle.value_changes.specs.inside.Sets.{AreSetOf};
-ghost use Rattle.value_changes.specs.inside.Touched.{oid_cmp, IsTouched};
+ghost use Rattle.std.specs.Prelude.{IfOk, OnOk};
+ghost use Rattle.value_changes.specs.Reads.{IsOldValued};
+ghost use Rattle.value_changes.specs.inside.Sets.{AreSetOf, AreAdded};
+ghost use Rattle.value_changes.specs.inside.Touched.{oid_cmp, child_of, IsOldGiven, IsOldTouched};
 
+use crate::valued::is_old_valued;
+use index_traits::ValueOf;
 use key_sort::{Key, set_by_key};
 use lore_base::{Edge, NoMemory, Oid, OidBuf, Value};
 use std::alloc::Global;
@@ -19,43 +20,63 @@ impl Key<Oid> for ByNumber {
     }
 }
 
-// The objects that values are given to, ascending, each once.
-pub(crate) fn given_objects(alloc: Global, given: &[(Oid, Value)]) -> Result<OidBuf, NoMemory>
-    ensures { IfOk result (λ oids. AreSetOf oid_cmp (IsLive given.now) oids) }
+// The objects that values are given to, of those that were live and have an atomic value before or
+// afterwards, ascending, each once.
+pub(crate) fn given_objects<V: ValueOf, W: ValueOf>(
+    alloc: Global,
+    given: &[(Oid, Value)],
+    before: &V,
+    after: &W,
+) -> Result<OidBuf, NoMemory>
+    ensures { IfOk result (λ oids. AreSetOf oid_cmp
+        (IsOldGiven (V.objects before.now) (W.objects after.now) given.now) oids) }
 {
-    let mut oids = OidBuf::with_capacity(alloc, given.len())?;
+    let mut oids = OidBuf::new(alloc);
     'given: for object in given {
-        oids.push(object.0)?;
+        if is_old_valued(before, after, object.0) {
+            oids.push(object.0)?;
+        }
     }
     oids.sort_set();
     Ok(oids)
 }
 
-// The children of lost and of fresh edges and the objects given a value, ascending, each once.
-pub(crate) fn touched_objects(
+// These objects, and the children of lost and of fresh edges that were live and have an atomic value
+// before or afterwards, ascending, each once. Where all objects are new there is none to be sorted.
+pub(crate) fn touched_objects<V: ValueOf, W: ValueOf>(
     alloc: Global,
     lost: &[Edge],
     fresh: &[Edge],
     given: &[Oid],
+    before: &V,
+    after: &W,
 ) -> Result<OidBuf, NoMemory>
-    ensures { IfOk result (λ oids. AreSetOf oid_cmp (IsTouched lost.now fresh.now given.now) oids) }
+    ensures { IfOk result (λ oids. AreSetOf oid_cmp (IsOldTouched (V.objects before.now)
+        (W.objects after.now) lost.now fresh.now given.now) oids) }
 {
-    let edges = lost.len().saturating_add(fresh.len());
-    let mut oids = OidBuf::with_capacity(alloc, edges.saturating_add(given.len()))?;
+    let mut oids = OidBuf::new(alloc);
     oids.append(given)?;
-    add_children(&mut oids, lost)?;
-    add_children(&mut oids, fresh)?;
+    add_children(&mut oids, lost, before, after)?;
+    add_children(&mut oids, fresh, before, after)?;
     let sorted = set_by_key::<Oid, ByNumber>(alloc, oids)?;
     Ok(sorted)
 }
 
-// Puts the children of the edges behind the objects.
-fn add_children(oids: &mut OidBuf, edges: &[Edge]) -> Result<(), NoMemory>
-    ensures { OnOk result
-        (oids.new ≡ oids.old ++ map (λ (edge : TheEdge). edge.child) edges.now) }
+// Puts those children of the edges behind the objects that were live and have an atomic value before
+// or afterwards.
+fn add_children<V: ValueOf, W: ValueOf>(
+    oids: &mut OidBuf,
+    edges: &[Edge],
+    before: &V,
+    after: &W,
+) -> Result<(), NoMemory>
+    ensures { OnOk result (AreAdded child_of
+        (IsOldValued (V.objects before.now) (W.objects after.now)) edges.now oids.old oids.new) }
 {
     'edges: for edge in edges {
-        oids.push(edge.child)?;
+        if is_old_valued(before, after, edge.child) {
+            oids.push(edge.child)?;
+        }
     }
     Ok(())
 }

@@ -1,37 +1,15 @@
-ghost use Rattle.std.specs.Prelude.{◌↔◌, IsTrue, IfOk};
-ghost use Rattle.sorted_list.specs.SortedLists.{Ascends};
+ghost use Rattle.std.specs.Prelude.{◌≡◌, ◌≢◌, ◌↔◌, Some, Contains, IsTrue, IfSome};
+ghost use Rattle.std.specs.Option.{option_copied};
 ghost use Rattle.lore_base.specs.Databases.{IsLive};
+ghost use Rattle.value_changes.specs.Types.{Value as TheValue, Complex};
 ghost use Rattle.value_changes.specs.Reads.{HasAtom, IsOldValued};
-ghost use Rattle.value_changes.specs.inside.Touched.{oid_cmp, AreOldValued};
 
-use crate::entries::atomic_value;
 use index_traits::ValueOf;
-use lore_base::{NoMemory, Oid, OidBuf};
-use std::alloc::Global;
+use lore_base::{Oid, Value};
 
-// Those of the objects that were live and have an atomic value before or afterwards, in the same
-// order. No edge entered another before, or no entry is of it.
-pub(crate) fn old_valued<V: ValueOf, W: ValueOf>(
-    alloc: Global,
-    oids: &[Oid],
-    before: &V,
-    after: &W,
-) -> Result<OidBuf, NoMemory>
-    requires { Ascends oid_cmp oids.now }
-    ensures { IfOk result
-        (λ valued. AreOldValued (V.objects before.now) (W.objects after.now) oids.now valued) }
-{
-    let mut valued = OidBuf::new(alloc);
-    'oids: for oid in oids {
-        if is_old_valued(before, after, *oid) {
-            valued.push(*oid)?;
-        }
-    }
-    Ok(valued)
-}
-
-// Whether the object was live and has an atomic value before or afterwards.
-fn is_old_valued<V: ValueOf, W: ValueOf>(before: &V, after: &W, oid: Oid) -> bool
+// Whether the object was live and has an atomic value before or afterwards. No edge entered another
+// before, or no entry is of it.
+pub(crate) fn is_old_valued<V: ValueOf, W: ValueOf>(before: &V, after: &W, oid: Oid) -> bool
     ensures { IsTrue result ↔ IsOldValued (V.objects before.now) (W.objects after.now) oid }
 {
     if !is_live(before, oid) {
@@ -54,11 +32,25 @@ fn is_live<V: ValueOf>(values: &V, oid: Oid) -> bool
 }
 
 // Whether the object has an atomic value.
-fn has_atom<V: ValueOf>(values: &V, oid: Oid) -> bool
+pub(crate) fn has_atom<V: ValueOf>(values: &V, oid: Oid) -> bool
     ensures { IsTrue result ↔ HasAtom (V.objects values.now) oid }
 {
     match atomic_value(values, oid) {
         Some(_) => true,
         None => false,
+    }
+}
+
+// The object's value, where it has one that is atomic.
+pub(crate) fn atomic_value<V: ValueOf>(values: &V, oid: Oid) -> Option<&Value>
+    ensures found { IfSome result (λ value. Contains (V.objects values.now) (oid, value.now)) }
+    ensures atomic { IfSome result (λ value. value.now ≢ Complex) }
+    ensures only { (value : TheValue) → Contains (V.objects values.now) (oid, value)
+        → value ≢ Complex → option_copied result ≡ Some value }
+{
+    let value = values.value_of(oid)?;
+    match value {
+        Value::Complex => None,
+        _ => Some(value),
     }
 }

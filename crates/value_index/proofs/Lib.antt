@@ -10,6 +10,8 @@ pub mod NameLaws
 pub mod OrderLaws
 pub mod SplitLaws
 pub mod SortLaws
+pub mod RankLaws
+pub mod SlotLaws
 pub mod ChangeLaws
 pub mod CountLaws
 pub mod ProbeLaws

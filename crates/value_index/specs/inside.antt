@@ -6,6 +6,8 @@ pub mod Kinds
 pub mod Held
 pub mod Entries
 pub mod EntryOrder
+pub mod Ranks
+pub mod Slots
 pub mod Leaving
 pub mod Marks
 pub mod Runs

@@ -8,14 +8,14 @@ ghost use Rattle.value_index.specs.inside.Held.{IsPut, ArePut, IsSetOrPushed, Is
 ghost use Rattle.value_index.specs.inside.Held.{less_object, less_objects};
 
 use lore_base::{Oid, Value};
-use std::cmp::Ordering;
 
 // So many objects are put in, taken out or looked for one by one. More of them would cost more than
 // one pass over all.
 pub(crate) const FEW: usize = 16;
 
-// The object's value, where it has one. It is looked for first where it would stand if objects lay
-// evenly among the numbers, and then by binary search.
+// The object's value, where it has one. It is looked for near where it would stand if objects lay
+// evenly among the numbers. It can be nowhere else, but no clause says that: so where it isn't
+// there, it is looked for among all.
 pub(crate) fn value_of(values: &[(Oid, Value)], oid: Oid) -> Option<&Value>
     requires { AscendByObject values.now }
     ensures { option_copied result ≡ value_in values.now oid }
@@ -48,49 +48,50 @@ pub(crate) fn search(values: &[(Oid, Value)], oid: Oid) -> Result<usize, usize>
     values.binary_search_by_key(&oid, |object| object.0)
 }
 
-// The object's value, if a few guesses find it, each from the place of the one before.
+// The object's value, found near where it would stand if objects lay evenly among the numbers.
 fn value_near(values: &[(Oid, Value)], oid: Oid) -> Option<&Value>
     requires { AscendByObject values.now }
     ensures { IfSome result (λ value. value_in values.now oid ≡ Some value.now) }
 {
-    let first = nearer(values, 0, oid);
-    if let Some(value) = value_at(values, first, oid) {
-        return Some(value);
-    }
-    let second = nearer(values, first, oid);
-    if let Some(value) = value_at(values, second, oid) {
-        return Some(value);
-    }
-    value_at(values, nearer(values, second, oid), oid)
+    value_at(values, place_near(values, oid), oid)
 }
 
-// The place where the object would stand, seen from another place, if the numbers rose evenly.
-fn nearer(values: &[(Oid, Value)], place: usize, oid: Oid) -> usize {
-    let Some(object) = values.get(place) else {
+// The place where the object stands, if it does. Numbers ascend, so it is at most as many places
+// away from a guess as its number is from the one there, and is looked for among these. No clause
+// says so, since whoever takes the place looks what is there.
+fn place_near(values: &[(Oid, Value)], oid: Oid) -> usize {
+    let guess = even_place(values, oid);
+    let Some(object) = values.get(guess) else {
         return 0;
     };
-    match object.0.cmp(&oid) {
-        Ordering::Equal => place,
-        Ordering::Less => place.saturating_add(places_in(values, oid.0.abs_diff(object.0.0))),
-        Ordering::Greater => place.saturating_sub(places_in(values, oid.0.abs_diff(object.0.0))),
+    let off = object.0.0.abs_diff(oid.0) as usize;
+    if object.0 < oid {
+        place_among(values, guess, guess.saturating_add(off), oid)
+    } else {
+        place_among(values, guess.saturating_sub(off), guess, oid)
     }
 }
 
-// Over how many places, at least one, numbers rise by this much, if they rise evenly.
-fn places_in(values: &[(Oid, Value)], rise: u32) -> usize {
+// The place where the object would stand if the numbers rose evenly.
+fn even_place(values: &[(Oid, Value)], oid: Oid) -> usize {
     let Some(first) = values.first() else {
-        return 1;
+        return 0;
     };
     let Some(last) = values.last() else {
-        return 1;
+        return 0;
     };
     let span = (last.0.0.saturating_sub(first.0.0) as usize).max(1);
     let gaps = values.len().saturating_sub(1);
-    let places = (rise as usize)
-        .saturating_mul(gaps)
-        .saturating_add(span / 2)
-        / span;
-    places.max(1)
+    let places = (oid.0.saturating_sub(first.0.0) as usize).wrapping_mul(gaps) / span;
+    places.min(gaps)
+}
+
+// The place of the object among those from the one place to the other.
+fn place_among(values: &[(Oid, Value)], first: usize, last: usize, oid: Oid) -> usize {
+    let end = last.saturating_add(1).min(values.len());
+    let start = first.min(end);
+    let near = &values[start..end];
+    start.wrapping_add(near.partition_point(|object| object.0 < oid))
 }
 
 // The object's value, where the object stands at this place.

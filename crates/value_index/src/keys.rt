@@ -3,6 +3,7 @@ ghost use Rattle.std.specs.Option.{option_copied};
 ghost use Rattle.value_index.specs.inside.Kinds.{is_whole, is_text, is_flag, is_of, is_sought};
 ghost use Rattle.value_index.specs.inside.Kinds.{number_in, text_in, flag_in};
 ghost use Rattle.value_index.specs.inside.Kinds.{number_cmp, text_cmp, flag_cmp, value_cmp};
+ghost use Rattle.value_index.specs.inside.Ranks.{flag_number, flag_rank};
 
 use crate::kind::Kind;
 use lore_base::{OemText, Value};
@@ -52,7 +53,10 @@ pub(crate) fn compare_values(kind: Kind, a: &Value, b: &Value) -> Ordering
 fn compare_numbers(a: &Value, b: &Value) -> Ordering
     ensures { result ≡ number_cmp a.now b.now }
 {
-    number_of(a).cmp(&number_of(b))
+    match (a, b) {
+        (Value::Whole(a), Value::Whole(b)) => a.cmp(b),
+        _ => number_of(a).cmp(&number_of(b)),
+    }
 }
 
 // How the texts stand that the values are.
@@ -108,7 +112,7 @@ fn is_flag(value: &Value) -> bool
 }
 
 // The number that the value is or reads as.
-fn number_of(value: &Value) -> Option<i64>
+pub(crate) fn number_of(value: &Value) -> Option<i64>
     ensures { result ≡ number_in value.now }
 {
     match value {
@@ -141,4 +145,21 @@ fn flag_of(value: &Value) -> Option<bool>
         Value::Flag(flag) => Some(*flag),
         Value::Complex => None,
     }
+}
+
+// The number that stands for the flag that the value is or reads as.
+pub(crate) fn flag_rank(value: &Value) -> Option<i64>
+    ensures { result ≡ flag_rank value.now }
+{
+    match flag_of(value) {
+        Some(flag) => Some(number_for(flag)),
+        None => None,
+    }
+}
+
+// The number that stands for a flag.
+pub(crate) fn number_for(flag: bool) -> i64
+    ensures { result ≡ flag_number flag }
+{
+    if flag { 1 } else { 0 }
 }

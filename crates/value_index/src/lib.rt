@@ -12,6 +12,7 @@ pub use value_plan::ValuePlan;
 
 mod bisection;
 mod by_value;
+mod dealing;
 mod entry;
 mod held;
 mod keys;
@@ -20,7 +21,9 @@ mod leaving;
 mod marks;
 mod naive_values;
 mod orders;
+mod ranked;
 mod runs;
+mod slots;
 mod sorting;
 mod value_index;
 mod value_plan;

@@ -6,9 +6,11 @@ ghost use Rattle.value_index.specs.inside.Entries.{seen};
 ghost use Rattle.value_index.specs.inside.EntryOrder.{AscendByValue};
 ghost use Rattle.value_index.specs.inside.Orders.{order_at, in_order, AreSortedOrders};
 
+use crate::dealing::dealt_to_kinds;
 use crate::entry::Entry;
 use crate::keys::is_of;
 use crate::kind::Kind;
+use crate::ranked::by_rank;
 use crate::sorting::{held_values, sorted};
 use index_traits::ValueEntry;
 use lore_base::{NoMemory, Oid, Value};
@@ -48,11 +50,12 @@ impl EntryOrders {
         ensures { IfOk result (λ orders. in_order orders ≡ entries.now) }
     {
         let values = held_values(alloc, entries)?;
-        let wholes = order_of(alloc, entries, Kind::Wholes)?;
         let chars = order_of(alloc, entries, Kind::Texts)?;
-        let flags = order_of(alloc, entries, Kind::Flags)?;
-        let readings = order_of(alloc, entries, Kind::Readings)?;
-        let flag_readings = order_of(alloc, entries, Kind::FlagReadings)?;
+        let dealt = dealt_to_kinds(alloc, entries)?;
+        let wholes = by_rank(alloc, dealt.wholes)?;
+        let flags = by_rank(alloc, dealt.flags)?;
+        let readings = by_rank(alloc, dealt.readings)?;
+        let flag_readings = by_rank(alloc, dealt.flag_readings)?;
         Ok(EntryOrders {
             values,
             wholes,

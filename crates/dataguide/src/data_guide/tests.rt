@@ -1,9 +1,8 @@
 use super::Guide;
 use crate::delta::GuideDelta;
-use crate::nodes::{GuideNode, Node};
-use crate::planned_nodes::Origin;
 use lore_base::{NoMemory, OemText, Oid, OidBuf};
 use oem_set::OidSet;
+use set_explorer::{GuideNode, Node, Origin};
 use std::alloc::Global;
 use std::test::Fail;
 

@@ -1,5 +1,5 @@
 -- Children that are listed, and taken out of the list.
-use Rattle.std.specs.Prelude.{◌≡◌, ◌<◌, ◌≤◌, ℕ, Option, None, List, length, slice_index_or}
+use Rattle.std.specs.Prelude.{◌≡◌, ◌<◌, ◌≤◌, ℕ, List, length, slice_index_or}
 use Rattle.link_index.specs.Types.{Oid}
 use Rattle.link_index.specs.declared.heads.Head.{Head}
 use Rattle.link_index.specs.inside.Records.{head_of, AreAscendingHeads, IsListed}

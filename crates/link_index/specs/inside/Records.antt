@@ -1,5 +1,5 @@
 -- Links as records that lead to one another by their places.
-use Rattle.std.specs.Prelude.{◌≡◌, ◌≢◌, ◌⊎◌, ◌↔◌, ◌+◌, ◌<◌, ◌≤◌, ℕ, Option, Some, None, List, [], ◌∷◌, cond, nat_eq, length, map, slice_index_or, AllPairs, Contains}
+use Rattle.std.specs.Prelude.{◌≡◌, ◌≢◌, ◌⊎◌, ◌↔◌, ◌<◌, ℕ, Option, Some, None, List, [], ◌∷◌, cond, nat_eq, length, map, slice_index_or, AllPairs, Contains}
 use Rattle.std.specs.declared.cmp.Ordering.TheVariants.{Less}
 use Rattle.link_index.specs.Types.{Oid}
 use Rattle.link_index.specs.declared.link.Link.{Link}
@@ -20,6 +20,10 @@ nothing = record { edge = None; after = None }
 -- a free record, behind which comes this one
 abbrev pub free_before : Option ℕ → LinkRecord
 free_before free = record { edge = None; after = free }
+
+-- the record of a link, behind which comes this one
+abbrev pub record_of : Link → Option ℕ → LinkRecord
+record_of link after = record { edge = Some link; after = after }
 
 abbrev pub edge_at : List LinkRecord → ℕ → Option Link
 edge_at records place = link_in (slice_index_or records place nothing)
@@ -99,11 +103,9 @@ pub record IsWritten (old : List LinkRecord) (place : ℕ) (record_ : LinkRecord
   pub others : (j : ℕ) → j ≢ place → slice_index_or new j nothing ≡ slice_index_or old j nothing
 
 -- the links of these are put at their places; the records of those that were there stay where they are
-pub record ArePut (come : List Link) (old_heads : List Head) (old : List LinkRecord) (new_heads : List Head)
-    (new : List LinkRecord) : Type 0 where
-  pub children : map (λ head. head.child) new_heads ≡ map (λ head. head.child) old_heads
-  pub ascend : AreAscendingHeads new_heads
-  pub chained : AreChained new_heads new
+pub record ArePut (come : List Link) (old : List LinkRecord) (heads : List Head) (new : List LinkRecord) : Type 0 where
+  pub ascend : AreAscendingHeads heads
+  pub chained : AreChained heads new
   pub links : (link : Link) → HasLink new link ↔ (HasLink old link ⊎ Contains come link)
   pub kept : (k : ℕ) (link : Link) → LiesAt old k link → LiesAt new k link
 

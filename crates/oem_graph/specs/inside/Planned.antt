@@ -1,15 +1,14 @@
 -- What a plan keeps beside what it leads to.
 use Rattle.std.specs.Prelude.{◌≡◌, ◌≤◌, ℕ, List, [], map, length, All, Contains}
 use Rattle.slab.specs.Slab.{Slab}
-use Rattle.oem_graph.specs.Types.{Oid, Edge, Value, Changes}
+use Rattle.oem_graph.specs.Types.{Oid, Edge, Value}
 use Rattle.lore_base.specs.Databases.{AreAscendingObjects, AreAscendingEdges}
 use Rattle.oem_graph.specs.Types.{EdgeRecord, ObjectRecord}
 use Rattle.edge_lists.specs.Objects.{object_of}
 use Rattle.edge_lists.specs.Views.{edges_of}
 use Rattle.edge_lists.specs.Commits.{ArePlaces}
-use Rattle.oem_graph.specs.Plans.{with_objects, put_edges}
-use Rattle.edge_layers.specs.EdgeTests.{AreFound}
-use Rattle.oem_graph.specs.inside.Left.{AreAscendingOids, not_dead, edges_left, AreGone}
+use Rattle.graph_changes.specs.Puts.{with_objects, put_edges}
+use Rattle.graph_changes.specs.Left.{AreAscendingOids, not_dead}
 use Rattle.edge_layers.specs.Layers.{staying}
 use Rattle.edge_layers.specs.Lists.{AreLists}
 
@@ -38,19 +37,3 @@ pub record IsRead (objects : List ObjectRecord) (records : Slab EdgeRecord) (dea
   pub come_ascend : AreAscendingEdges come
   pub objects_ascend : AreAscendingObjects (with_objects (not_dead dead (map object_of objects)) given)
   pub edges_ascend : AreAscendingEdges (put_edges (staying gone (edges_of records)) come)
-
--- the edges that go and those that come, from the removed ones that are lost, the added ones that are fresh, and those
--- that leave dead objects
-pub record ArePlannedEdges (records : Slab EdgeRecord) (changes : Changes) (dead : List Oid) (gone come : List Edge)
-    (by_child keys : List ℕ) (room : ℕ) : Type 0 where
-  pub lost : List Edge
-  pub lost_absent : List Edge
-  pub removed : AreFound records changes.removed lost lost_absent
-  pub fresh_there : List Edge
-  pub fresh : List Edge
-  pub added : AreFound records changes.added fresh_there fresh
-  pub goes : AreGone records lost dead gone
-  pub comes : come ≡ edges_left dead fresh
-  pub places : ArePlaces (length come) by_child
-  pub no_keys : keys ≡ []
-  pub key_room : length come ≤ room

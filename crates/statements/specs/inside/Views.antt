@@ -1,13 +1,13 @@
 -- What the rows of a bound select are found in, and which rows are its own there.
-use Rattle.std.specs.Prelude.{ℕ, ◌⊎◌, List}
+use Rattle.std.specs.Prelude.{ℕ, ◌⊎◌, List, ◌∷◌, All}
 use Rattle.std.specs.List.{AllZip}
 use Rattle.statements.specs.Types.{Oid, Edge, Value, ValueEntry, Cell}
 use Rattle.lore_base.specs.Paths.{PathTree}
 use Rattle.lorel_bound.specs.Bound.{BoundTree}
-use Rattle.lorel_bound.specs.Plans.{StepTree}
+use Rattle.lorel_bound.specs.Plans.{StepTree, from_value, IsCandidate}
 use Rattle.lorel_bound.specs.SlotRows.{HoldsOver, AreFilled, ShowsSlot, ShowsObjects}
 use Rattle.plan_ops.specs.Steps.{StepsOver, steps_over, IsSought}
-use Rattle.plan_ops.specs.Rows.{AreQuiet}
+use Rattle.plan_ops.specs.Rows.{AreQuiet, IsGuided}
 
 -- what the steps of its plans are taken over, where these objects have values: rows pass of which its condition holds
 abbrev pub view_over :
@@ -29,3 +29,8 @@ abbrev pub ReadsNone : StepsOver → BoundTree → List StepTree → Type 0
 ReadsNone over bound steps =
     AreQuiet over steps
     × (ShowsObjects bound ⊎ ((slots : List Oid) → IsSought over.labels over.edges over.passes bound slots → ⊥))
+
+-- these steps may read an edge: some object has a value that they begin with, or the guide doesn't tell all
+abbrev pub ReadsSome : List ValueEntry → List StepTree → Type 0
+ReadsSome entries (from_value label op value rest slot ∷ steps) = ((oid : Oid) → IsCandidate entries label op value oid → ⊥) → ⊥
+ReadsSome entries steps = All IsGuided steps → ⊥

@@ -2,7 +2,8 @@
 use Rattle.std.specs.Prelude.{◌≡◌, ◌⊎◌, ◌↔◌, List, Contains}
 use Rattle.std.specs.Ordering.{nat_cmp, ordering_then}
 use Rattle.std.specs.declared.cmp.Ordering.{Ordering}
-use Rattle.value_changes.specs.Types.{Oid, Edge}
+use Rattle.value_changes.specs.Types.{Oid, Edge, Value}
+use Rattle.value_changes.specs.Reads.{HasAtom}
 use Rattle.value_changes.specs.declared.pairs.Pair.{Pair}
 
 -- pairs in the order of label and object
@@ -20,6 +21,14 @@ pub record AreKept (edges lost kept : List Edge) : Type 0 where
 -- an edge that passes has this label and this child
 abbrev pub IsPairOf : (Edge → Type 0) → Pair → Type 0
 IsPairOf Passes pair = (edge : Edge) × Passes edge × (pair_of edge ≡ pair)
+
+-- the object of the pair has an atomic value
+abbrev pub IsAtomic : List (Oid × Value) → Pair → Type 0
+IsAtomic objects pair = HasAtom objects pair.object
+
+-- an edge that passes has this label and this child, and the child has an atomic value
+abbrev pub IsAtomicPairOf : List (Oid × Value) → (Edge → Type 0) → Pair → Type 0
+IsAtomicPairOf objects Passes pair = IsPairOf Passes pair × IsAtomic objects pair
 
 -- the edge is fresh, or one that enters and isn't lost
 abbrev pub IsThere : List Edge → List Edge → List Edge → Edge → Type 0

@@ -1,4 +1,4 @@
-use Rattle.dataguide.proofs.TargetSteps.{longer_words_step}
+use Rattle.set_explorer.proofs.TargetSteps.{longer_words_step}
 use Rattle.dataguide.proofs.laws.longer_words_step.Goals as goal
 
 pub returns : goal.returns

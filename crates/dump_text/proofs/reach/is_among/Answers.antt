@@ -1,5 +1,5 @@
 use Rattle.std.proofs.Common.{true≢false, sym, refl}
-use Rattle.oem_graph.proofs.DeadLaws.{found_oid, no_oid}
+use Rattle.graph_changes.proofs.DeadLaws.{found_oid, no_oid}
 use Rattle.dump_text.proofs.reach.is_among.Goals as goal
 
 pub returns-in-Ok : goal.returns-in-Ok

@@ -17,6 +17,9 @@ returns-then-not-are_linked c =
     (sym (c.are_linked.ensures.1 (linked_there c.args.tree.now c.as_slice-names.result.now c.as_slice-objects.result.now c.args.edges.now
     c.as_slice-names.ensures c.as_slice-objects.ensures c.requires.edges graph.linked)) ∙ c.if-not-are_linked.true))
 
+pub are_reached-requires-clause-linked : goal.are_reached-requires-clause-linked
+are_reached-requires-clause-linked c = c.are_linked.ensures.0 c.if-not-are_linked.false
+
 pub returns : goal.returns
 returns c =
     IfOk-weaker c.are_reached.result _ _

@@ -1,6 +1,6 @@
 use Rattle.std.proofs.Common.{rules}
 use Rattle.std.proofs.lemmas.List.Sorted.{answers_always}
-use Rattle.oem_graph.proofs.ObjectLaws.{found_value, none_live}
+use Rattle.graph_changes.proofs.ObjectLaws.{found_value, none_live}
 use Rattle.dump_text.proofs.rules.value_in.Goals as goal
 
 pub returns-in-Ok-clause-some : goal.returns-in-Ok-clause-some

@@ -1,7 +1,7 @@
 use Rattle.std.proofs.Common.{ap}
 use Rattle.lore_base.specs.Paths.{path_tree}
 use Rattle.lorel_bound.specs.Conditions.{at}
-use Rattle.index_eval.specs.inside.Asked.{given_operand}
+use Rattle.member_clues.specs.Asked.{given_operand}
 use Rattle.index_eval.proofs.EndLaws.{atom_found, given_found}
 use Rattle.index_eval.proofs.ends.ends_compared.Goals as goal
 

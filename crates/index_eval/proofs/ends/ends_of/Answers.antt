@@ -1,5 +1,5 @@
 use Rattle.std.proofs.Common.{subst}
-use Rattle.index_eval.specs.inside.Clues.{IsProbedEnd}
+use Rattle.index_eval.specs.inside.Ends.{IsProbedEnd}
 use Rattle.index_eval.proofs.EndLaws.{compared_found, met_found}
 use Rattle.index_eval.proofs.ends.ends_of.Goals as goal
 

@@ -1,5 +1,5 @@
 use Rattle.std.proofs.Common.{take}
-use Rattle.index_eval.specs.inside.Clues.{TakesEndsOf}
+use Rattle.index_eval.specs.inside.Ends.{TakesEndsOf}
 use Rattle.index_eval.proofs.ends.ends_of_each.Given as goal
 
 abbrev pub invariant-found : goal.invariant-found

@@ -1,7 +1,7 @@
 use Rattle.std.proofs.Common.{List, IfOk, IfSome, subst}
 use Rattle.lore_base.specs.Paths.{path_tree}
 use Rattle.index_eval.specs.Types.{Oid}
-use Rattle.index_eval.specs.inside.Clues.{TakesEndsOf}
+use Rattle.index_eval.specs.inside.Ends.{TakesEndsOf}
 use Rattle.index_eval.proofs.EndLaws.{path_found}
 use Rattle.index_eval.proofs.ends.ends_of_path.Goals as goal
 

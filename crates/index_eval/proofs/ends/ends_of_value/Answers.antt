@@ -1,6 +1,6 @@
 use Rattle.std.proofs.Common.{List, subst}
 use Rattle.index_eval.specs.Types.{Oid}
-use Rattle.index_eval.specs.inside.Clues.{TakesEnds}
+use Rattle.index_eval.specs.inside.Ends.{TakesEnds}
 use Rattle.index_eval.proofs.ends.ends_of_value.Goals as goal
 
 pub returns : goal.returns

@@ -1,6 +1,6 @@
 use Rattle.std.proofs.Common.{List, Option, IfSome, subst}
 use Rattle.index_eval.specs.Types.{Oid}
-use Rattle.index_eval.specs.inside.Clues.{HasEnds}
+use Rattle.index_eval.specs.inside.Ends.{HasEnds}
 use Rattle.index_eval.proofs.EndLaws.{led_back, led_through}
 use Rattle.index_eval.proofs.ends.objects_by.Goals as goal
 

@@ -2,7 +2,7 @@ use Rattle.std.proofs.Common.{ap, sym, subst, All}
 use Rattle.std.specs.Option.{option_copied}
 use Rattle.std.proofs.lemmas.List.Elements.{All-nil}
 use Rattle.std.proofs.lemmas.Result.{IfOk-weaker}
-use Rattle.index_eval.specs.inside.Clues.{IsClueIn}
+use Rattle.index_eval.specs.inside.Ends.{IsClueIn}
 use Rattle.index_eval.proofs.TestLaws.{all_in}
 use Rattle.index_eval.proofs.indexed_test.clues_in.Goals as goal
 

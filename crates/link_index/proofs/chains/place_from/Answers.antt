@@ -1,8 +1,8 @@
-use Rattle.std.proofs.Common.{◌≡◌, Some, None, refl, sym, ap, ◌∙◌}
+use Rattle.std.proofs.Common.{Some, None, refl, sym, ◌∙◌}
 use Rattle.std.proofs.lemmas.Bool.{true≢false}
 use Rattle.link_index.specs.inside.LinkEdges.{order}
 use Rattle.link_index.specs.inside.Records.{link_in, nothing, child_of, Precedes, LiesAt, after_at, head_of}
-use Rattle.near_links.proofs.AheadLaws.{place_here, next_stands, nearer, none_some}
+use Rattle.near_links.proofs.AheadLaws.{place_here, nearer}
 use Rattle.near_links.proofs.SlotLaws.{fewer_from}
 use Rattle.link_index.proofs.RecordLaws.{link_total, link_self, list_order, lies_once, past_link, told_less}
 use Rattle.link_index.proofs.chains.place_from.Goals as goal

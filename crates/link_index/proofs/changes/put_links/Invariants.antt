@@ -5,7 +5,9 @@ use Rattle.link_index.proofs.changes.put_links.Given as goal
 
 abbrev pub invariant-come : goal.invariant-come
 invariant-come l = record {
-  put : ArePut (take l.link-index l.come) l.fn.heads l.fn.records.items l.heads l.records.items;
+  put : ArePut (take l.link-index l.come) l.fn.records.items l.heads.items l.records.items;
+  heads_len : vec_len l.heads ≤ vec_len l.fn.heads + l.link-index;
+  heads_capacity : vec_capacity l.heads ≡ vec_capacity l.fn.heads;
   len : vec_len l.records ≤ vec_len l.fn.records + l.link-index;
   capacity : vec_capacity l.records ≡ vec_capacity l.fn.records;
 }

@@ -1,4 +1,4 @@
-use Rattle.std.proofs.Common.{◌≡◌, ℕ, Option, refl, sym, ap, ◌∙◌, subst, arith}
+use Rattle.std.proofs.Common.{ℕ, Option, subst}
 use Rattle.link_index.specs.inside.Records.{IsLed}
 use Rattle.link_index.proofs.HeadLaws.{child_listed}
 use Rattle.link_index.proofs.RecordLaws.{taken_key, led_within, take_one}

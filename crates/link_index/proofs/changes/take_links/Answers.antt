@@ -1,4 +1,4 @@
-use Rattle.link_index.proofs.CommitLaws.{taken_none, taken_step, still_has}
+use Rattle.link_index.proofs.CommitLaws.{taken_step, still_has}
 use Rattle.link_index.proofs.changes.take_links.Goals as goal
 
 pub take_link-last-requires-clause-has : goal.take_link-last-requires-clause-has

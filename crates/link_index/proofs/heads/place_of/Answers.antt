@@ -1,4 +1,4 @@
-use Rattle.std.proofs.Common.{ap, rules}
+use Rattle.std.proofs.Common.{rules}
 use Rattle.std.proofs.lemmas.List.Sorted.{answers_always}
 use Rattle.link_index.proofs.HeadLaws.{found_child, none_listed}
 use Rattle.link_index.proofs.heads.place_of.Goals as goal

@@ -1,10 +1,10 @@
-use Rattle.std.proofs.Common.{◌≡◌, Some, None, refl, sym, ap, ◌∙◌}
+use Rattle.std.proofs.Common.{refl, sym, ◌∙◌}
 use Rattle.link_index.specs.inside.LinkEdges.{order}
 use Rattle.link_index.specs.inside.Records.{link_in, nothing, child_of, Precedes, LiesAt, after_at, head_of}
 use Rattle.near_links.proofs.AheadLaws.{place_lies}
 use Rattle.near_links.proofs.SlotLaws.{fewer_from}
 use Rattle.link_index.proofs.RecordLaws.{link_total, link_self, list_order, lies_once, told_less}
-use Rattle.link_index.proofs.RunLaws.{told_none, told_more, told_all}
+use Rattle.link_index.proofs.RunLaws.{told_more, told_all}
 use Rattle.link_index.proofs.link_runs.push_run.Goals as goal
 
 pub records-smaller : goal.records-smaller

@@ -1,4 +1,4 @@
-use Rattle.std.proofs.Common.{◌≡◌, ◌<◌, ◌≤◌, Vec, Global, List, length, sym, ap, ◌∙◌, subst, arith}
+use Rattle.std.proofs.Common.{◌<◌, ◌≤◌, Vec, Global, length, sym, ap, ◌∙◌, subst, arith}
 use Rattle.link_index.specs.declared.heads.Head.{Head}
 use Rattle.link_index.specs.inside.Heads.{SameHeads}
 use Rattle.link_index.specs.inside.Records.{AreAscendingHeads}

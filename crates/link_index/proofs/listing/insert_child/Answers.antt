@@ -1,4 +1,4 @@
-use Rattle.std.proofs.Common.{List, ap, sym, subst}
+use Rattle.std.proofs.Common.{List, ap, subst}
 use Rattle.std.specs.Prelude.{is_ok}
 use Rattle.link_index.specs.declared.heads.Head.{Head}
 use Rattle.link_index.specs.inside.Heads.{IsGap}

@@ -2,7 +2,7 @@ use Rattle.std.proofs.Common.{ℕ, ◌+◌, ◌<◌, List, map, sym, ap, ◌∙�
 use Rattle.std.specs.Option.{option_copied}
 use Rattle.std.proofs.lemmas.Result.{IfOk-weaker}
 use Rattle.oem_reach.specs.Types.{Oid, Edge}
-use Rattle.oem_reach.specs.inside.LowerParents.{IsLed}
+use Rattle.object_search.specs.LowerParents.{IsLed}
 use Rattle.oem_reach.proofs.LowerParentLaws.{first_number}
 use Rattle.oem_reach.proofs.lower_parents.are_all_led.Goals as goal
 

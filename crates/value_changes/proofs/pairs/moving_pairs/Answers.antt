@@ -3,9 +3,15 @@ use Rattle.std.proofs.lemmas.List.{take_all}
 use Rattle.value_changes.specs.declared.pairs.Pair.{Pair}
 use Rattle.value_changes.specs.inside.Sets.{AreSetOf}
 use Rattle.value_changes.specs.inside.Pairs.{pair_cmp, IsMoving}
-use Rattle.value_changes.proofs.MovingLaws.{moving-none, moving-more, moving-less}
+use Rattle.value_changes.proofs.MovingLaws.{moving-none, moving-all, moving-more, moving-less}
+use Rattle.value_changes.proofs.EnteredLaws.{none_read}
 use Rattle.value_changes.proofs.pairs.moving_pairs.Goals as goal
 use Rattle.value_changes.proofs.pairs.moving_pairs.Goals.{then-is_moving+in_ok-push, else-is_moving}
+
+pub returns-then-is_empty : goal.returns-then-is_empty
+returns-then-is_empty c =
+    rw c.in_ok-all.ensures (moving-all c.args.pairs.now c.args.others.now c.args.given.now
+    (none_read c.args.others.now c.is_empty.result c.is_empty.ensures c.if-is_empty.true) c.requires.pairs)
 
 pub pairs-init : goal.pairs-init
 pairs-init c = rw c.in_ok-moving.ensures (moving-none _ _)

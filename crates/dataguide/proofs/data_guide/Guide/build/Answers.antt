@@ -4,8 +4,9 @@ use Rattle.std.proofs.lemmas.Result.{err_from_is_err_and}
 use Rattle.lore_base.specs.PathOrder.{AreInPathOrder}
 use Rattle.dataguide.specs.Types.{GuideNode}
 use Rattle.set_steps.specs.SetSteps.{reads_of}
-use Rattle.dataguide.specs.Guides.{GuideGraph, StandsFor, sets_of}
-use Rattle.dataguide.specs.Touched.{ReadsTouched, ReadsSome}
+use Rattle.dataguide.specs.Guides.{GuideGraph, StandsFor}
+use Rattle.set_explorer.specs.Nodes.{sets_of}
+use Rattle.set_explorer.specs.Touched.{ReadsTouched, ReadsSome}
 use Rattle.dataguide.specs.Deltas.{guide_then}
 use Rattle.dataguide.proofs.ChangeLaws.{stood-new, reads-all, reads-at_most}
 use Rattle.dataguide.proofs.data_guide.Guide.build.Goals as goal

@@ -2,13 +2,15 @@ use Rattle.std.proofs.Common.{◌≡◌, ◌≢◌, List, AllPairs, sym, ap, ◌
 use Rattle.std.proofs.lemmas.List.Sorted.{Contains-permutation, IsNonDecreasingBy-from_sort_by_key}
 use Rattle.oem_set.specs.Sets.{hash_of}
 use Rattle.dataguide.specs.Types.{Oid, GuideNode, DeltaNode}
-use Rattle.dataguide.specs.Guides.{GuideGraph, node_number, sets_of}
-use Rattle.dataguide.specs.Deltas.{PlannedGuide, KeepsOnce, nodes_then}
-use Rattle.dataguide.proofs.FillLaws.{filled-ascend, filled-few}
+use Rattle.dataguide.specs.Guides.{GuideGraph}
+use Rattle.set_explorer.specs.Nodes.{node_number, sets_of}
+use Rattle.dataguide.specs.Deltas.{PlannedGuide}
+use Rattle.set_explorer.specs.PlannedNodes.{KeepsOnce, nodes_then}
+use Rattle.set_explorer.proofs.FillLaws.{filled-ascend, filled-few}
 use Rattle.dataguide.proofs.data_guide.Guide.commit.Goals as goal
 
-pub fill-nodes-requires : goal.fill-nodes-requires
-fill-nodes-requires c =
+pub fill_nodes-nodes-requires : goal.fill_nodes-nodes-requires
+fill_nodes-nodes-requires c =
     let old : c.args.self.now.nodes ≡ c.replace-old.result.items =
     sym (ap (λ (g : GuideGraph). g.nodes) c.self.view_is) ∙ sym (ap (λ v. v.items) c.replace-old.ensures.value) in
     let nodes : c.args.delta.nodes ≡ c.delta.inside.nodes.items =
@@ -26,7 +28,7 @@ fill-nodes-requires c =
 pub returns : goal.returns
 returns c =
     let planned = c.delta.inside.nodes.items in
-    let nodes = c.fill-nodes.ensures.nodes ∙ ap (λ v. nodes_then v.items planned) c.replace-old.ensures.value
+    let nodes = c.fill_nodes-nodes.ensures.nodes ∙ ap (λ v. nodes_then v.items planned) c.replace-old.ensures.value
     ∙ ap (λ (g : GuideGraph). nodes_then g.nodes planned) c.self.view_is in
     ap (λ (l : List GuideNode). record { nodes = l; entries = c.delta.inside.entries }) nodes
     ∙ ap (λ (p : PlannedGuide). record { nodes = nodes_then c.args.self.now.nodes p.nodes; entries = p.entries })
@@ -35,7 +37,7 @@ returns c =
 pub invariant_of-self : goal.invariant_of-self
 invariant_of-self c =
     let planned = c.delta.inside.nodes.items in
-    let made = c.fill-nodes.ensures.nodes ∙ ap (λ v. nodes_then v.items planned) c.replace-old.ensures.value
+    let made = c.fill_nodes-nodes.ensures.nodes ∙ ap (λ v. nodes_then v.items planned) c.replace-old.ensures.value
     ∙ ap (λ (g : GuideGraph). nodes_then g.nodes planned) c.self.view_is
     ∙ ap (λ (p : PlannedGuide). nodes_then c.args.self.now.nodes p.nodes) c.delta.view_is in
     record {
@@ -43,15 +45,15 @@ invariant_of-self c =
         sorted = IsNonDecreasingBy-from_sort_by_key (λ e. e.0) c.sort_unstable_by_key.new.self.items
             c.sort_unstable_by_key.ensures.sorted (λ a r q k. search rules);
         listed = λ place node at.
-            Contains-permutation c.fill-nodes.result.by_hash.items c.sort_unstable_by_key.new.self.items
+            Contains-permutation c.fill_nodes-nodes.result.by_hash.items c.sort_unstable_by_key.new.self.items
             (hash_of node.set, node_number place) c.sort_unstable_by_key.ensures.permutation
-            (c.fill-nodes.ensures.hashes place node at);
+            (c.fill_nodes-nodes.ensures.hashes place node at);
       };
       apart = subst (λ (l : List GuideNode). AllPairs (λ (a b : List Oid). a ≢ b) (sets_of l))
           (sym made) c.requires.apart;
-      ascend = filled-ascend c.replace-old.result.items planned c.fill-nodes.result.nodes.items
-          c.fill-nodes.ensures.nodes
+      ascend = filled-ascend c.replace-old.result.items planned c.fill_nodes-nodes.result.nodes.items
+          c.fill_nodes-nodes.ensures.nodes
           c.delta.invariant.ascend;
-      few = filled-few c.replace-old.result.items planned c.fill-nodes.result.nodes.items c.fill-nodes.ensures.nodes
+      few = filled-few c.replace-old.result.items planned c.fill_nodes-nodes.result.nodes.items c.fill_nodes-nodes.ensures.nodes
           c.delta.invariant.few;
     }

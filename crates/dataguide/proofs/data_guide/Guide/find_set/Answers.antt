@@ -1,6 +1,7 @@
 use Rattle.std.proofs.Common.{◌≡◌, List, IfSome, IfNone, Contains, ap, ◌∙◌, subst}
 use Rattle.dataguide.specs.Types.{Node, GuideNode}
-use Rattle.dataguide.specs.Guides.{GuideGraph, HasSet, sets_of}
+use Rattle.dataguide.specs.Guides.{GuideGraph}
+use Rattle.set_explorer.specs.Nodes.{HasSet, sets_of}
 use Rattle.dataguide.proofs.TableLaws.{one-node}
 use Rattle.dataguide.proofs.data_guide.Guide.find_set.Goals as goal
 

@@ -1,4 +1,4 @@
-use Rattle.dataguide.proofs.DoneLaws.{nothing-stands}
+use Rattle.dataguide.proofs.ChangeLaws.{nothing-stands}
 use Rattle.dataguide.proofs.data_guide.Guide.new.Goals as goal
 
 pub returns-clause-guide : goal.returns-clause-guide

@@ -1,269 +1,107 @@
-use Rattle.std.proofs.Common.{◌≡◌, ℕ, ◌<◌, ◌≤◌, List, [], ◌∷◌, length, map, take, sym, ◌∙◌, subst, arith}
+use Rattle.std.proofs.Common.{ℕ, List, length, sym, ◌∙◌, subst, arith}
 use Rattle.std.specs.List.{AllZip}
-use Rattle.std.specs.List.Sorted.{IsStrictlySortedBy}
-use Rattle.std.proofs.lemmas.List.{take_all, length-map}
+use Rattle.std.proofs.lemmas.List.{length-map}
 use Rattle.std.proofs.lemmas.Result.{err_from_is_err_and}
-use Rattle.lore_base.specs.Bytes.{bytes_cmp}
-use Rattle.dataguide.specs.Types.{Oid, Node, GuideNode, GuideFault}
-use Rattle.dataguide.specs.Guides.{sets_of, IsEntry}
-use Rattle.dataguide.specs.GuideCauses.{GuideCause}
-use Rattle.dataguide.specs.Touched.{ReadsTouched, parents_of}
-use Rattle.dataguide.specs.inside.Entering.{AreEntered}
-use Rattle.dataguide.specs.inside.Trails.{IsSearched}
-use Rattle.dataguide.specs.inside.Founds.{found_nodes, found_sets, AreStopped}
-use Rattle.dataguide.proofs.SearchedLaws.{searched-start, searched-more, expanded-sets}
-use Rattle.dataguide.proofs.DoneLaws.{are-targets, in-order, has-steps}
-use Rattle.dataguide.proofs.CountLaws.{fit-counted}
-use Rattle.dataguide.proofs.EntryLaws.{entry-keys}
-use Rattle.dataguide.proofs.FillLaws.{planned-ascend}
-use Rattle.dataguide.proofs.RuleLaws.{names-refused, steps-refused}
-use Rattle.dataguide.proofs.ExpandLaws.{grown-passed}
-use Rattle.dataguide.proofs.PlanLaws.{reads-none, reads-more, reads-nothing, reads-halted, name-sets, name-origins}
-use Rattle.dataguide.proofs.ChangeLaws.{stood-change, reads-same, some-same, costs-same}
-use Rattle.dataguide.proofs.PlanLaws.{nodes-count, keeps-once, no-sets, entries-start, entries-stay}
+use Rattle.lore_base.specs.PathOrder.{AreInPathOrder}
+use Rattle.dataguide.specs.Types.{Node, GuideNode}
+use Rattle.set_explorer.specs.Nodes.{sets_of, IsEntry}
+use Rattle.set_explorer.specs.Touched.{ReadsTouched, ReadsSome, parents_of}
+use Rattle.set_explorer.specs.PlannedNodes.{node_then, nodes_then}
+use Rattle.set_explorer.specs.HashedNodes.{IsHashed}
+use Rattle.set_explorer.specs.Changes.{IsChange}
+use Rattle.dataguide.specs.Guides.{StandsFor}
+use Rattle.dataguide.specs.Deltas.{guide_then, IsReady}
+use Rattle.set_explorer.proofs.CountLaws.{fit-counted}
+use Rattle.set_explorer.proofs.FillLaws.{planned-ascend}
+use Rattle.dataguide.proofs.ChangeLaws.{stood-change, reads-same, some-same}
 use Rattle.dataguide.proofs.data_guide.Guide.plan.Goals as goal
 
-pub nodes-init : goal.nodes-init
-nodes-init g c =
-    let kept = c.args.self.now.nodes in
-    let names = c.args.names.now in
+pub explore_sets-requires : goal.explore_sets-requires
+explore_sets-requires g c =
     let edges = g.A.Adjacent.edges c.args.after.now in
-    let found = c.enter_all.new.found in
-    let enters = c.in_ok-row.ensures.entered in
-    let entered = subst (λ (l : List (List Oid)). AreEntered l (map (λ (named : List ℕ × Oid). named.1 ∷ []) names)
-    (found_sets kept found))
-    (no-sets kept c.in_ok-found.found c.in_ok-found.ensures.none)
-    (subst (λ (l : List (List Oid)). AreEntered (found_sets kept c.in_ok-found.found) l (found_sets kept found))
-    (name-sets kept names c.in_ok-starts.starts.items c.in_ok-starts.ensures.targets) enters.entered) in
+    let same = sym c.table-guide.ensures.nodes in
     record {
-      found = enters.found;
-      fit = enters.fit;
-      searched = searched-start names edges (found_nodes kept found) c.in_ok-starts.ensures.table entered;
-      reads = reads-none (sets_of kept) (parents_of c.args.lost.now) (parents_of c.args.fresh.now) edges
-          (found_sets kept found) c.args.steps.now;
-      entries = subst (λ (l : List (List ℕ × Node)). AllZip (IsEntry (found_nodes kept found)) names l)
-          (sym c.into_items-entries.ensures)
-          (entries-start kept (found_nodes kept found) names c.in_ok-starts.starts.items c.in_ok-row.row
-          c.in_ok-starts.ensures.targets enters.placed);
-      passed = omega arith;
-    }
-
-pub enter_all-requires-clause-there : goal.enter_all-requires-clause-there
-enter_all-requires-clause-there g c =
-    name-origins c.args.self.now.nodes c.args.names.now c.in_ok-starts.starts.items c.in_ok-starts.ensures.targets
-
-pub nodes-preserved : goal.nodes-preserved
-nodes-preserved g c =
-    let kept = c.args.self.now.nodes in
-    let names = c.args.names.now in
-    let edges = g.A.Adjacent.edges c.args.after.now in
-    let old = c.nodes.found in
-    let new = c.expand.new.found in
-    let now = c.in_ok-expand.ensures.expanded in
-    let before = c.nodes.invariant in
-    let within : c.nodes.next < length old.nodes.items = omega
-    (arith, c.nodes-test.true, c.len.ensures, old.nodes.ok.0) in
-    record {
-      found = c.in_ok-expand.ensures.found;
-      fit = c.in_ok-expand.ensures.fit;
-      searched = searched-more names edges (found_nodes kept old) (found_nodes kept new) c.nodes.next before.searched
-          now;
-      reads = reads-more (sets_of kept) (parents_of c.args.lost.now) (parents_of c.args.fresh.now) edges
-          (found_sets kept old) (found_sets kept new) c.nodes.next now.set
-          c.args.steps.now c.nodes.steps c.expand.new.steps before.searched.is.apart
-          (expanded-sets edges (found_nodes kept old) (found_nodes kept new) c.nodes.next now) now.at before.reads
-          (costs-same (sets_of kept) c.in_ok-dirty.dirty (parents_of c.args.lost.now) c.in_ok-dirty.ensures.exact
-          c.in_ok-grown.grown (parents_of c.args.fresh.now) c.in_ok-grown.ensures.exact edges now.set c.nodes.steps c.expand.new.steps (c.in_ok-expand.ensures.reads now.set now.at));
-      entries = entries-stay edges (found_nodes kept old) (found_nodes kept new) c.nodes.next now names
-          c.into_items-entries.result.items before.entries;
-      passed = omega (arith, grown-passed kept edges old new c.nodes.next now within);
+      stood = subst (λ (l : List GuideNode). IsChange l c.in_ok-dirty.dirty c.in_ok-grown.grown c.args.fresh.now edges) same
+          (stood-change c.args.self.now c.args.lost.now c.args.fresh.now edges c.in_ok-dirty.dirty c.in_ok-grown.grown
+          c.requires.stood c.requires.ascend c.in_ok-dirty.ensures c.in_ok-grown.ensures);
+      hashed = subst (λ (l : List GuideNode). IsHashed c.table-guide.result.by_hash.now l) same
+          c.table-guide.ensures.hashed;
     }
 
 pub returns-clause-guide : goal.returns-clause-guide
 returns-clause-guide g c =
-    let kept = c.args.self.now.nodes in
-    let names = c.args.names.now in
-    let edges = g.A.Adjacent.edges c.args.after.now in
-    let found = c.nodes.found in
-    let done : c.nodes.next ≡ length (found_nodes kept found) =
-    omega (
-      arith,
-      c.nodes-test.false,
-      c.len.ensures,
-      found.nodes.ok.0,
-      c.nodes.invariant.passed,
-      nodes-count kept
-          found,
-    ) in
-    let searched = subst (IsSearched names edges (found_nodes kept found)) done c.nodes.invariant.searched in
-    record {
-      nodes = are-targets names edges (found_nodes kept found) searched;
-      steps = has-steps names edges (found_nodes kept found) searched;
-      entries = subst (λ (l : List (List ℕ × Node)). AllZip (IsEntry (found_nodes kept found)) names l)
-          (sym c.of.ensures) c.nodes.invariant.entries;
-    }
+    let explored = c.in_ok-explored.explored in
+    let is = c.in_ok-explored.ensures in
+    let nodes = nodes_then c.table-guide.result.nodes.now explored.nodes.items in
+    subst (λ (l : List GuideNode). StandsFor (guide_then l (record { nodes = explored.nodes.items; entries = c.of.result }))
+    c.args.names.now (g.A.Adjacent.edges c.args.after.now)) c.table-guide.ensures.nodes (record {
+      nodes = is.nodes.nodes;
+      steps = is.nodes.steps;
+      entries = subst (λ (l : List (List ℕ × Node)). AllZip (IsEntry nodes) c.args.names.now l) (sym c.of.ensures) is.entries;
+    })
 
 pub returns-clause-order : goal.returns-clause-order
 returns-clause-order g c =
-    let kept = c.args.self.now.nodes in
-    let names = c.args.names.now in
-    let edges = g.A.Adjacent.edges c.args.after.now in
-    let found = c.nodes.found in
-    let done : c.nodes.next ≡ length (found_nodes kept found) =
-    omega (
-      arith,
-      c.nodes-test.false,
-      c.len.ensures,
-      found.nodes.ok.0,
-      c.nodes.invariant.passed,
-      nodes-count kept
-          found,
-    ) in
-    in-order names edges (found_nodes kept found) (subst (IsSearched names edges (found_nodes kept found)) done
-    c.nodes.invariant.searched)
+    let explored = c.in_ok-explored.explored in
+    subst (λ (l : List GuideNode). AreInPathOrder c.args.names.now (g.A.Adjacent.edges c.args.after.now)
+    (sets_of (nodes_then l explored.nodes.items))) c.table-guide.ensures.nodes c.in_ok-explored.ensures.order
+
+pub returns-clause-ready : goal.returns-clause-ready
+returns-clause-ready g c =
+    let explored = c.in_ok-explored.explored in
+    let is = c.in_ok-explored.ensures in
+    subst (λ (l : List GuideNode). IsReady l (record { nodes = explored.nodes.items; entries = c.of.result }))
+    c.table-guide.ensures.nodes (record { keeps = is.keeps; apart = is.nodes.nodes.apart })
 
 pub returns-clause-steps : goal.returns-clause-steps
 returns-clause-steps g c =
-    let kept = c.args.self.now.nodes in
+    let explored = c.in_ok-explored.explored in
     let edges = g.A.Adjacent.edges c.args.after.now in
-    let found = c.nodes.found in
-    let few : length (found_sets kept found) ≤ c.nodes.next =
-    omega (
-      arith,
-      c.nodes-test.false,
-      c.len.ensures,
-      found.nodes.ok.0,
-      nodes-count kept found,
-      length-map (found_nodes kept found) (λ (n : GuideNode). n.set),
-    ) in
-    subst (λ (l : List (List Oid)). ReadsTouched (sets_of kept) (parents_of c.args.lost.now) (parents_of c.args.fresh.now)
-    edges l c.args.steps.now c.nodes.steps) (take_all c.nodes.next (found_sets kept found) few) c.nodes.invariant.reads
+    let kept = c.table-guide.result.nodes.now in
+    let lost = parents_of c.args.lost.now in
+    let fresh = parents_of c.args.fresh.now in
+    subst (λ (l : List GuideNode). ReadsTouched (sets_of l) lost fresh edges (sets_of (nodes_then l explored.nodes.items))
+    c.args.steps.now c.explore_sets.new.steps) c.table-guide.ensures.nodes
+    (reads-same (sets_of kept) c.in_ok-dirty.dirty lost c.in_ok-dirty.ensures.exact c.in_ok-grown.grown fresh
+    c.in_ok-grown.ensures.exact edges (sets_of (nodes_then kept explored.nodes.items)) c.args.steps.now
+    c.explore_sets.new.steps c.in_ok-explored.ensures.steps)
 
-pub returns-in_err-row-clause-cause : goal.returns-in_err-row-clause-cause
-returns-in_err-row-clause-cause g c =
-    let kept = c.args.self.now.nodes in
+pub returns-in_err-explored-clause-reads : goal.returns-in_err-explored-clause-reads
+returns-in_err-explored-clause-reads g c =
     let names = c.args.names.now in
     let edges = g.A.Adjacent.edges c.args.after.now in
-    let p = err_from_is_err_and c.from_residual-in_err-row.result c.from_residual-in_err-row.ensures.1 in
-    let stopped = subst (λ (l : List (List Oid)). AreStopped c.in_err-row.field-0.0 c.args.limit l
-    (map (λ (named : List ℕ × Oid). named.1 ∷ []) names))
-    (no-sets kept c.in_ok-found.found c.in_ok-found.ensures.none)
-    (subst (λ (l : List (List Oid)). AreStopped c.in_err-row.field-0.0 c.args.limit
-    (found_sets kept c.in_ok-found.found) l)
-    (name-sets kept names c.in_ok-starts.starts.items c.in_ok-starts.ensures.targets) c.in_err-row.ensures.stopped) in
-    rw p.1 (subst (λ (f : GuideFault). GuideCause c.args.limit names edges f) (sym p.2)
-    (names-refused names edges c.in_ok-starts.ensures.table c.in_err-row.field-0.0 c.args.limit stopped))
-
-pub returns-in_err-expand-clause-cause : goal.returns-in_err-expand-clause-cause
-returns-in_err-expand-clause-cause g c =
-    let kept = c.args.self.now.nodes in
-    let names = c.args.names.now in
-    let edges = g.A.Adjacent.edges c.args.after.now in
-    let p = err_from_is_err_and c.from_residual-in_err-expand.result c.from_residual-in_err-expand.ensures.1 in
-    rw p.1 (subst (λ (f : GuideFault). GuideCause c.args.limit names edges f) (sym p.2)
-    (steps-refused names edges c.in_ok-starts.ensures.table c.in_err-expand.field-0.0 c.args.limit
-    (found_nodes kept c.nodes.found) c.nodes.next
-    (sets_of kept) c.in_ok-dirty.dirty c.in_ok-grown.grown c.nodes.steps c.expand.new.steps c.nodes.invariant.searched
-    c.in_err-expand.ensures.halted))
-
-pub returns-in_err-expand-clause-reads : goal.returns-in_err-expand-clause-reads
-returns-in_err-expand-clause-reads g c =
-    let kept = c.args.self.now.nodes in
-    let names = c.args.names.now in
-    let edges = g.A.Adjacent.edges c.args.after.now in
-    let p = err_from_is_err_and c.from_residual-in_err-expand.result c.from_residual-in_err-expand.ensures.1 in
-    let exact = c.in_ok-dirty.ensures.exact in
-    let grew = c.in_ok-grown.ensures.exact in
-    let reads = reads-same (sets_of kept) (parents_of c.args.lost.now) c.in_ok-dirty.dirty
-    (λ oid. ((exact oid).1, (exact oid).0)) (parents_of c.args.fresh.now) c.in_ok-grown.grown
-    (λ oid. ((grew oid).1, (grew oid).0)) edges (take c.nodes.next (found_sets kept c.nodes.found)) c.args.steps.now
-    c.nodes.steps c.nodes.invariant.reads in
-    rw p.1 (λ not_memory. some-same (sets_of kept) c.in_ok-dirty.dirty (parents_of c.args.lost.now)
-    c.in_ok-dirty.ensures.exact c.in_ok-grown.grown (parents_of c.args.fresh.now) c.in_ok-grown.ensures.exact
-    c.args.limit names edges c.args.steps.now c.expand.new.steps
-    (reads-halted c.in_err-expand.field-0.0 c.args.limit (sets_of kept) c.in_ok-dirty.dirty c.in_ok-grown.grown names edges
-    (found_nodes kept c.nodes.found) c.nodes.next c.args.steps.now c.nodes.steps c.expand.new.steps
-    (λ is. not_memory (p.2 ∙ is))
-    c.nodes.invariant.searched c.nodes.invariant.fit reads c.in_err-expand.ensures.halted))
-
-pub returns-in_err-row-clause-reads : goal.returns-in_err-row-clause-reads
-returns-in_err-row-clause-reads g c =
-    let p = err_from_is_err_and c.from_residual-in_err-row.result c.from_residual-in_err-row.ensures.1 in
-    rw p.1 (λ not_memory. reads-nothing (sets_of c.args.self.now.nodes) (parents_of c.args.lost.now)
-    (parents_of c.args.fresh.now) (g.A.Adjacent.edges c.args.after.now)
-    c.args.limit c.args.names.now c.args.steps.now)
-
-pub returns-clause-fits : goal.returns-clause-fits
-returns-clause-fits g c =
-    let kept = c.args.self.now.nodes in
-    let names = c.args.names.now in
-    let edges = g.A.Adjacent.edges c.args.after.now in
-    let found = c.nodes.found in
-    let done : c.nodes.next ≡ length (found_nodes kept found) =
-    omega (
-      arith,
-      c.nodes-test.false,
-      c.len.ensures,
-      found.nodes.ok.0,
-      c.nodes.invariant.passed,
-      nodes-count kept
-          found,
-    ) in
-    let searched = subst (IsSearched names edges (found_nodes kept found)) done c.nodes.invariant.searched in
-    (fit-counted c.args.limit names edges (found_sets kept found)
-    (are-targets names edges (found_nodes kept found) searched)).1 c.nodes.invariant.fit
-
-pub returns-clause-ready : goal.returns-clause-ready
-returns-clause-ready g c = record {
-  keeps = keeps-once c.args.self.now.nodes c.nodes.found c.nodes.invariant.found;
-  apart = c.nodes.invariant.searched.is.apart;
-}
+    let lost = parents_of c.args.lost.now in
+    let fresh = parents_of c.args.fresh.now in
+    let p = err_from_is_err_and c.from_residual-in_err-explored.result c.from_residual-in_err-explored.ensures.1 in
+    rw p.1 (λ not_memory. subst (λ (l : List GuideNode). ReadsSome (sets_of l) lost fresh c.args.limit names edges
+    c.args.steps.now c.explore_sets.new.steps) c.table-guide.ensures.nodes
+    (some-same (sets_of c.table-guide.result.nodes.now) c.in_ok-dirty.dirty lost c.in_ok-dirty.ensures.exact
+    c.in_ok-grown.grown fresh c.in_ok-grown.ensures.exact c.args.limit names edges c.args.steps.now
+    c.explore_sets.new.steps (c.in_err-explored.ensures.reads (λ is. not_memory (p.2 ∙ is)))))
 
 pub of-requires : goal.of-requires
-of-requires g c =
-    let kept = c.args.self.now.nodes in
-    let entries = c.into_items-entries.result.items in
-    let keys = entry-keys (found_nodes kept c.nodes.found) c.args.names.now entries c.nodes.invariant.entries in
-    subst (λ (l : List (List ℕ)). IsStrictlySortedBy bytes_cmp l) (sym keys) c.in_ok-starts.ensures.table
+of-requires g c = c.in_ok-explored.ensures.ascend
 
 pub invariant_of-result : goal.invariant_of-result
 invariant_of-result g c =
-    let kept = c.args.self.now.nodes in
+    let explored = c.in_ok-explored.explored in
+    let is = c.in_ok-explored.ensures in
+    let kept = c.table-guide.result.nodes.now in
     let names = c.args.names.now in
     let edges = g.A.Adjacent.edges c.args.after.now in
-    let found = c.nodes.found in
-    let done : c.nodes.next ≡ length (found_nodes kept found) =
-    omega (
-      arith,
-      c.nodes-test.false,
-      c.len.ensures,
-      found.nodes.ok.0,
-      c.nodes.invariant.passed,
-      nodes-count kept
-          found,
-    ) in
-    let searched = subst (IsSearched names edges (found_nodes kept found)) done c.nodes.invariant.searched in
+    let nodes = nodes_then kept explored.nodes.items in
+    let fit = (fit-counted c.args.limit names edges (sets_of nodes) is.nodes.nodes).0 is.fits in
     record {
-      ascend = planned-ascend kept edges found.nodes.items (has-steps names edges (found_nodes kept found) searched);
+      ascend = planned-ascend kept edges explored.nodes.items is.nodes.steps;
       few = omega (
         arith,
-        c.nodes.invariant.fit.few,
+        fit.few,
         c.ranges.limit.fits,
-        length-map (found_nodes kept found) (λ (n : GuideNode). n.set),
-        nodes-count kept found,
+        length-map nodes (λ (n : GuideNode). n.set),
+        length-map explored.nodes.items (node_then kept),
       );
       empty = c.in_ok-room.ensures.items;
       bare = c.in_ok-by_hash.ensures.items;
-      fits = omega (arith, c.in_ok-room.ensures.exact, c.len-2.ensures, found.nodes.ok.0);
-      hashes_fit = omega (arith, c.in_ok-by_hash.ensures.exact, c.len-3.ensures, found.nodes.ok.0);
+      fits = omega (arith, c.in_ok-room.ensures.exact, c.len.ensures, explored.nodes.ok.0);
+      hashes_fit = omega (arith, c.in_ok-by_hash.ensures.exact, c.len-2.ensures, explored.nodes.ok.0);
     }
-
-pub expand-requires : goal.expand-requires
-expand-requires g c = record {
-  stood = stood-change c.args.self.now c.args.lost.now c.args.fresh.now (g.A.Adjacent.edges c.args.after.now)
-      c.in_ok-dirty.dirty c.in_ok-grown.grown c.requires.stood c.requires.ascend c.in_ok-dirty.ensures
-      c.in_ok-grown.ensures;
-  found = c.nodes.invariant.found;
-  fit = c.nodes.invariant.fit;
-  place = omega (arith, c.nodes-test.true, c.len.ensures, c.nodes.found.nodes.ok.0);
-}

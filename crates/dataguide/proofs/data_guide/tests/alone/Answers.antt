@@ -2,8 +2,9 @@ use Rattle.std.proofs.Common.{◌≡◌, ◌≢◌, ℕ, List, [], ◌∷◌, �
 use Rattle.std.proofs.lemmas.List.Elements.{All-cons, All-nil, All-get_or}
 use Rattle.std.proofs.lemmas.Option.{slice_get_within, get_or_from_slice_get}
 use Rattle.dataguide.specs.Types.{Oid, Node, GuideNode, DeltaNode, Kept, Fresh}
-use Rattle.dataguide.specs.Guides.{sets_of}
-use Rattle.dataguide.specs.Deltas.{PlannedGuide, IsReady, IsOrigin, nodes_then}
+use Rattle.set_explorer.specs.Nodes.{sets_of}
+use Rattle.dataguide.specs.Deltas.{PlannedGuide, IsReady}
+use Rattle.set_explorer.specs.PlannedNodes.{IsOrigin, nodes_then}
 use Rattle.dataguide.proofs.data_guide.tests.alone.Goals as goal
 
 abbrev fresh : List Oid → DeltaNode

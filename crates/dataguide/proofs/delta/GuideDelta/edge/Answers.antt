@@ -4,9 +4,9 @@ use Rattle.std.specs.Prelude.{slice_set}
 use Rattle.std.proofs.lemmas.List.{length-set}
 use Rattle.std.proofs.lemmas.Option.{slice_get-get_or}
 use Rattle.dataguide.specs.Types.{Label, Node, DeltaNode}
-use Rattle.dataguide.specs.Guides.{AscendByLabel}
+use Rattle.set_explorer.specs.Nodes.{AscendByLabel}
 use Rattle.dataguide.specs.Deltas.{PlannedGuide, with_edge}
-use Rattle.dataguide.proofs.FillLaws.{edge-ascends}
+use Rattle.dataguide.proofs.DeltaLaws.{edge-ascends}
 use Rattle.dataguide.proofs.delta.GuideDelta.edge.Goals as goal
 
 pub invariant_of-self-2 : goal.invariant_of-self-2

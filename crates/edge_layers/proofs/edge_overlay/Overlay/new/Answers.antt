@@ -5,6 +5,6 @@ invariant_of-result c = record {
   lists = c.requires.lists;
   lost_ascend = c.requires.lost;
   fresh_ascend = c.requires.fresh;
-  lost_turned = rw c.as_slice.ensures at c.in_ok-lost_in.ensures;
-  fresh_turned = rw c.as_slice-2.ensures at c.in_ok-fresh_in.ensures;
+  lost_chained = rw c.as_slice.ensures at c.in_ok-lost_in.ensures;
+  fresh_chained = rw c.as_slice-2.ensures at c.in_ok-fresh_in.ensures;
 }

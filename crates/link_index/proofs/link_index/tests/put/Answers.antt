@@ -1,8 +1,7 @@
-use Rattle.std.proofs.Common.{List, All, Contains, sym, subst, ◌∙◌}
+use Rattle.std.proofs.Common.{All, Contains, sym, subst, ◌∙◌}
 use Rattle.std.proofs.lemmas.Bool.{true≢false}
 use Rattle.std.proofs.lemmas.List.Elements.{All-nil}
 use Rattle.lore_base.specs.Databases.{AreAscendingEdges}
-use Rattle.link_index.specs.Types.{Edge}
 use Rattle.link_index.proofs.SampleLaws.{none_ascends}
 use Rattle.link_index.proofs.link_index.tests.put.Goals as goal
 

@@ -6,7 +6,7 @@ use Rattle.edge_lists.specs.Views.{edges_of}
 use Rattle.edge_lists.proofs.ViewLaws.{edges_ascend}
 use Rattle.oem_graph.specs.Types.{Edge}
 use Rattle.oem_graph.specs.Plans.{GraphLists}
-use Rattle.oem_graph.proofs.PutLaws.{put-layered}
+use Rattle.graph_changes.proofs.PutLaws.{put-layered}
 use Rattle.edge_layers.proofs.TurnLaws.{leaving_is}
 use Rattle.oem_graph.proofs.graph_then.GraphThenAdjacent.out_edges.Goals as goal
 

@@ -5,8 +5,8 @@ use Rattle.index_traits.proofs.ObjectLaws.{one_value_of}
 use Rattle.lore_base.specs.Databases.{AreAscendingObjects}
 use Rattle.edge_lists.specs.Objects.{object_of}
 use Rattle.oem_graph.specs.Plans.{GraphLists}
-use Rattle.oem_graph.proofs.CommitLaws.{pairs-ascend}
-use Rattle.oem_graph.proofs.LeftLaws.{among, among-back}
+use Rattle.graph_changes.proofs.PairLaws.{pairs-ascend}
+use Rattle.graph_changes.proofs.LeftLaws.{among, among-back}
 use Rattle.oem_graph.proofs.ReadLaws.{given-value, kept-value, value-kept, none_then}
 use Rattle.oem_graph.proofs.graph_then.GraphThenValueOf.value_of.Goals as goal
 

@@ -5,7 +5,7 @@ use Rattle.oem_graph.specs.Types.{Edge}
 use Rattle.oem_graph.specs.Graphs.{RoomyGraph}
 use Rattle.oem_graph.specs.Plans.{PlannedGraph, graph_then}
 use Rattle.oem_graph.proofs.CommitLaws.{leads-inside, room-inside, can-commit, same-length, dropped-is, graph-then, linked-then}
-use Rattle.oem_graph.proofs.RecordLaws.{with_all}
+use Rattle.graph_changes.proofs.RecordLaws.{with_all}
 use Rattle.oem_graph.proofs.linked_graph.Graph.commit.Goals as goal
 
 pub commit_edges-requires-clause-room : goal.commit_edges-requires-clause-room

@@ -1,8 +1,9 @@
 use Rattle.std.proofs.Common.{length, map, ap, ◌∙◌}
 use Rattle.edge_lists.specs.Objects.{object_of}
 use Rattle.oem_graph.specs.Graphs.{RoomyGraph}
-use Rattle.oem_graph.specs.Plans.{PlannedGraph, with_objects}
-use Rattle.oem_graph.specs.inside.Left.{not_dead}
+use Rattle.oem_graph.specs.Plans.{PlannedGraph}
+use Rattle.graph_changes.specs.Puts.{with_objects}
+use Rattle.graph_changes.specs.Left.{not_dead}
 use Rattle.oem_graph.proofs.linked_graph.Graph.objects_then.Goals as goal
 
 pub returns : goal.returns

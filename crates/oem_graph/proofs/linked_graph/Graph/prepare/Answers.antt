@@ -8,7 +8,7 @@ use Rattle.edge_lists.specs.Objects.{AreAscendingObjects}
 use Rattle.oem_graph.specs.Types.{Oid, ObjectRecord}
 use Rattle.oem_graph.specs.Graphs.{RoomyGraph}
 use Rattle.oem_graph.specs.Plans.{PlannedGraph, graph_then}
-use Rattle.oem_graph.specs.inside.Left.{AreAscendingOids}
+use Rattle.graph_changes.specs.Left.{AreAscendingOids}
 use Rattle.oem_graph.specs.inside.Planned.{IsPlan}
 use Rattle.oem_graph.proofs.PlanLaws.{prepared, plan-prepared, delta-is}
 use Rattle.oem_graph.proofs.linked_graph.Graph.prepare.Goals as goal

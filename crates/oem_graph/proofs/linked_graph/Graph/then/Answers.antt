@@ -4,9 +4,10 @@ use Rattle.edge_lists.specs.Objects.{object_of}
 use Rattle.edge_lists.specs.Views.{edges_of}
 use Rattle.oem_graph.specs.Types.{Oid, Edge, Value}
 use Rattle.oem_graph.specs.Graphs.{RoomyGraph}
-use Rattle.oem_graph.specs.Plans.{PlannedGraph, graph_then, put_edges, with_objects}
+use Rattle.oem_graph.specs.Plans.{PlannedGraph, graph_then}
+use Rattle.graph_changes.specs.Puts.{put_edges, with_objects}
 use Rattle.edge_layers.specs.Layers.{staying}
-use Rattle.oem_graph.specs.inside.Left.{not_dead}
+use Rattle.graph_changes.specs.Left.{not_dead}
 use Rattle.oem_graph.proofs.PlanLaws.{read-then}
 use Rattle.oem_graph.proofs.linked_graph.Graph.then.Goals as goal
 

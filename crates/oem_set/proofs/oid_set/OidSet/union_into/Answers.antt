@@ -1,20 +1,10 @@
-use Rattle.std.proofs.Common.{◌≡◌, List, ◌++◌, ◌⊎◌, ◌↔◌, Contains, inl, inr, sym, ap, ◌∙◌, subst}
-use Rattle.std.proofs.lemmas.List.Elements.{Contains-append_cases, Contains-append_left, Contains-append_right}
+use Rattle.std.proofs.Common.{◌≡◌, List, ◌++◌, ◌⊎◌, Contains, sym, ap, ◌∙◌, subst}
 use Rattle.lore_base.specs.TargetSets.{ListsInOrder}
 use Rattle.oem_set.specs.Types.{Oid}
 use Rattle.oem_set.specs.Sets.{IsSet}
+use Rattle.oem_set.proofs.AppendLaws.{both-lists}
 use Rattle.oem_set.proofs.MemberSearch.{same_oid, IsSet-from_less, lists-sorted}
 use Rattle.oem_set.proofs.oid_set.OidSet.union_into.Goals as goal
-
--- two lists, one behind the other
-both-lists : (one other : List Oid) (oid : Oid) → Contains (one ++ other) oid ↔ (Contains one oid ⊎ Contains other oid)
-both-lists one other oid = (
-  λ at. Contains-append_cases one other oid at,
-  λ either. elim either [
-    | inl at ↦ Contains-append_left one other oid at
-    | inr at ↦ Contains-append_right one other oid at
-  ],
-)
 
 pub from_ascending-requires : goal.from_ascending-requires
 from_ascending-requires c = IsSet-from_less c.sort_set.new.self c.sort_set.ensures.ascend

@@ -1,8 +1,0 @@
-use Rattle.std.specs.Prelude.{vec_capacity}
-use Rattle.dataguide.proofs.FillLaws.{IsFilling}
-use Rattle.dataguide.proofs.fill.fill.Given as goal
-
-abbrev pub invariant-nodes : goal.invariant-nodes
-invariant-nodes l = IsFilling l.fn.old.items l.fn.nodes.items l.yielded l.planned-iterator.rest.items l.old.items
-    l.room.items
-    (vec_capacity l.room) l.by_hash.items (vec_capacity l.by_hash)

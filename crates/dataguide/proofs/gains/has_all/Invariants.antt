@@ -1,5 +1,0 @@
-use Rattle.std.proofs.Common.{All, Contains, take}
-use Rattle.dataguide.proofs.gains.has_all.Given as goal
-
-abbrev pub invariant-oids : goal.invariant-oids
-invariant-oids l = All (Contains l.set) (take l.oid-index l.oids)

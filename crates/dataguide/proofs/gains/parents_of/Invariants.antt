@@ -1,6 +1,0 @@
-use Rattle.std.proofs.Common.{◌≡◌, take}
-use Rattle.dataguide.specs.Touched.{parents_of}
-use Rattle.dataguide.proofs.gains.parents_of.Given as goal
-
-abbrev pub invariant-edges : goal.invariant-edges
-invariant-edges l = l.oids ≡ parents_of (take l.edge-index l.fn.edges)

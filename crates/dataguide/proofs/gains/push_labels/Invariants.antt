@@ -1,6 +1,0 @@
-use Rattle.std.proofs.Common.{◌≡◌, ◌++◌, take}
-use Rattle.dataguide.specs.inside.Gains.{labels_in}
-use Rattle.dataguide.proofs.gains.push_labels.Given as goal
-
-abbrev pub invariant-row : goal.invariant-row
-invariant-row g l = l.labels ≡ l.fn.labels ++ labels_in (take l.entry-index l.fn.row)

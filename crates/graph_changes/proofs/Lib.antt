@@ -1,0 +1,12 @@
+pub mod ObjectLaws
+pub mod LeftLaws
+pub mod DeadLaws
+pub mod PairLaws
+pub mod PutLaws
+pub mod GivenLaws
+pub mod EmptyLaws
+pub mod RecordLaws
+pub mod CountLaws
+pub mod DropLaws
+pub mod GoneLaws
+pub mod DeltaLaws

@@ -1,0 +1,4 @@
+pub mod Types
+pub mod Asked
+pub mod Clues
+pub mod inside

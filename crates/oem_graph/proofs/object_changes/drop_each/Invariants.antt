@@ -1,6 +1,0 @@
-use Rattle.std.proofs.Common.{take}
-use Rattle.oem_graph.specs.inside.Given.{AreDropped}
-use Rattle.oem_graph.proofs.object_changes.drop_each.Given as goal
-
-abbrev pub invariant-dead : goal.invariant-dead
-invariant-dead l = AreDropped (take l.oid-index l.dead) l.fn.objects.items l.objects.items

@@ -1,8 +1,0 @@
-use Rattle.std.proofs.Common.{not, rules}
-use Rattle.std.proofs.lemmas.Fn.{filter_same}
-use Rattle.oem_graph.specs.Types.{ObjectRecord}
-use Rattle.oem_graph.specs.inside.Left.{is_among}
-use Rattle.oem_graph.proofs.object_changes.drop_objects.Goals as goal
-
-pub returns-else-moves_few : goal.returns-else-moves_few
-returns-else-moves_few c = filter_same _ (λ (object : ObjectRecord). not (is_among c.args.dead.now object.oid)) _ (λ x b q k. search rules) _ _ c.retain.ensures.filtered

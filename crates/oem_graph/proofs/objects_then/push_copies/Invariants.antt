@@ -1,5 +1,0 @@
-use Rattle.std.proofs.Common.{◌≡◌, ◌++◌, drop}
-use Rattle.oem_graph.proofs.objects_then.push_copies.Given as goal
-
-abbrev pub invariant-objects : goal.invariant-objects
-invariant-objects l = l.copy.items ++ drop l.object-index l.objects ≡ l.fn.copy.items ++ l.fn.objects

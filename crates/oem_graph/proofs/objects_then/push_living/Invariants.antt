@@ -1,6 +1,0 @@
-use Rattle.std.proofs.Common.{◌≡◌, ◌++◌, drop}
-use Rattle.oem_graph.specs.inside.Left.{not_dead}
-use Rattle.oem_graph.proofs.objects_then.push_living.Given as goal
-
-abbrev pub invariant-objects : goal.invariant-objects
-invariant-objects l = l.left ++ not_dead l.fn.dead (drop l.object-index l.fn.objects) ≡ l.fn.left ++ not_dead l.fn.dead l.fn.objects

@@ -1,0 +1,9 @@
+pub mod Types
+pub mod Nodes
+pub mod Touched
+pub mod PlannedNodes
+pub mod HashedNodes
+pub mod Fills
+pub mod Changes
+pub mod GuideCauses
+pub mod inside
