@@ -59,6 +59,7 @@ def join(each):
     load, state = two_sides(each)
     found = joined(each)
     by_key = rows(f"{left_member(key)} | {right_member(place, each)}" for key in range(each) for place in found[key])
+    low = rows(f"{left_member(key)} | {right_member(place, each)}" for key in range(each // 2) for place in found[key])
     places = sorted((place, key) for key in range(each) for place in found[key])
     by_place = rows(f"{right_member(place, each)} | {left_member(key)}" for place, key in places)
     once, text = next((key, found[key][0]) for key in range(each) if len(found[key]) == 1 and found[key][0] % 7 == 0)
@@ -68,6 +69,7 @@ def join(each):
         ("select X, Y from B.y Y, A.x X where Y.ref = X.k;", by_key),
         ("select Y, X from A.x X, B.y Y where X.k = Y.ref and Y.ref = X.k;", by_place),
         ("select X, Y from A.x X, B.y Y where Y.ref = X.k;", by_key),
+        (f"select X, Y from A.x X, B.y Y where X.k = Y.ref and Y.ref < {each // 2};", low),
         (f"select X, Y from A.x X, B.y Y where Y.ref = {once};", to_all)])
 
 
@@ -154,15 +156,95 @@ def ring(each):
     members = [left_member(place) for place in range(each)]
     conds = [("X.next+.k = 5", members), ("exists Y in X.next+ : Y.k = 5", members),
              ("X.next+.k = 5 and not X.k != 7", members[7:8])]
-    return Asked("a condition that takes long walks", load, ok(2 * each + 1, 3 * each, 3),
-                 [(f"select X from A.x X where {cond};", rows(found)) for cond, found in conds])
+    asked = [(f"select X from A.x X where {cond};", rows(found)) for cond, found in conds]
+    keyed = rows(f"&{3 + 2 * place} {place} | {member}" for place, member in enumerate(members))
+    asked.append((f"select X.k, X from A.x X where X.k < {each} and X.next+.k = 5;", keyed))
+    return Asked("a condition that takes long walks", load, ok(2 * each + 1, 3 * each, 3), asked)
+
+
+def key(number):
+    return f"&{3 + 2 * number} {number}"
+
+
+def reference(place, each):
+    """What a member refers to, as it is shown."""
+    kept = key_of(place, each)
+    return f"&{4 + 2 * each + 2 * place} " + (f'"{kept}"' if place % 7 == 0 else f"{kept}")
+
+
+def shown(each):
+    """What is compared is shown too, beside something else of each: from either side, from both, and with a value."""
+    load, state = two_sides(each)
+    found = joined(each)
+    pairs = [(number, place) for number in range(each) for place in found[number]]
+    left = rows(f"{key(number)} | {left_member(number)} | {right_member(place, each)}" for number, place in pairs)
+    right = rows(f"{left_member(number)} | {right_member(place, each)} | {reference(place, each)}" for number, place in pairs)
+    both = rows(f"{key(number)} | {left_member(number)} | {right_member(place, each)} | {reference(place, each)}"
+                for number, place in pairs)
+    low = rows(f"{key(number)} | {left_member(number)} | {right_member(place, each)}" for number, place in pairs if number < each // 2)
+    to_all = rows(f"{key(7)} | {left_member(7)} | {right_member(place, each)}" for place in range(each))
+    return Asked("a join by what is shown", load, state, [
+        ("select X.k, X, Y from A.x X, B.y Y where X.k = Y.ref;", left),
+        ("select X, Y, Y.ref from A.x X, B.y Y where X.k = Y.ref;", right),
+        ("select X.k, X, Y, Y.ref from A.x X, B.y Y where Y.ref = X.k;", both),
+        (f"select X.k, X, Y from A.x X, B.y Y where X.k = Y.ref and Y.ref < {each // 2};", low),
+        ("select X.k, X, Y from A.x X, B.y Y where X.k = 7;", to_all)])
+
+
+def shown_meeting(each):
+    """What is to be one and the same is shown too."""
+    leads = [place * SCATTER % each for place in range(each)]
+    load = braces("A", (f"x &{place} {{ to &{to} }}" for place, to in enumerate(leads)))
+    members = [f"&{2 + place} {{}}" for place in range(each)]
+    found = sorted((to, place) for place, to in enumerate(leads))
+    led = rows(f"{members[to]} | {members[place]} | {members[to]}" for to, place in found)
+    return Asked("a join with what is led to and shown", load, ok(each + 1, 2 * each, 2), [
+        ("select X, Y, Y.to from A.x X, A.x Y where Y.to == X;", led)])
+
+
+def guarded(each):
+    """What is compared is shown, beside another part of the one object that all members belong to: it is walked to once, and not
+    again for each."""
+    members = (f"m {{ v {i} }}" for i in range(each))
+    load = braces("A", [f"g {{ name \"n\", {', '.join(members)} }}"])
+    least = each // 2
+    values = rows(f'&3 "n" | &{5 + 2 * i} {i}' for i in range(least, each))
+    return Asked("a condition on what is shown of one object's members", load, ok(2 * each + 3, 2 * each + 2, 5), [
+        (f"select G.name, G.m.v from A.g G where G.m.v >= {least};", values)])
+
+
+def grouped(each):
+    """What is shown of one object, beside each of its members: it is walked to once, whatever the path, and not again for each."""
+    load = braces("A", [f"g {{ name \"n\", {', '.join(f'm {i}' for i in range(each))} }}"])
+    found = rows(f'&3 "n" | &{4 + i} {i}' for i in range(each))
+    return Asked("one object's members, beside what is shown of it", load, ok(each + 3, each + 2, 4), [
+        (f"select G{path}, M from A.g G, G.m M;", found) for path in (".name", "(.name|.title)")])
+
+
+def parts(each):
+    """What two parts of one object refer to is joined: the one's are not compared with all of the other's, though both are known with it."""
+    members = [*(f"y {{ a {i} }}" for i in range(each)), *(f"c {{ b {each + i} }}" for i in range(each))]
+    return Asked("a join of parts of one object", braces("A", [f"x {{ {', '.join(members)} }}"]), ok(4 * each + 2, 4 * each + 1, 6), [
+        ("select Y, Z from A.x X, X.y Y, X.c Z where Y.a = 7 and Y.a = Z.b;", rows([]))])
+
+
+def sorts(each):
+    """Each order is of one thing, whose sort, that of a tenth of all, it names too: the thing tells most, and the sort is passed over."""
+    sorts, first = 10, 22 + each  # the number of the first order
+    things = [place * SCATTER % each for place in range(each)]
+    load = braces("A", [*(f'sort &{i} {{ name "s{i}" }}' for i in range(sorts)), *(f"x &{sorts + i} {{ c &{i % sorts} }}" for i in range(each)),
+                        *(f'y {{ of &{sorts + thing}, want "s{thing % sorts}" }}' for thing in things)])
+    found = rows(f"&{first + 2 * place} {{}} | &{22 + thing} {{}} | &{2 + 2 * (thing % sorts)} {{}}" for place, thing in enumerate(things))
+    return Asked("a join by what is led to, beside one by what a tenth have", load, ok(3 * each + 21, 5 * each + 20, 6), [
+        ("select Y, X, C from A.y Y, A.x X, X.c C where Y.want = C.name and Y.of == X;", found)])
 
 
 # What makes questions, and how many members are enough to count what they take: so many that an index is asked. Once 1,024 objects
 # stood for a slot, a condition is asked which of them fit; behind 64 rows that met it, 4,096 aren't tested early.
 QUESTIONS = (
     (join, 500), (filtered, 500), (first_of_three, 500), (shared, 1_200), (passing, 5_000), (meeting, 500), (ranked, 500),
-    (common, 4_000), (ring, 1_200),
+    (common, 4_000), (ring, 1_200), (shown, 500), (shown_meeting, 500), (guarded, 2_000),
+    (grouped, 1_000), (parts, 2_000), (sorts, 1_000),
 )
 
 

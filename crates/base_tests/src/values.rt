@@ -21,7 +21,7 @@ fn plain_value(word: &str) -> Value
 }
 
 // The value that a word writes: a text behind `'`, and else a flag or a whole number.
-fn value_of(alloc: Global, word: &str) -> Result<Value, NoMemory>
+pub(crate) fn value_of(alloc: Global, word: &str) -> Result<Value, NoMemory>
     ensures { IfOk result (λ value. value ≢ Complex) }
 {
     match word.strip_prefix('\'') {

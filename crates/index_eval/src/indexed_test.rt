@@ -25,20 +25,20 @@ use std::sync::ledger::Ledger;
 
 /// A bound condition over a graph with indexes of its edges and values, which tell early which
 /// objects fit a slot; or over a graph alone. Contracts see the label texts, the edges, the objects
-/// with their values, and the condition.
+/// with their values, and the condition. Tests of one select share a pace.
 #[derive(Drop)]
-pub struct IndexedTest<'a, G: Adjacent + ValueOf, K: Links, V: Values> {
+pub struct IndexedTest<'a, 'p, G: Adjacent + ValueOf, K: Links, V: Values> {
     test: Test<'a, G, G>,
     graph: &'a G,
     labels: &'a LabelTable,
     links: &'a K,
     values: &'a V,
     clues: Vec<Clue<'a>>,
-    pace: Pace,
+    pace: &'p Pace,
     split: Option<Split<'a, G>>,
 }
 
-impl<'a, G: Adjacent + ValueOf, K: Links, V: Values> Model for IndexedTest<'a, G, K, V> {
+impl<'a, 'p, G: Adjacent + ValueOf, K: Links, V: Values> Model for IndexedTest<'a, 'p, G, K, V> {
     ghost use Rattle.std.specs.Coded.{codes};
     ghost use Rattle.std.specs.Prelude.{option_map, IfSome};
     ghost use Rattle.lorel_bound.specs.contracts.conditions.BoundCond as bound_cond_contract;
@@ -59,9 +59,10 @@ impl<'a, G: Adjacent + ValueOf, K: Links, V: Values> Model for IndexedTest<'a, G
         (option_map bound_cond t.test.cond) split.listed split.others.items) };
 }
 
-impl<'a, G: Adjacent + ValueOf, K: Links, V: Values> IndexedTest<'a, G, K, V> {
+impl<'a, 'p, G: Adjacent + ValueOf, K: Links, V: Values> IndexedTest<'a, 'p, G, K, V> {
     /// The test of this condition over a graph, its table of labels, and the indexes of its links
-    /// and of its values. The rests of the condition's paths have at most 64 leaves together.
+    /// and of its values. The rests of the condition's paths have at most 64 leaves together. Tests
+    /// of one select are handed one pace.
     pub fn new(
         alloc: Global,
         cond: Option<&'a BoundCond>,
@@ -69,7 +70,8 @@ impl<'a, G: Adjacent + ValueOf, K: Links, V: Values> IndexedTest<'a, G, K, V> {
         labels: &'a LabelTable,
         links: &'a K,
         values: &'a V,
-    ) -> Result<IndexedTest<'a, G, K, V>, NoMemory>
+        pace: &'p Pace,
+    ) -> Result<IndexedTest<'a, 'p, G, K, V>, NoMemory>
         requires leaves { rest_leaves (paths_in (option_map bound_cond (option_copied cond)))
             ≤ LEAVES }
         requires indexes { AreIndexes (G.objects graph.now) (G.edges graph.now)
@@ -88,12 +90,46 @@ impl<'a, G: Adjacent + ValueOf, K: Links, V: Values> IndexedTest<'a, G, K, V> {
             links,
             values,
             clues,
-            pace: Pace::new(),
+            pace,
             split: None,
         })
     }
 
-    /// The same, for many rows: of a member of the condition that takes long walks the objects of
+    /// The same for hints: of a member that compares what two paths reach it is told only which
+    /// objects fit, and no row is ruled out by it.
+    pub fn for_hints(
+        alloc: Global,
+        cond: Option<&'a BoundCond>,
+        graph: &'a G,
+        labels: &'a LabelTable,
+        links: &'a K,
+        values: &'a V,
+        pace: &'p Pace,
+    ) -> Result<IndexedTest<'a, 'p, G, K, V>, NoMemory>
+        requires leaves { rest_leaves (paths_in (option_map bound_cond (option_copied cond)))
+            ≤ LEAVES }
+        requires indexes { AreIndexes (G.objects graph.now) (G.edges graph.now)
+            (K.edges links.now) (V.entries values.now) }
+        ensures labels { IfOk result (λ test. test.labels ≡ labels.now) }
+        ensures edges { IfOk result (λ test. test.edges ≡ G.edges graph.now) }
+        ensures objects { IfOk result (λ test. test.objects ≡ G.objects graph.now) }
+        ensures cond { IfOk result (λ test. test.cond ≡ option_copied cond.entry) }
+    {
+        let test = Test::by_values(alloc, cond, graph, graph, labels)?;
+        let clues = clues_in(alloc, cond, labels)?;
+        Ok(IndexedTest {
+            test,
+            graph,
+            labels,
+            links,
+            values,
+            clues,
+            pace,
+            split: None,
+        })
+    }
+
+    /// The same as the first, for many rows: of a member of the condition that takes long walks the objects of
     /// which it holds are listed here, by one walk back from all that it asks for, and each row is
     /// then looked up in place of being tested by that member.
     pub fn listed<L: Ledger>(
@@ -103,8 +139,9 @@ impl<'a, G: Adjacent + ValueOf, K: Links, V: Values> IndexedTest<'a, G, K, V> {
         labels: &'a LabelTable,
         links: &'a K,
         values: &'a V,
+        pace: &'p Pace,
         steps: &mut Steps<L>,
-    ) -> Result<IndexedTest<'a, G, K, V>, NoMemory>
+    ) -> Result<IndexedTest<'a, 'p, G, K, V>, NoMemory>
         requires leaves { rest_leaves (paths_in (option_map bound_cond (option_copied cond)))
             ≤ LEAVES }
         requires indexes { AreIndexes (G.objects graph.now) (G.edges graph.now)
@@ -116,14 +153,13 @@ impl<'a, G: Adjacent + ValueOf, K: Links, V: Values> IndexedTest<'a, G, K, V> {
     {
         let test = Test::ready(alloc, cond, graph, graph, labels)?;
         let clues = clues_in(alloc, cond, labels)?;
-        let pace = Pace::new();
         let readers = Readers {
             graph,
             labels,
             links,
             values,
             most: 0,
-            pace: &pace,
+            pace,
         };
         let split = split_in(alloc, &readers, cond, steps)?;
         Ok(IndexedTest {
@@ -146,7 +182,8 @@ impl<'a, G: Adjacent + ValueOf, K: Links, V: Values> IndexedTest<'a, G, K, V> {
         labels: &'a LabelTable,
         links: &'a K,
         values: &'a V,
-    ) -> Result<IndexedTest<'a, G, K, V>, NoMemory>
+        pace: &'p Pace,
+    ) -> Result<IndexedTest<'a, 'p, G, K, V>, NoMemory>
         requires { rest_leaves (paths_in (option_map bound_cond (option_copied cond))) ≤ LEAVES }
         ensures labels { IfOk result (λ test. test.labels ≡ labels.now) }
         ensures edges { IfOk result (λ test. test.edges ≡ G.edges graph.now) }
@@ -161,13 +198,13 @@ impl<'a, G: Adjacent + ValueOf, K: Links, V: Values> IndexedTest<'a, G, K, V> {
             links,
             values,
             clues: Vec::new(alloc),
-            pace: Pace::new(),
+            pace,
             split: None,
         })
     }
 }
 
-impl<'a, G: Adjacent + ValueOf, K: Links, V: Values> IndexedTest<'a, G, K, V> {
+impl<'a, 'p, G: Adjacent + ValueOf, K: Links, V: Values> IndexedTest<'a, 'p, G, K, V> {
     // The objects that fit the slot by the clues of the condition; None where these don't tell.
     fn fitting_by_clues<L: Ledger>(
         &self,
@@ -189,7 +226,7 @@ impl<'a, G: Adjacent + ValueOf, K: Links, V: Values> IndexedTest<'a, G, K, V> {
             links: self.links,
             values: self.values,
             most: most_ends(known),
-            pace: &self.pace,
+            pace: self.pace,
         };
         match clue_by_value(self.values, clues, known, slot) {
             Some(clue) => objects_by(alloc, &readers, clue, row, steps),
@@ -198,7 +235,7 @@ impl<'a, G: Adjacent + ValueOf, K: Links, V: Values> IndexedTest<'a, G, K, V> {
     }
 }
 
-impl<'a, G: Adjacent + ValueOf, K: Links, V: Values> RowTest for IndexedTest<'a, G, K, V> {
+impl<'a, 'p, G: Adjacent + ValueOf, K: Links, V: Values> RowTest for IndexedTest<'a, 'p, G, K, V> {
     ghost passes = { λ test row.
         HoldsOver test.labels test.edges test.objects row (option_map bound_cond test.cond) };
 

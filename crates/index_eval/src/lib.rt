@@ -10,6 +10,7 @@
 
 pub use indexed_test::IndexedTest;
 pub use listing::may_be_listed;
+pub use pace::Pace;
 
 mod ends;
 mod indexed_test;

@@ -88,7 +88,7 @@ fn some_may_be_listed(members: &[BoundCond]) -> bool {
 
 fn is_long_cond(cond: &BoundCond) -> bool {
     match cond {
-        BoundCond::Compare { left, .. } => is_long_side(left),
+        BoundCond::Compare { left, right, .. } => is_long_asked(left, right),
         BoundCond::Exists { path, body } => is_long(&path.rest) || is_long_inside(body),
         BoundCond::Same { left, right } => some_is_long(&left.rest, &right.rest),
         _ => false,
@@ -97,15 +97,16 @@ fn is_long_cond(cond: &BoundCond) -> bool {
 
 fn is_long_inside(body: &BoundCond) -> bool {
     match body {
-        BoundCond::Compare { left, .. } => is_long_side(left),
+        BoundCond::Compare { left, right, .. } => is_long_asked(left, right),
         _ => false,
     }
 }
 
-fn is_long_side(operand: &BoundOperand) -> bool {
-    match operand {
-        BoundOperand::At(path) => is_long(&path.rest),
-        BoundOperand::Atom(_) => false,
+// Whether a long path is compared with a value.
+fn is_long_asked(left: &BoundOperand, right: &BoundOperand) -> bool {
+    match (left, right) {
+        (BoundOperand::At(path), BoundOperand::Atom(_)) => is_long(&path.rest),
+        _ => false,
     }
 }
 

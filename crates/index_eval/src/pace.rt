@@ -6,17 +6,18 @@ use std::cell::Cell;
 // stand for the slot.
 const MOST_FOR_A_ROW: usize = 64;
 
-/// How many rows a test was asked of, and how many ends it went back from: by these it decides what
-/// to do next. No clause speaks of it, since what is told is so whatever is decided.
+/// How many rows the tests of a select were asked of, and how many ends they went back from: by
+/// these they decide what to do next. No clause speaks of it, since what is told is so whatever is
+/// decided.
 #[derive(Drop)]
-pub(crate) struct Pace {
+pub struct Pace {
     credit: Cell<usize>,
     counts: Cell<bool>,
 }
 
 impl Pace {
-    /// Nothing was done yet.
-    pub(crate) fn new() -> Pace {
+    /// Nothing was done yet. Takes no memory.
+    pub fn new() -> Pace {
         Pace {
             credit: Cell::new(0),
             counts: Cell::new(false),

@@ -119,11 +119,24 @@ module _ (db : Database) (sound : IsRestorable db) where
   pub restored_labels : AreLabels db.labels
   restored_labels = record { distinct = sound.labels_distinct; few = omega (arith, sound.few_labels) }
 
-  -- where the guide fits the database is valid, and a store of it is whole
-  pub restored_stored : (labels : List (List ℕ)) (graph : OemGraph) (kept : Indexes) (guide : GuideGraph) → labels ≡ db.labels
-      → graph ≡ db.graph → AreIndexes graph kept → IsGuided db.graph guide → FitsGuide db.nodes db.graph.names db.graph.edges
-      → IsStored (database_of labels graph db.nodes db.mode) kept guide
-  restored_stored labels graph kept guide labels_are is indexes guided fits =
-      subst (λ (l : List (List ℕ)). IsStored (database_of l graph db.nodes db.mode) kept guide) (sym labels_are)
-      (subst (λ (g : OemGraph). AreIndexes g kept → IsStored (database_of db.labels g db.nodes db.mode) kept guide) (sym is)
-      (λ stand. record { valid = record { restorable = sound; fits = fits }; indexes = stand; guided = guided }) indexes)
+  -- where the guide fits the database is valid, and what is kept of it whole
+  pub restored_stored : (graph : OemGraph) (kept : Indexes) (guide : GuideGraph) → graph ≡ db.graph → AreIndexes graph kept
+      → IsGuided db.graph guide → FitsGuide db.nodes db.graph.names db.graph.edges → IsStored db kept guide
+  restored_stored graph kept guide is indexes guided fits = record {
+    valid = record { restorable = sound; fits = fits };
+    indexes = subst (λ (g : OemGraph). AreIndexes g kept) is indexes;
+    guided = guided;
+  }
+
+-- a database of labels and a graph that are those of another is that one
+module _ (db : Database) (labels : List (List ℕ)) (graph : OemGraph) (labels_are : labels ≡ db.labels) (is : graph ≡ db.graph) where
+  pub same_database : database_of labels graph db.nodes db.mode ≡ db
+  same_database =
+      subst (λ (l : List (List ℕ)). database_of l graph db.nodes db.mode ≡ db) (sym labels_are)
+      (subst (λ (g : OemGraph). database_of db.labels g db.nodes db.mode ≡ db) (sym is) refl)
+
+-- and a store of it is one of that one
+pub stored_as : (db : Database) (labels : List (List ℕ)) (graph : OemGraph) (kept : Indexes) (guide : GuideGraph) → labels ≡ db.labels
+    → graph ≡ db.graph → IsStored db kept guide → IsStored (database_of labels graph db.nodes db.mode) kept guide
+stored_as db labels graph kept guide labels_are is stored =
+    subst (λ (d : Database). IsStored d kept guide) (sym (same_database db labels graph labels_are is)) stored

@@ -44,10 +44,43 @@ pub(crate) fn built_indexes<L: Ledger>(
 {
     let mut links = LinkIndex::new(alloc);
     let mut values = ValueIndex::new(alloc);
-    let plan = first_plan(alloc, &links, &values, graph, edges, steps)?;
-    reserve_indexes(&mut links, &mut values, &plan)?;
-    commit_indexes(&mut links, &mut values, plan);
-    Ok(Indexes { links, values })
+    match fill(alloc, &mut links, &mut values, graph, edges, steps) {
+        Ok(()) => Ok(Indexes { links, values }),
+        Err(error) => {
+            drop(links);
+            drop(values);
+            Err(error)
+        }
+    }
+}
+
+// Makes the indexes of the new graph those of a graph that has these edges.
+fn fill<L: Ledger>(
+    alloc: Global,
+    links: &mut LinkIndex,
+    values: &mut ValueIndex,
+    graph: &Graph,
+    edges: &EdgeBuf,
+    steps: &mut Steps<L>,
+) -> Result<(), NoMemory>
+    requires kept { AreIndexes new_graph (record { links = links.old; values = values.old }) }
+    requires rooted { IsRooted graph.now.graph }
+    requires edges { edges.now ≡ graph.now.graph.edges }
+    requires few { length edges.now ≤ EDGES }
+    ensures { OnOk result
+        (AreIndexes graph.now.graph (record { links = links.new; values = values.new })) }
+{
+    let plan = first_plan(alloc, links, values, graph, edges, steps)?;
+    match reserve_indexes(links, values, &plan) {
+        Ok(()) => {
+            commit_indexes(links, values, plan);
+            Ok(())
+        }
+        Err(error) => {
+            drop(plan);
+            Err(error)
+        }
+    }
 }
 
 // Which entries come where the new graph becomes one with these edges.

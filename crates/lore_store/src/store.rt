@@ -1,5 +1,6 @@
-ghost use Rattle.std.specs.Prelude.{◌≡◌, ◌↔◌, ◌*◌, ◌++◌, IsTrue, IfSome, IfOk, IfErr, OnOk, OnErr};
-ghost use Rattle.lore_base.specs.Databases.{IsValid, new_database};
+ghost use Rattle.std.specs.Prelude.{◌≡◌, ◌↔◌, ◌≤◌, ◌*◌, ◌++◌, length};
+ghost use Rattle.std.specs.Prelude.{IsTrue, IfSome, IfOk, IfErr, OnOk, OnErr};
+ghost use Rattle.lore_base.specs.Databases.{IsRooted, IsValid, new_database};
 ghost use Rattle.lore_base.specs.ChangeSets.{FitsGraph, Fits, IsAfter, IsGraphAfter, IsOverlay};
 ghost use Rattle.lore_base.specs.ChangeSets.{AreDead};
 ghost use Rattle.lore_base.specs.Deltas.{IsDelta};
@@ -21,8 +22,9 @@ ghost use Rattle.lore_store.specs.Faults.{refusal_of, RestoreCause};
 ghost use Rattle.lore_store.specs.Reads.{ReadsWithinWork};
 ghost use Rattle.lore_store.specs.Stores as spec;
 ghost use Rattle.lore_store.specs.Stores.{database_then, LeadsOn, HasRoomFor, IsGuided};
-ghost use Rattle.lore_store.specs.Stores.{IsLimit, order};
-ghost use Rattle.lore_store.specs.Indexes.{AreIndexed};
+ghost use Rattle.lore_store.specs.Stores.{IsLimit, IsStored, database_of, order};
+ghost use Rattle.lore_store.specs.Types.{EDGES as THE_EDGES};
+ghost use Rattle.lore_store.specs.Indexes.{AreIndexed, AreIndexes};
 ghost use Rattle.lore_store.specs.inside.Parts.{plan_with, StaysWithinWork};
 ghost use Rattle.lore_store.specs.inside.Sizes.{SizeCause, SetsCause, sets_order};
 ghost use Rattle.lore_store.specs.inside.Unlinked.{LinkNothing};
@@ -247,8 +249,13 @@ impl Store {
         ensures valid { OnOk result (IsValid (database_from restored.now)) }
         ensures cause { IfErr result (RestoreCause (database_from restored.now)) }
     {
-        *self = Store::restored(alloc, restored, steps)?;
-        Ok(())
+        match Store::restored(alloc, restored, steps) {
+            Ok(store) => {
+                put(self, store);
+                Ok(())
+            }
+            Err(fault) => Err(fault),
+        }
     }
 
     // The store of the restored database.
@@ -262,22 +269,37 @@ impl Store {
         ensures valid { OnOk result (IsValid (database_from restored.now)) }
         ensures cause { IfErr result (RestoreCause (database_from restored.now)) }
     {
-        let limit = restored.nodes;
-        let changes = &restored.changes;
-        let graph = Graph::restored(alloc, changes, restored.next)?;
-        let guide = Guide::build(alloc, &graph, graph.names(), limit, steps)?;
-        let labels = table_of(alloc, &changes.labels)?;
-        let indexes = built_indexes(alloc, &graph, &changes.added, steps)?;
+        let graph = Graph::restored(alloc, &restored.changes, restored.next)?;
+        match restored_parts(alloc, &graph, restored, steps) {
+            Ok(parts) => Ok(Store::of_parts(graph, parts, restored.nodes, restored.mode)),
+            Err(fault) => {
+                drop(graph);
+                Err(fault)
+            }
+        }
+    }
+
+    // The store of these parts.
+    fn of_parts(graph: Graph, parts: StoredParts, limit: u32, mode: Mode) -> Store
+        requires { IsStored (database_of parts.labels graph.graph limit mode) parts.indexes
+            parts.guide }
+        ensures { result.db ≡ database_of parts.labels graph.graph limit mode }
+    {
+        let StoredParts {
+            labels,
+            indexes,
+            guide,
+        } = parts;
         let Indexes { links, values } = indexes;
-        Ok(Store {
+        Store {
             labels,
             graph,
             links,
             values,
             guide,
             limit,
-            mode: restored.mode,
-        })
+            mode,
+        }
     }
 
     // `prepare` over the edges that there are once the changes are made. Large values are let go in
@@ -492,6 +514,74 @@ impl Store {
         }
         Ok(())
     }
+}
+
+// What a store has beside its graph.
+#[derive(Drop)]
+struct StoredParts {
+    labels: LabelTable,
+    indexes: Indexes,
+    guide: Guide,
+}
+
+// What the store of the restored database has beside its graph, which is this one.
+fn restored_parts<L: Ledger>(
+    alloc: Global,
+    graph: &Graph,
+    restored: &Restored,
+    steps: &mut Steps<L>,
+) -> Result<StoredParts, RestoreFault>
+    requires whole { IsWhole restored.now }
+    requires same { graph.now.graph ≡ (database_from restored.now).graph }
+    ensures labels { IfOk result (λ parts. parts.labels ≡ restored.now.changes.labels) }
+    ensures stored { IfOk result (λ parts.
+        IsStored (database_from restored.now) parts.indexes parts.guide) }
+    ensures cause { IfErr result (RestoreCause (database_from restored.now)) }
+{
+    let guide = Guide::build(alloc, graph, graph.names(), restored.nodes, steps)?;
+    match labels_and_indexes(alloc, graph, &restored.changes, steps) {
+        Ok((labels, indexes)) => Ok(StoredParts {
+            labels,
+            indexes,
+            guide,
+        }),
+        Err(error) => {
+            drop(guide);
+            Err(RestoreFault::from(error))
+        }
+    }
+}
+
+// The table of the labels that come, and the indexes of the graph, which has the edges that come.
+fn labels_and_indexes<L: Ledger>(
+    alloc: Global,
+    graph: &Graph,
+    changes: &Changes,
+    steps: &mut Steps<L>,
+) -> Result<(LabelTable, Indexes), NoMemory>
+    requires texts { AreLabels changes.now.labels }
+    requires rooted { IsRooted graph.now.graph }
+    requires edges { changes.now.added ≡ graph.now.graph.edges }
+    requires few { length changes.now.added ≤ THE_EDGES }
+    ensures labels { IfOk result (λ parts. parts.0 ≡ changes.now.labels) }
+    ensures indexes { IfOk result (λ parts. AreIndexes graph.now.graph parts.1) }
+{
+    let labels = table_of(alloc, &changes.labels)?;
+    match built_indexes(alloc, graph, &changes.added, steps) {
+        Ok(indexes) => Ok((labels, indexes)),
+        Err(error) => {
+            drop(labels);
+            Err(error)
+        }
+    }
+}
+
+// Puts a value in place of another, which is let go. That it can be is proved in few words where
+// its type is a parameter.
+fn put<T: Drop>(place: &mut T, value: T)
+    ensures { place.new ≡ value }
+{
+    *place = value;
 }
 
 // Takes the memory that the guide needs for its plan, if there is one.

@@ -5,13 +5,13 @@ use Rattle.std.proofs.lemmas.List.Elements.{All-nil, All-cons, All-head, All-tai
 use Rattle.lore_base.specs.Comparisons.{Compares}
 use Rattle.lore_base.proofs.MemberLaws.{Contains-none, Contains-cases}
 use Rattle.index_traits.specs.PartRows.{AgreeOn, NonePasses}
-use Rattle.lorel_bound.specs.Bound.{BoundPathTree, conds_from}
 use Rattle.lorel_bound.specs.Conditions.{OperandOf, constant, at, CondOf, or, and, not, exists, for_all, compare, same, CondsOf, no_cond, cond, operand_paths, paths_of, paths_of_all}
 use Rattle.lorel_bound.specs.Holding.{Gives, Holds, SomeHolds, AllHold}
 use Rattle.lorel_bound.specs.SlotRows.{BoundStartsAt}
 use Rattle.lorel_eval.specs.Types.{Oid, Value, Op, BoundStart}
 use Rattle.lorel_eval.specs.Types.bound_starts
 use Rattle.lorel_eval.specs.declared.ready_conds.ReadyCond.{ReadyCond}
+use Rattle.lorel_eval.specs.inside.Labelled.{LabelledPath, in_order}
 use Rattle.lorel_eval.specs.inside.Ready.{ready_tree}
 use Rattle.lorel_eval.specs.inside.Subjects.{SlotsOver, ReachedIn, HoldsIn, AllHoldIn}
 use Rattle.lorel_eval.specs.inside.Early.{IsKnown, StartsKnown, ReadsKnown, FailsByKnown, SomeFailsByKnown, with_slots}
@@ -23,12 +23,12 @@ parts_all P (x ∷ xs) ys h =
     let later = parts_all P xs ys (All-tail P x (xs ++ ys) h) in
     (All-cons P x xs (All-head P x (xs ++ ys) h) later.0, later.1)
 
-module _ (R S : List Oid → BoundPathTree → Oid → Type 0) (Has : Oid → Value → Type 0) (Compare : Value → Op → Value → Type 0) where
+module _ (R S : List Oid → LabelledPath → Oid → Type 0) (Has : Oid → Value → Type 0) (Compare : Value → Op → Value → Type 0) where
   -- a path reaches the same by both
-  abbrev Alike : BoundPathTree → Type 0
+  abbrev Alike : LabelledPath → Type 0
   Alike path = (objects : List Oid) (oid : Oid) → R objects path oid ↔ S objects path oid
 
-  gives_alike : (objects : List Oid) (operand : OperandOf BoundPathTree) → All Alike (operand_paths operand) → (value : Value)
+  gives_alike : (objects : List Oid) (operand : OperandOf LabelledPath) → All Alike (operand_paths operand) → (value : Value)
       → Gives R Has Compare objects operand value ↔ Gives S Has Compare objects operand value
   gives_alike objects (constant own) alike value = (λ h. h, λ h. h)
   gives_alike objects (at path) alike value =
@@ -38,7 +38,7 @@ module _ (R S : List Oid → BoundPathTree → Oid → Type 0) (Has : Oid → Va
       )
 
   mutual
-    pub holds_alike : (condition : CondOf BoundPathTree) → All Alike (paths_of condition) → (objects : List Oid)
+    pub holds_alike : (condition : CondOf LabelledPath) → All Alike (paths_of condition) → (objects : List Oid)
         → Holds R Has Compare objects condition ↔ Holds S Has Compare objects condition
     holds_alike (or members) alike objects = some_alike members alike objects
     holds_alike (and members) alike objects = all_alike members alike objects
@@ -70,7 +70,7 @@ module _ (R S : List Oid → BoundPathTree → Oid → Type 0) (Has : Oid → Va
           λ h. (h.0, (first objects h.0).1 h.1, (second objects h.0).1 h.2),
         )
 
-    some_alike : (members : CondsOf BoundPathTree) → All Alike (paths_of_all members) → (objects : List Oid)
+    some_alike : (members : CondsOf LabelledPath) → All Alike (paths_of_all members) → (objects : List Oid)
         → SomeHolds R Has Compare objects members ↔ SomeHolds S Has Compare objects members
     some_alike no_cond alike objects = (λ h. h, λ h. h)
     some_alike (cond first others) alike objects =
@@ -80,7 +80,7 @@ module _ (R S : List Oid → BoundPathTree → Oid → Type 0) (Has : Oid → Va
           λ h. elim h [ inl own ↦ inl (here.1 own) | inr later ↦ inr (there.1 later) ],
         )
 
-    all_alike : (members : CondsOf BoundPathTree) → All Alike (paths_of_all members) → (objects : List Oid)
+    all_alike : (members : CondsOf LabelledPath) → All Alike (paths_of_all members) → (objects : List Oid)
         → AllHold R Has Compare objects members ↔ AllHold S Has Compare objects members
     all_alike no_cond alike objects = (λ h. h, λ h. h)
     all_alike (cond first others) alike objects =
@@ -97,7 +97,7 @@ starts_alike known a b objects (bound_starts.Named own) oid agree is = (λ h. h,
 starts_alike known a b objects (bound_starts.Slot slot) oid agree is = (λ h. sym (agree slot is) ∙ h, λ h. agree slot is ∙ h)
 starts_alike known a b objects (bound_starts.Quantified depth) oid agree is = (λ h. h, λ h. h)
 
-reached_alike : (over : SlotsOver) (known : List Bool) (slots : List Oid) (path : BoundPathTree) → AgreeOn known over.slots slots → StartsKnown known path
+reached_alike : (over : SlotsOver) (known : List Bool) (slots : List Oid) (path : LabelledPath) → AgreeOn known over.slots slots → StartsKnown known path
     → (objects : List Oid) (oid : Oid) → ReachedIn over objects path oid ↔ ReachedIn (with_slots over slots) objects path oid
 reached_alike over known slots path agree is objects oid = (
   λ h. (h.0, (starts_alike known over.slots slots objects path.start h.0 agree is).0 h.1, h.2),
@@ -105,7 +105,7 @@ reached_alike over known slots path agree is objects oid = (
 )
 
 -- where it fails of a row, it fails by what is known
-pub fails_by_known : (over : SlotsOver) (known : List Bool) (condition : CondOf BoundPathTree) → ReadsKnown known condition
+pub fails_by_known : (over : SlotsOver) (known : List Bool) (condition : CondOf LabelledPath) → ReadsKnown known condition
     → (HoldsIn over [] condition → ⊥) → FailsByKnown over known condition
 fails_by_known over known condition reads fails slots agree holds =
     let alike : All (Alike (ReachedIn over) (ReachedIn (with_slots over slots)) (λ oid value. Contains over.objects (oid, value)) Compares) (paths_of condition) =
@@ -114,23 +114,23 @@ fails_by_known over known condition reads fails slots agree holds =
 
 -- where a member fails, all don't hold
 all_fail : (over : SlotsOver) (known : List Bool) (members : List ReadyCond) → SomeFailsByKnown over known members
-    → (slots : List Oid) → AgreeOn known over.slots slots → AllHoldIn (with_slots over slots) [] (conds_from (map ready_tree members)) → ⊥
+    → (slots : List Oid) → AgreeOn known over.slots slots → AllHoldIn (with_slots over slots) [] (in_order (map ready_tree members)) → ⊥
 all_fail over known [] some slots agree all = Contains-none some.0 some.1
 all_fail over known (first ∷ others) some slots agree all = elim (Contains-cases first others some.0 some.1) [
   | inl here ↦ some.2 slots agree (subst (λ (m : ReadyCond). HoldsIn (with_slots over slots) [] (ready_tree m)) here all.0)
   | inr behind ↦ all_fail over known others (some.0, behind, some.2) slots agree all.1
 ]
 
-and_fails : (over : SlotsOver) (known : List Bool) (members : List ReadyCond) (trees : List (CondOf BoundPathTree)) (condition : CondOf BoundPathTree)
-    → map ready_tree members ≡ trees → condition ≡ and (conds_from trees) → SomeFailsByKnown over known members → FailsByKnown over known condition
+and_fails : (over : SlotsOver) (known : List Bool) (members : List ReadyCond) (trees : List (CondOf LabelledPath)) (condition : CondOf LabelledPath)
+    → map ready_tree members ≡ trees → condition ≡ and (in_order trees) → SomeFailsByKnown over known members → FailsByKnown over known condition
 and_fails over known members trees condition are is some slots agree holds =
     all_fail over known members some slots agree
-    (subst (λ (l : List (CondOf BoundPathTree)). AllHoldIn (with_slots over slots) [] (conds_from l)) (sym are)
+    (subst (λ (l : List (CondOf LabelledPath)). AllHoldIn (with_slots over slots) [] (in_order l)) (sym are)
     (subst (HoldsIn (with_slots over slots) []) is holds))
 
 -- and so where some of the members is told to fail
-pub and_told : {E : Type 0} (over : SlotsOver) (known : List Bool) (members : List ReadyCond) (trees : List (CondOf BoundPathTree))
-    (condition : CondOf BoundPathTree) (result : Result Bool E) → map ready_tree members ≡ trees → condition ≡ and (conds_from trees)
+pub and_told : {E : Type 0} (over : SlotsOver) (known : List Bool) (members : List ReadyCond) (trees : List (CondOf LabelledPath))
+    (condition : CondOf LabelledPath) (result : Result Bool E) → map ready_tree members ≡ trees → condition ≡ and (in_order trees)
     → IfOk result (λ answer. IsTrue answer → SomeFailsByKnown over known members) → IfOk result (λ answer. IsTrue answer → FailsByKnown over known condition)
 and_told over known members trees condition (Ok answer) are is tells = λ yes. and_fails over known members trees condition are is (tells yes)
 and_told over known members trees condition (Err error) are is tells = tt

@@ -3,12 +3,12 @@ use Rattle.std.proofs.Common.{◌≡◌, ℕ, ◌+◌, ◌<◌, Bool, List, [], 
 use Rattle.std.specs.List.{All}
 use Rattle.std.proofs.lemmas.List.{drop_more}
 use Rattle.std.proofs.lemmas.List.Elements.{All-nil, All-cons, All-append}
-use Rattle.lorel_bound.specs.Bound.{BoundPathTree, conds_from}
 use Rattle.lorel_bound.specs.Conditions.{operand_paths, paths_of, paths_of_all}
 use Rattle.lorel_eval.specs.Types.{Op}
 use Rattle.lorel_eval.specs.declared.ready_conds.ReadyPath.{ReadyPath}
 use Rattle.lorel_eval.specs.declared.ready_conds.ReadyOperand.{ReadyOperand}
 use Rattle.lorel_eval.specs.declared.ready_conds.ReadyCond.{ReadyCond, Exists, ForAll, Compare, Same}
+use Rattle.lorel_eval.specs.inside.Labelled.{in_order}
 use Rattle.lorel_eval.specs.inside.Ready.{ready_path, ready_operand, ready_tree}
 use Rattle.lorel_eval.specs.inside.Early.{IsKnown, StartsKnown, ReadsKnown}
 use Rattle.lorel_eval.proofs.ReadyLaws.{exists_ready, for_all_ready, compare_ready, same_ready}
@@ -41,9 +41,9 @@ same_known known cond left right is first second =
 
 -- a member more that reads known slots alone
 pub members_known : (known : List Bool) (members : List ReadyCond) (i : ℕ) (member : ReadyCond) → i < length members → member ≡ get_or members i member
-    → ReadsKnown known (ready_tree member) → All (StartsKnown known) (paths_of_all (conds_from (map ready_tree (drop (i + 1) members))))
-    → All (StartsKnown known) (paths_of_all (conds_from (map ready_tree (drop i members))))
+    → ReadsKnown known (ready_tree member) → All (StartsKnown known) (paths_of_all (in_order (map ready_tree (drop (i + 1) members))))
+    → All (StartsKnown known) (paths_of_all (in_order (map ready_tree (drop i members))))
 members_known known members i member within at own rest =
-    subst (λ (l : List ReadyCond). All (StartsKnown known) (paths_of_all (conds_from (map ready_tree l))))
+    subst (λ (l : List ReadyCond). All (StartsKnown known) (paths_of_all (in_order (map ready_tree l))))
     (sym (drop_more members i member within ∙ ap (λ (m : ReadyCond). m ∷ drop (i + 1) members) (sym at)))
-    (All-append (StartsKnown known) (paths_of (ready_tree member)) (paths_of_all (conds_from (map ready_tree (drop (i + 1) members)))) own rest)
+    (All-append (StartsKnown known) (paths_of (ready_tree member)) (paths_of_all (in_order (map ready_tree (drop (i + 1) members)))) own rest)

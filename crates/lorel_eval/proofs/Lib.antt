@@ -1,9 +1,12 @@
 pub mod MeetingLaws
+pub mod RouteLaws
+pub mod LabelledLaws
 pub mod SubjectLaws
 pub mod ScanLaws
 pub mod SideLaws
 pub mod ReachedLaws
 pub mod ReadyLaws
+pub mod MakingLaws
 pub mod TestLaws
 pub mod EarlyLaws
 pub mod KnownLaws

@@ -1,9 +1,9 @@
 -- The values of objects, one object at a time.
 use Rattle.std.proofs.Common.{◌≡◌, ◌↔◌, List, Contains, Some, Bool, IsTrue, subst}
 use Rattle.lore_base.specs.TargetSets.{ListsInOrder}
-use Rattle.lorel_bound.specs.Bound.{BoundPathTree}
 use Rattle.lorel_bound.specs.Conditions.{at}
 use Rattle.lorel_eval.specs.Types.{Oid, Value}
+use Rattle.lorel_eval.specs.inside.Labelled.{LabelledPath}
 use Rattle.lorel_eval.specs.inside.Subjects.{SlotsOver, ReachedIn, GivesIn}
 use Rattle.lorel_eval.specs.inside.Sides.{HasSuch}
 
@@ -19,7 +19,7 @@ own_tells objects Passes oid own answer has only tells = (
 )
 
 -- the objects that a path reaches give the values that it gives
-pub objects_give : (over : SlotsOver) (objects : List Oid) (path : BoundPathTree) (oids : List Oid) (value : Value) → ListsInOrder (ReachedIn over objects path) oids
+pub objects_give : (over : SlotsOver) (objects : List Oid) (path : LabelledPath) (oids : List Oid) (value : Value) → ListsInOrder (ReachedIn over objects path) oids
     → ((oid : Oid) × Contains oids oid × Contains over.objects (oid, value)) ↔ GivesIn over objects (at path) value
 objects_give over objects path oids value lists = (
   λ h. (h.0, (lists.exact h.0).0 h.1, h.2),

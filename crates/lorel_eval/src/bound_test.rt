@@ -10,6 +10,7 @@ use crate::conditions::cond_holds;
 use crate::early::fails_early;
 use crate::making_ready::ready_cond;
 use crate::ready_conds::ReadyCond;
+use crate::ready_routes::Kept;
 use crate::subject::Subject;
 use index_traits::{Adjacent, Row, RowTest, ValueOf};
 use lore_base::limits::RANGES;
@@ -17,6 +18,7 @@ use lore_base::{NoMemory, Oid, Steps};
 use lorel_bound::BoundCond;
 use oem_labels::LabelTable;
 use std::alloc::Global;
+use std::cell::Cell;
 use std::marker::Model;
 use std::sync::ledger::Ledger;
 
@@ -31,6 +33,10 @@ pub struct Test<'a, A: Adjacent, G: ValueOf> {
     graph: &'a A,
     values: &'a G,
     labels: &'a LabelTable,
+    // The lists of the walk before.
+    kept: Cell<Kept>,
+    // Members that compare what two paths reach tell nothing early.
+    by_values: bool,
 }
 
 impl<'a, A: Adjacent, G: ValueOf> Model for Test<'a, A, G> {
@@ -42,6 +48,7 @@ impl<'a, A: Adjacent, G: ValueOf> Model for Test<'a, A, G> {
     ghost use Rattle.lorel_bound.specs.Conditions.{paths_in};
     ghost use Rattle.lorel_eval.specs.Types.{LEAVES};
     ghost use Rattle.lorel_eval.specs.Tests.{CondOver, rest_leaves};
+    ghost use Rattle.lorel_eval.specs.inside.Labelled.{labelled};
     ghost use Rattle.lorel_eval.specs.inside.Ready.{ready_tree};
 
     ghost Value = { CondOver };
@@ -58,7 +65,8 @@ impl<'a, A: Adjacent, G: ValueOf> Model for Test<'a, A, G> {
     ghost invariant = { λ test.
         let cond = option_map bound_cond (option_copied test.cond) in
         (rest_leaves (paths_in cond) ≤ LEAVES)
-        × IfSome test.ready (λ ready. Some (ready_tree ready) ≡ cond) };
+        × IfSome test.ready (λ ready.
+        Some (ready_tree ready) ≡ option_map (labelled test.labels.now) cond) };
 }
 
 impl<'a, A: Adjacent, G: ValueOf> Test<'a, A, G> {
@@ -82,6 +90,8 @@ impl<'a, A: Adjacent, G: ValueOf> Test<'a, A, G> {
             graph,
             values,
             labels,
+            kept: Cell::new(Kept::Nothing),
+            by_values: false,
         }
     }
 
@@ -100,8 +110,42 @@ impl<'a, A: Adjacent, G: ValueOf> Test<'a, A, G> {
         ensures objects { IfOk result (λ test. test.objects ≡ G.objects values.now) }
         ensures cond { IfOk result (λ test. test.cond ≡ option_copied cond.entry) }
     {
+        Test::made(alloc, cond, graph, values, labels, false)
+    }
+
+    /// The same, where no row is ruled out by a member that compares what two paths reach.
+    pub fn by_values(
+        alloc: Global,
+        cond: Option<&'a BoundCond>,
+        graph: &'a A,
+        values: &'a G,
+        labels: &'a LabelTable,
+    ) -> Result<Test<'a, A, G>, NoMemory>
+        requires { rest_leaves (paths_in (option_map bound_cond (option_copied cond))) ≤ LEAVES }
+        ensures labels { IfOk result (λ test. test.labels ≡ labels.now) }
+        ensures edges { IfOk result (λ test. test.edges ≡ A.edges graph.now) }
+        ensures objects { IfOk result (λ test. test.objects ≡ G.objects values.now) }
+        ensures cond { IfOk result (λ test. test.cond ≡ option_copied cond.entry) }
+    {
+        Test::made(alloc, cond, graph, values, labels, true)
+    }
+
+    fn made(
+        alloc: Global,
+        cond: Option<&'a BoundCond>,
+        graph: &'a A,
+        values: &'a G,
+        labels: &'a LabelTable,
+        by_values: bool,
+    ) -> Result<Test<'a, A, G>, NoMemory>
+        requires { rest_leaves (paths_in (option_map bound_cond (option_copied cond))) ≤ LEAVES }
+        ensures labels { IfOk result (λ test. test.labels ≡ labels.now) }
+        ensures edges { IfOk result (λ test. test.edges ≡ A.edges graph.now) }
+        ensures objects { IfOk result (λ test. test.objects ≡ G.objects values.now) }
+        ensures cond { IfOk result (λ test. test.cond ≡ option_copied cond.entry) }
+    {
         let ready = match cond {
-            Some(cond) => Some(ready_cond(alloc, cond)?),
+            Some(cond) => Some(ready_cond(alloc, labels, cond)?),
             None => None,
         };
         Ok(Test {
@@ -110,6 +154,8 @@ impl<'a, A: Adjacent, G: ValueOf> Test<'a, A, G> {
             graph,
             values,
             labels,
+            kept: Cell::new(Kept::Nothing),
+            by_values,
         })
     }
 }
@@ -130,14 +176,14 @@ impl<'a, A: Adjacent, G: ValueOf> RowTest for Test<'a, A, G> {
         let subject = Subject {
             graph: self.graph,
             values: self.values,
-            labels: self.labels,
             row,
+            kept: &self.kept,
         };
         let around: [Oid; 0] = [];
         match &self.ready {
             Some(ready) => cond_holds(alloc, &subject, &around, ready, steps),
             None => {
-                let ready = ready_cond(alloc, cond)?;
+                let ready = ready_cond(alloc, self.labels, cond)?;
                 cond_holds(alloc, &subject, &around, &ready, steps)
             }
         }
@@ -157,9 +203,9 @@ impl<'a, A: Adjacent, G: ValueOf> RowTest for Test<'a, A, G> {
         let subject = Subject {
             graph: self.graph,
             values: self.values,
-            labels: self.labels,
             row,
+            kept: &self.kept,
         };
-        fails_early(alloc, &subject, ready, known, steps)
+        fails_early(alloc, &subject, ready, known, self.by_values, steps)
     }
 }

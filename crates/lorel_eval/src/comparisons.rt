@@ -7,10 +7,11 @@ ghost use Rattle.lorel_eval.specs.inside.Subjects.{GivesIn, HoldsIn};
 ghost use Rattle.lorel_eval.specs.inside.Sides.{HasSuch, SomeHasSuch};
 ghost use Rattle.lorel_eval.specs.inside.Sides.{SideGives, ComparesWith, SidesCompare};
 
+use crate::found::Found;
 use crate::ready_conds::ReadyOperand;
 use crate::subject::Subject;
 use index_traits::{Adjacent, ValueOf};
-use lore_base::{NoMemory, Oid, OidBuf, Op, Steps, Value};
+use lore_base::{NoMemory, Oid, Op, Steps, Value};
 use oem_atom::compare;
 use std::alloc::Global;
 use std::sync::ledger::Ledger;
@@ -37,7 +38,7 @@ pub(crate) fn comparison_holds<A: Adjacent, G: ValueOf, L: Ledger>(
 #[derive(Drop)]
 enum Side<'a> {
     Own(&'a Value),
-    Objects(OidBuf),
+    Objects(Found),
 }
 
 // The side that an operand stands for.

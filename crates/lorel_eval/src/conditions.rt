@@ -1,6 +1,6 @@
 ghost use Rattle.std.specs.Prelude.{◌≡◌, ◌↔◌, [], ◌∷◌, ◌++◌, Contains, IsTrue, IfOk};
-ghost use Rattle.lorel_bound.specs.Bound.{conds_from};
 ghost use Rattle.lorel_eval.specs.Types.{Oid as TheOid};
+ghost use Rattle.lorel_eval.specs.inside.Labelled.{in_order};
 ghost use Rattle.lorel_eval.specs.inside.Ready.{ready_tree, ready_trees};
 ghost use Rattle.lorel_eval.specs.inside.Subjects.{HoldsIn, SomeHoldsIn, AllHoldIn};
 
@@ -57,7 +57,7 @@ fn some_holds<A: Adjacent, G: ValueOf, L: Ledger>(
     steps: &mut Steps<L>,
 ) -> Result<bool, NoMemory>
     ensures { IfOk result (λ answer.
-        IsTrue answer ↔ SomeHoldsIn subject.now objects.now (conds_from (ready_trees members.now))) }
+        IsTrue answer ↔ SomeHoldsIn subject.now objects.now (in_order (ready_trees members.now))) }
 {
     'members: for member in members.as_slice() {
         if cond_holds(alloc, subject, objects, member, steps)? {
@@ -77,7 +77,7 @@ fn all_hold<A: Adjacent, G: ValueOf, L: Ledger>(
     steps: &mut Steps<L>,
 ) -> Result<bool, NoMemory>
     ensures { IfOk result (λ answer.
-        IsTrue answer ↔ AllHoldIn subject.now objects.now (conds_from (ready_trees members.now))) }
+        IsTrue answer ↔ AllHoldIn subject.now objects.now (in_order (ready_trees members.now))) }
 {
     'members: for member in members.as_slice() {
         if !cond_holds(alloc, subject, objects, member, steps)? {

@@ -1,6 +1,6 @@
 ghost use Rattle.std.specs.Prelude.{◌≡◌, All, IsTrue, true, Some, slice_get};
-ghost use Rattle.lorel_bound.specs.Bound.{conds_from};
 ghost use Rattle.lorel_bound.specs.Conditions.{operand_paths, paths_of_all};
+ghost use Rattle.lorel_eval.specs.inside.Labelled.{in_order};
 ghost use Rattle.lorel_eval.specs.inside.Ready.{ready_operand, ready_tree, ready_trees};
 ghost use Rattle.lorel_eval.specs.inside.Early.{IsKnown, StartsKnown, ReadsKnown};
 
@@ -51,7 +51,7 @@ fn reads_known(cond: &ReadyCond, known: &[bool; RANGES]) -> bool
 #[cycle(known)]
 fn all_read_known(members: &ReadyCondList, known: &[bool; RANGES]) -> bool
     ensures { IsTrue result
-        → All (StartsKnown known.now) (paths_of_all (conds_from (ready_trees members.now))) }
+        → All (StartsKnown known.now) (paths_of_all (in_order (ready_trees members.now))) }
 {
     'members: for member in members.as_slice() {
         if !reads_known(member, known) {

@@ -1,16 +1,16 @@
 ghost use Rattle.std.specs.Prelude.{◌≡◌, [], ◌∷◌, ◌++◌, map, OnOk};
 ghost use Rattle.lorel_eval.specs.inside.Ready.{ready_tree, ready_trees, ready_conds_of};
 
+use crate::ready_routes::ReadyRoute;
 use lore_base::{NoMemory, Op, Value};
 use lorel_bound::BoundStart;
-use product_walk::Route;
 use std::alloc::Global;
 
 // A path of a condition, made ready for walks from many objects.
 #[derive(Drop)]
 pub(crate) struct ReadyPath<'a> {
     pub(crate) start: BoundStart,
-    pub(crate) route: Route<'a>,
+    pub(crate) route: ReadyRoute<'a>,
 }
 
 // What a comparison compares: a value, or each object that the path reaches.

@@ -1,15 +1,18 @@
 ghost use Rattle.std.specs.Prelude.{◌≡◌, slice_get, IfOk};
 ghost use Rattle.lore_base.specs.TargetSets.{ListsInOrder};
+ghost use Rattle.lorel_eval.specs.inside.FoundObjects.{oids_of};
 ghost use Rattle.lorel_eval.specs.inside.Ready.{ready_path};
 ghost use Rattle.lorel_eval.specs.inside.Subjects.{start_of, ReachedIn};
 
+use crate::found::Found;
 use crate::ready_conds::ReadyPath;
+use crate::ready_routes::Kept;
 use index_traits::{Adjacent, Row, ValueOf};
 use lore_base::limits::RANGES;
-use lore_base::{NoMemory, Oid, OidBuf, Steps};
+use lore_base::{NoMemory, Oid, Steps};
 use lorel_bound::BoundStart;
-use oem_labels::LabelTable;
 use std::alloc::Global;
+use std::cell::Cell;
 use std::marker::Model;
 use std::sync::ledger::Ledger;
 
@@ -20,8 +23,9 @@ const LAST_SLOT: u32 = RANGES as u32 - 1;
 pub(crate) struct Subject<'a, A: Adjacent, G: ValueOf> {
     pub(crate) graph: &'a A,
     pub(crate) values: &'a G,
-    pub(crate) labels: &'a LabelTable,
     pub(crate) row: &'a Row,
+    // The lists of the walk before.
+    pub(crate) kept: &'a Cell<Kept>,
 }
 
 impl<'a, A: Adjacent, G: ValueOf> Model for Subject<'a, A, G> {
@@ -30,7 +34,6 @@ impl<'a, A: Adjacent, G: ValueOf> Model for Subject<'a, A, G> {
     ghost Value = { SlotsOver };
 
     ghost view = { λ subject. record {
-      labels = subject.labels.now;
       edges = A.edges subject.graph.now;
       objects = G.objects subject.values.now;
       slots = subject.row.now;
@@ -65,15 +68,13 @@ impl<'a, A: Adjacent, G: ValueOf> Subject<'a, A, G> {
         objects: &[Oid],
         path: &ReadyPath,
         steps: &mut Steps<L>,
-    ) -> Result<OidBuf, NoMemory>
-        ensures { IfOk result (ListsInOrder (ReachedIn self.now objects.now (ready_path path.now))) }
+    ) -> Result<Found, NoMemory>
+        ensures { IfOk result (λ found. ListsInOrder
+            (ReachedIn self.now objects.now (ready_path path.now)) (oids_of found)) }
     {
-        let mut found = OidBuf::new(alloc);
         let Some(start) = self.start_of(objects, path.start) else {
-            return Ok(found);
+            return Ok(Found::none(alloc));
         };
-        path.route
-            .reach(alloc, self.graph, self.labels, start, &mut found, steps)?;
-        Ok(found)
+        path.route.reach(alloc, self.graph, start, self.kept, steps)
     }
 }

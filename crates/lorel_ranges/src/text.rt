@@ -3,7 +3,7 @@ ghost use Rattle.std.specs.Prelude.{IfOk, OnOk, MatchOption};
 ghost use Rattle.lorel_trees.specs.Trees.{from_tree, item_tree, select_tree, cond_tree, conds_from};
 ghost use Rattle.lorel_trees.specs.Trees.{operand_tree, ItemTree};
 ghost use Rattle.lorel_ranges.specs.Types.{NESTING};
-ghost use Rattle.lorel_ranges.specs.Places.{Scope, Place as ThePlace};
+ghost use Rattle.lorel_ranges.specs.Places.{Scope, Place as ThePlace, path_variables};
 ghost use Rattle.lorel_ranges.specs.Conditions.{cond_in, conds_in, operand_in};
 ghost use Rattle.lorel_bound.specs.Conditions.{paths_in, paths_of, paths_of_all, operand_paths};
 ghost use Rattle.lorel_ranges.specs.Texts.{item_variables, cond_variables, quantifier_variables};
@@ -72,17 +72,85 @@ pub fn text_of<'q>(alloc: Global, query: &'q Select) -> Result<Text<'q>, NoMemor
 {
     let ranges = query.tail.ranges.as_slice();
     let mut variables = Variables::new(alloc);
-    let from = from_text(alloc, ranges, &mut variables)?;
+    match from_text(alloc, ranges, &mut variables) {
+        Ok(from) => text_behind(alloc, query, from, variables),
+        Err(error) => {
+            drop(variables);
+            Err(error)
+        }
+    }
+}
+
+// The text of a select whose from items were read. What is let go at each way out of a function is
+// proved there, at length, so that what is read one after another stands in functions of its own.
+fn text_behind<'q>(
+    alloc: Global,
+    query: &'q Select,
+    from: TextPart<'q>,
+    variables: Variables<'q>,
+) -> Result<Text<'q>, NoMemory>
+    requires shallow { IsShallow (select_tree query.now) }
+    requires from { ReadsFrom (select_tree query.now).tail.ranges from variables }
+    ensures { IfOk result (IsTextOf (select_tree query.now)) }
+{
+    match items_and_condition(alloc, query, &variables) {
+        Ok((items, condition)) => Ok(Text {
+            from,
+            variables,
+            items,
+            item_count: query.items.len(),
+            condition,
+        }),
+        Err(error) => {
+            drop(from);
+            drop(variables);
+            Err(error)
+        }
+    }
+}
+
+// The items and the condition of a select, where these variables are in scope.
+fn items_and_condition<'q>(
+    alloc: Global,
+    query: &'q Select,
+    variables: &Variables<'q>,
+) -> Result<(ShownItems<'q>, TextPart<'q>), NoMemory>
+    requires shallow { IsShallow (select_tree query.now) }
+    ensures items { let tree = select_tree query.now in IfOk result (λ found. (scope : Scope)
+        → IsScope (names_of variables.now) scope
+        → ReadsItems scope (path_variables tree.tail.ranges) tree.items found.0) }
+    ensures places { let tree = select_tree query.now in IfOk result (λ found. (scope : Scope)
+        → IsScope (names_of variables.now) scope → place_trees found.1.places.items
+        ≡ paths_in (option_map (cond_in scope 0) tree.tail.cond)) }
+    ensures ranged { let tree = select_tree query.now in IfOk result (λ found.
+        texts found.1.ranged.items ≡ cond_variables tree.tail.cond) }
+{
+    let items = items_of(alloc, query, variables)?;
+    match condition_text(alloc, &query.tail.cond, variables) {
+        Ok(condition) => Ok((items, condition)),
+        Err(error) => {
+            drop(items);
+            Err(error)
+        }
+    }
+}
+
+// The items of a select, where these variables are in scope and the path variables of its from items
+// are known.
+fn items_of<'q>(
+    alloc: Global,
+    query: &'q Select,
+    variables: &Variables<'q>,
+) -> Result<ShownItems<'q>, NoMemory>
+    ensures { let tree = select_tree query.now in IfOk result (λ items. (scope : Scope)
+        → IsScope (names_of variables.now) scope
+        → ReadsItems scope (path_variables tree.tail.ranges) tree.items items) }
+{
+    let ranges = query.tail.ranges.as_slice();
     let words = PathVariables::from_items(alloc, ranges)?;
-    let items = item_text(alloc, query.items.as_slice(), &variables, &words)?;
-    let condition = condition_text(alloc, &query.tail.cond, &variables)?;
-    Ok(Text {
-        from,
-        variables,
-        items,
-        item_count: query.items.len(),
-        condition,
-    })
+    let items = item_text(alloc, query.items.as_slice(), variables, &words);
+    drop(words);
+    items
 }
 
 // The paths of from items. The variable of each is in scope behind it.

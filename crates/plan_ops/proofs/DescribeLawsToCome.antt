@@ -1,5 +1,5 @@
 -- Before the first step the rows that are sought are to come of one partial row, in which no slot is filled.
-use Rattle.std.proofs.Common.{◌≡◌, ◌≢◌, ◌↔◌, ℕ, suc, List, [], ◌∷◌, take, drop, Option, AllPairs, All, Contains, subst, refl, sym, inl, inr, ◌∙◌}
+use Rattle.std.proofs.Common.{◌≡◌, ◌≢◌, ◌↔◌, ◌⊎◌, ℕ, suc, List, [], ◌∷◌, take, drop, Option, AllPairs, All, Contains, subst, refl, sym, inl, inr, ◌∙◌}
 use Rattle.std.proofs.lemmas.List.Elements.{All-head, All-tail}
 use Rattle.lore_base.specs.Paths.{PathTree}
 use Rattle.lore_base.proofs.MemberLaws.{Contains-none, Contains-head, Contains-cases}
@@ -45,6 +45,16 @@ walked_top labels bound plan_kinds.Guided steps are walks =
 walked_top labels bound plan_kinds.Bottom steps are walks =
     are.are ∙ walked_bottom are.named are.probe are.label bound.ranges (tests bound.cond) (subst (All WalksOrTests) are.are walks)
 
+-- what the steps finish is sought where they walk forward alone, or where all that they are taken over agrees
+pub finished_sought : (over : StepsOver) (steps : List StepTree) (objects : List (Oid × Value)) (bound : BoundTree) (kind : PlanKind)
+    → AllPairs (λ a b. a ≢ b) over.labels → IsRunnable bound → AreStepsOf over.labels bound kind steps
+    → All WalksOrTests steps ⊎ Agrees over objects bound
+    → (row : List Oid) → Finishes over steps (in_eight []) row → IsSought over.labels over.edges over.passes bound row
+finished_sought over steps objects bound kind apart runnable planned (inl walks) row finishes =
+    (top_describes over bound steps runnable (walked_top over.labels bound kind steps planned walks) row).0 finishes
+finished_sought over steps objects bound kind apart runnable planned (inr agrees) row finishes =
+    (plan_describes over objects bound kind steps apart runnable planned agrees row).0 finishes
+
 -- one partial row with no slot filled, before the first step
 pub record AreFirst (partials : List PartialRow) : Type 0 where
   pub first : PartialRow
@@ -54,7 +64,7 @@ pub record AreFirst (partials : List PartialRow) : Type 0 where
 
 module _ (over : StepsOver) (steps : List StepTree) (partials : List PartialRow) (are : AreFirst partials) where
   -- what is to come of it is what the steps finish
-  finished_to_come : (row : List Oid) → IsToCome over steps partials row ↔ Finishes over steps (in_eight []) row
+  pub finished_to_come : (row : List Oid) → IsToCome over steps partials row ↔ Finishes over steps (in_eight []) row
   finished_to_come row = (
     λ comes.
         let there : Contains (are.first ∷ []) comes.0 = subst (λ (p : List PartialRow). Contains p comes.0) are.alone comes.1 in

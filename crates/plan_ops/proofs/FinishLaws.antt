@@ -13,7 +13,7 @@ use Rattle.plan_ops.specs.Types.starts
 use Rattle.plan_ops.specs.Steps.{StepsOver, Meets, IsLeft, Finishes, slot_of}
 use Rattle.plan_ops.specs.inside.Orders.{IsSettled, IsThere, Stands}
 use Rattle.plan_ops.specs.inside.Offers.{IsVariant, AreOffered, AreKept}
-use Rattle.plan_ops.proofs.SlotLaws.{same_places, filled_there, filled_elsewhere}
+use Rattle.row_hints.proofs.SlotLaws.{same_places, filled_there, filled_elsewhere}
 
 -- two rows are the same in the slots that none of these steps fills
 abbrev pub AgreeWhereLeft : List StepTree → List Oid → List Oid → Type 0
@@ -103,6 +103,17 @@ between step later row other (Some own) fills stands long eight same =
       ];
     }
 
+-- whoever finishes what the step makes of a row finishes the row
+pub finishes_through : (over : StepsOver) (step : StepTree) (later : List StepTree) (row middle whole : List Oid) → Stands step later
+    → IsVariant step row middle → Meets over step middle → Finishes over later middle whole → Finishes over (step ∷ later) row whole
+finishes_through over step later row middle whole stands variant met h = record {
+  eight = h.eight;
+  same = λ slot left.
+      h.same slot (All-tail (λ s. slot_of s ≢ Some slot) step later left) ∙ variant.same slot (All-head (λ s. slot_of s ≢ Some slot) step later left);
+  met = All-cons (λ s. Meets over s whole) step later
+      (meets_alike over step later middle whole stands (λ slot left. sym (h.same slot left)) met) h.met;
+}
+
 -- whoever finishes the row finishes one of those that are kept of what the step makes of it
 pub finished_by_kept : (over : StepsOver) (step : StepTree) (later : List StepTree) (row : List Oid) (rows : List (List Oid)) → AreKept over step later row rows
     → Stands step later → length row ≡ RANGES → (other : List Oid)
@@ -110,13 +121,7 @@ pub finished_by_kept : (over : StepsOver) (step : StepTree) (later : List StepTr
 finished_by_kept over step later row rows kept stands long other = (
   λ h.
       let made = kept.sound h.0 h.1 in
-      record {
-        eight = h.2.eight;
-        same = λ slot left.
-            h.2.same slot (All-tail (λ s. slot_of s ≢ Some slot) step later left) ∙ made.0.same slot (All-head (λ s. slot_of s ≢ Some slot) step later left);
-        met = All-cons (λ s. Meets over s other) step later
-            (meets_alike over step later h.0 other stands (λ slot left. sym (h.2.same slot left)) made.1) h.2.met;
-      },
+      finishes_through over step later row h.0 other stands made.0 made.1 h.2,
   λ finishes.
       let found = between step later row other (slot_of step) refl stands long finishes.eight finishes.same in
       let met = meets_alike over step later other found.middle stands found.agree (All-head (λ s. Meets over s other) step later finishes.met) in

@@ -1,123 +1,31 @@
--- Objects that are left by lists of those that fit, and offers of objects that a step keeps.
-use Rattle.std.proofs.Common.{◌≡◌, ℕ, ◌+◌, ◌<◌, ◌≤◌, ◌↔◌, ◌⊎◌, inl, inr, Bool, true, false, IsTrue, true≢false, List, [], ◌∷◌, ◌++◌, length, get_or, take, drop, append-nil, Some, refl, sym, ap, ◌∙◌, subst, arith}
-use Rattle.std.specs.List.{AllPairs, Contains, slice_get}
-use Rattle.std.proofs.lemmas.Option.{same_Some}
-use Rattle.std.proofs.lemmas.List.{take_all, get_or_default}
-use Rattle.std.proofs.lemmas.List.Quantifiers.{all_pairs_push}
-use Rattle.std.proofs.lemmas.List.Elements.{Contains-append_left, Contains-push, Contains-push_cases, Contains-get_or}
-use Rattle.lore_base.specs.TargetSets.{ListsInOrder}
-use Rattle.lore_base.proofs.MemberLaws.{Contains-none}
-use Rattle.lore_base.proofs.ToldLaws.{told_oid, told_member}
-use Rattle.list_laws.proofs.PartLaws.{take_more_read}
-use Rattle.index_traits.specs.PartRows.{Completes, AreAllThatFit}
-use Rattle.lorel_bound.specs.Plans.{StepTree}
-use Rattle.plan_ops.specs.Types.{Oid}
+-- What is told of rows by two tests, and offers of objects that a step lends, or of one that may be left out.
+use Rattle.std.proofs.Common.{◌≡◌, ℕ, ◌+◌, ◌<◌, Bool, true, false, IsTrue, List, [], ◌∷◌, length, take, drop, map, Option, None, Some, IfSome, refl, sym, ap, subst, arith}
+use Rattle.std.specs.List.{Contains, slice_get}
+use Rattle.std.proofs.lemmas.List.{length-map}
+use Rattle.index_traits.specs.PartRows.{NonePasses, AreAllThatFit}
+use Rattle.lorel_bound.specs.Plans.{StepTree, filter}
+use Rattle.row_hints.specs.Thinned.{FailsWith}
+use Rattle.row_hints.proofs.ThinLaws.{thinned_one}
+use Rattle.plan_ops.specs.Types.{Oid, RANGES}
 use Rattle.plan_ops.specs.Steps.{StepsOver}
+use Rattle.plan_ops.specs.Rows.{AreQuiet}
 use Rattle.plan_ops.specs.declared.offers.Offer.{Offer}
-use Rattle.plan_ops.specs.inside.Offers.{Fill, Lend, Keep, Reject, IsOffer, IsKeptOffer, IsOfferAt, IsKeptAt, HasObjects}
-use Rattle.plan_ops.specs.inside.Narrowing.{FailsWith, AreThinned, item_if}
-use Rattle.plan_ops.specs.inside.Told.{AreAllInSlot}
-use Rattle.plan_ops.proofs.NarrowLaws.{before_there}
+use Rattle.plan_ops.specs.inside.Offers.{Fill, Lend, One, Keep, Reject, IsOffer, IsKeptOffer, IsOfferAt, IsKeptAt, HasObjects, one_unless}
+use Rattle.plan_ops.specs.inside.Orders.{AreInOrder}
+use Rattle.plan_ops.specs.inside.Narrowing.{IsFilledBy, AreHintedAt}
+use Rattle.plan_ops.specs.inside.Ready.{ReadyStep, ready_tree}
+use Rattle.plan_ops.proofs.NarrowLaws.{narrowed_at, not_quiet, offer_kept}
 
--- Objects that are left out of what is left, and for other causes.
+-- what is told of rows that pass the one is told of those that pass both, and so of the other
+pub none_of_both : (Passes Others : List Oid → Type 0) (known : List Bool) (row : List Oid) → NonePasses Passes known row
+    → NonePasses (λ own. Passes own × Others own) known row
+none_of_both Passes Others known row none other completes =
+    none other (record { eight = completes.eight; agree = completes.agree; passes = completes.passes.0 })
 
-pub thinned_not : (Fails : Oid → Type 0) (oids : List Oid) → AllPairs (λ (a b : Oid). a.0 < b.0) oids → AreThinned Fails oids oids
-thinned_not Fails oids ascend = record { ascending = ascend; sound = λ oid at. at; complete = λ oid at. inl at }
-
-pub thinned_then : (Fails : Oid → Type 0) (first second third : List Oid) → AreThinned Fails first second → AreThinned Fails second third
-    → AreThinned Fails first third
-thinned_then Fails first second third one two = record {
-  ascending = two.ascending;
-  sound = λ oid at. one.sound oid (two.sound oid at);
-  complete = λ oid at. elim (one.complete oid at) [
-    | inl there ↦ two.complete oid there
-    | inr fails ↦ inr fails
-  ];
-}
-
--- Lists that have an object in common.
-
-pub common_none : (xs list kept : List Oid) → kept ≡ [] → ListsInOrder (λ oid. Contains (take 0 xs) oid × Contains list oid) kept
-common_none xs list kept empty = record {
-  ascending = subst (AllPairs (λ (a b : Oid). a.0 < b.0)) (sym empty) (λ i j d less within. absurd (omega (arith, within)));
-  exact = λ oid. (
-    λ at. absurd (Contains-none oid (subst (λ (l : List Oid). Contains l oid) empty at)),
-    λ both. absurd (Contains-none oid both.0),
-  );
-}
-
-common_by : (xs list kept new : List Oid) (i : ℕ) (x : Oid) (there : Bool) → AllPairs (λ (a b : Oid). a.0 < b.0) xs → i < length xs
-    → x ≡ get_or xs i x → new ≡ kept ++ item_if there x → IsTrue there ↔ Contains list x
-    → ListsInOrder (λ oid. Contains (take i xs) oid × Contains list oid) kept → ListsInOrder (λ oid. Contains (take (i + 1) xs) oid × Contains list oid) new
-common_by xs list kept new i x true ascend within at is tells so_far =
-    subst (ListsInOrder (λ (oid : Oid). Contains (take (i + 1) xs) oid × Contains list oid)) (sym is)
-    (subst (λ (l : List Oid). ListsInOrder (λ (oid : Oid). Contains l oid × Contains list oid) (kept ++ x ∷ [])) (sym (take_more_read xs i x within at)) (record {
-      ascending = all_pairs_push (λ (a b : Oid). a.0 < b.0) kept x so_far.ascending (λ k d less.
-          before_there xs i x (get_or kept k d) ascend within at ((so_far.exact (get_or kept k d)).0 (Contains-get_or kept k d less)).0);
-      exact = λ oid. (
-        λ h. elim (Contains-push_cases kept x oid h) [
-          | inl early ↦ (let got = (so_far.exact oid).0 early in (Contains-append_left (take i xs) (x ∷ []) oid got.0, got.1))
-          | inr same ↦ subst (λ (z : Oid). Contains (take i xs ++ x ∷ []) z × Contains list z) same (Contains-push (take i xs) x, tells.0 refl)
-        ],
-        λ h. elim (Contains-push_cases (take i xs) x oid h.0) [
-          | inl early ↦ Contains-append_left kept (x ∷ []) oid ((so_far.exact oid).1 (early, h.1))
-          | inr same ↦ subst (Contains (kept ++ x ∷ [])) same (Contains-push kept x)
-        ],
-      );
-    }))
-common_by xs list kept new i x false ascend within at is tells so_far =
-    subst (ListsInOrder (λ (oid : Oid). Contains (take (i + 1) xs) oid × Contains list oid)) (sym (is ∙ append-nil kept))
-    (subst (λ (l : List Oid). ListsInOrder (λ (oid : Oid). Contains l oid × Contains list oid) kept) (sym (take_more_read xs i x within at)) (record {
-      ascending = so_far.ascending;
-      exact = λ oid. (
-        λ h. (let got = (so_far.exact oid).0 h in (Contains-append_left (take i xs) (x ∷ []) oid got.0, got.1)),
-        λ h. elim (Contains-push_cases (take i xs) x oid h.0) [
-          | inl early ↦ (so_far.exact oid).1 (early, h.1)
-          | inr same ↦ absurd (true≢false (sym (tells.1 (subst (Contains list) (sym same) h.1))))
-        ],
-      );
-    }))
-
-pub common_at : (xs list kept new : List Oid) (i : ℕ) (d : Oid) (there : Bool) → AllPairs (λ (a b : Oid). a.0 < b.0) xs → i < length xs
-    → new ≡ kept ++ item_if there (get_or xs i d) → IsTrue there ↔ Contains list (get_or xs i d)
-    → ListsInOrder (λ oid. Contains (take i xs) oid × Contains list oid) kept → ListsInOrder (λ oid. Contains (take (i + 1) xs) oid × Contains list oid) new
-common_at xs list kept new i d there ascend within is tells so_far =
-    common_by xs list kept new i (get_or xs i d) there ascend within (get_or_default xs i d (get_or xs i d) within) is tells so_far
-
-pub common_all : (xs list kept : List Oid) (i : ℕ) → length xs ≤ i → ListsInOrder (λ oid. Contains (take i xs) oid × Contains list oid) kept
-    → ListsInOrder (λ oid. Contains xs oid × Contains list oid) kept
-common_all xs list kept i past so_far =
-    subst (λ (l : List Oid). ListsInOrder (λ (oid : Oid). Contains l oid × Contains list oid) kept) (take_all i xs past) so_far
-
-pub common_turned : (a b kept : List Oid) → ListsInOrder (λ oid. Contains b oid × Contains a oid) kept → ListsInOrder (λ oid. Contains a oid × Contains b oid) kept
-common_turned a b kept lists = record {
-  ascending = lists.ascending;
-  exact = λ oid. ((λ at. let got = (lists.exact oid).0 at in (got.1, got.0)), (λ both. (lists.exact oid).1 (both.1, both.0)));
-}
-
--- where each row that passes has one of these in the slot, others fail
-fit_thins : (Passes : List Oid → Type 0) (known : List Bool) (slot : ℕ) (row oids fit few : List Oid)
-    → ((other : List Oid) → Completes Passes known row other → (oid : Oid) × (slice_get other slot ≡ Some oid) × Contains fit oid)
-    → ListsInOrder (λ oid. Contains oids oid × Contains fit oid) few → AreThinned (FailsWith Passes known slot row) oids few
-fit_thins Passes known slot row oids fit few all both = record {
-  ascending = both.ascending;
-  sound = λ oid at. ((both.exact oid).0 at).0;
-  complete = λ oid at. elim (told_member told_oid fit oid) [
-    | inl there ↦ inl ((both.exact oid).1 (at, there))
-    | inr missing ↦ inr (λ other completes is.
-        (let got = all other completes in
-        missing (subst (Contains fit) (same_Some got.0 oid (sym got.1 ∙ is)) got.2)))
-  ];
-}
-
-pub fitting_thins : (Passes : List Oid → Type 0) (known : List Bool) (slot : ℕ) (row oids fit few : List Oid) → AreAllThatFit Passes known slot row fit
-    → ListsInOrder (λ oid. Contains oids oid × Contains fit oid) few → AreThinned (FailsWith Passes known slot row) oids few
-fitting_thins Passes known slot row oids fit few fits both = fit_thins Passes known slot row oids fit few fits.all both
-
-pub told_thins : (Passes : List Oid → Type 0) (known : List Bool) (slot : ℕ) (row oids fit few : List Oid) → AreAllInSlot Passes slot fit
-    → ListsInOrder (λ oid. Contains oids oid × Contains fit oid) few → AreThinned (FailsWith Passes known slot row) oids few
-told_thins Passes known slot row oids fit few told both =
-    fit_thins Passes known slot row oids fit few (λ other completes. told.all other completes.eight completes.passes) both
+pub none_of_other : (Passes Others : List Oid → Type 0) (known : List Bool) (row : List Oid) → NonePasses Others known row
+    → NonePasses (λ own. Passes own × Others own) known row
+none_of_other Passes Others known row none other completes =
+    none other (record { eight = completes.eight; agree = completes.agree; passes = completes.passes.1 })
 
 -- objects that the step keeps are offered like others
 pub lent_offer : (over : StepsOver) (steps : List StepTree) (at slot : ℕ) (row oids : List Oid) (offer : Offer) → HasObjects offer slot oids
@@ -128,6 +36,11 @@ lent_offer over steps at slot row oids (Lend own objects) has offers step later 
     let made = offers step later cut in
     let filled : IsOffer over step row (Fill own objects.now) = record { fills = made.fills; ordered = made.ordered; own = made.own; rows = made.rows } in
     subst (λ (n : ℕ). IsOffer over step row (Fill n oids)) has.0 (subst (λ (l : List Oid). IsOffer over step row (Fill own l)) has.1 filled)
+lent_offer over steps at slot row oids (One own oid) has offers step later cut =
+    let made = offers step later cut in
+    let filled : IsOffer over step row (Fill own (oid ∷ [])) =
+    record { fills = made.fills; ordered = λ i j d less within. absurd (omega (arith, less, within)); own = made.own; rows = made.rows } in
+    subst (λ (n : ℕ). IsOffer over step row (Fill n oids)) has.0 (subst (λ (l : List Oid). IsOffer over step row (Fill own l)) (sym has.1) filled)
 lent_offer over steps at slot row oids Keep has offers step later cut = absurd has
 lent_offer over steps at slot row oids Reject has offers step later cut = absurd has
 
@@ -141,5 +54,33 @@ kept_lent over steps at slot row oids (Lend own objects) has kept step later cut
     subst (λ (n : ℕ). IsKeptOffer over step later row (Fill n objects.now)) (sym has.0)
     (subst (λ (l : List Oid). IsKeptOffer over step later row (Fill slot l)) (sym has.1) (kept step later cut)) in
     record { fills = made.fills; rows = made.rows }
+kept_lent over steps at slot row oids (One own oid) has kept step later cut =
+    let made : IsKeptOffer over step later row (Fill own (oid ∷ [])) =
+    subst (λ (n : ℕ). IsKeptOffer over step later row (Fill n (oid ∷ []))) (sym has.0)
+    (subst (λ (l : List Oid). IsKeptOffer over step later row (Fill slot l)) has.1 (kept step later cut)) in
+    record { fills = made.fills; rows = made.rows }
 kept_lent over steps at slot row oids Keep has kept step later cut = absurd has
 kept_lent over steps at slot row oids Reject has kept step later cut = absurd has
+
+-- an offer of one object: it may fail
+pub one_narrowed : (over : StepsOver) (Hints : List Oid → Type 0) (steps : List StepTree) (at slot : ℕ) (row : List Oid) (oid : Oid) (known : List Bool) (out : Bool)
+    → AreInOrder steps → length row ≡ RANGES → Contains (drop (at + 1) steps) filter
+    → ((own : ℕ) → slice_get known own ≡ Some true → IsFilledBy (take at steps) own)
+    → IsOfferAt over steps at row (One slot oid) → AreHintedAt over Hints steps at row → (IsTrue out → FailsWith Hints known slot row oid)
+    → IsKeptAt over steps at row (one_unless out slot oid)
+one_narrowed over Hints steps at slot row oid known false order long tests marked offers hinted fails step later cut =
+    offer_kept over steps at row (One slot oid) offers step later cut
+one_narrowed over Hints steps at slot row oid known true order long tests marked offers hinted fails step later cut =
+    let kept = narrowed_at over Hints steps at slot row (oid ∷ []) [] known order long tests marked
+    (lent_offer over steps at slot row (oid ∷ []) (One slot oid) (refl, refl) offers) hinted
+    (thinned_one (FailsWith Hints known slot row) oid (fails refl)) step later cut in
+    record { fills = tt; rows = kept.rows }
+
+-- where it may be left out, the steps from this one on read an edge
+pub one_not_quiet : (over : StepsOver) (ready : List ReadyStep) (at slot : ℕ) (row : List Oid) (oid : Oid) → at < length ready
+    → Contains (drop (at + 1) (map ready_tree ready)) filter → IsOfferAt over (map ready_tree ready) at row (One slot oid)
+    → AreQuiet over (drop at (map ready_tree ready)) → ⊥
+one_not_quiet over ready at slot row oid within tests offers quiet =
+    let steps = map ready_tree ready in
+    not_quiet over steps at slot row (oid ∷ []) (subst (λ (n : ℕ). at < n) (sym (length-map ready ready_tree)) within)
+    (λ none. omega (arith, ap length none)) tests (lent_offer over steps at slot row (oid ∷ []) (One slot oid) (refl, refl) offers) quiet

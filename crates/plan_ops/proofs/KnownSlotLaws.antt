@@ -1,8 +1,6 @@
 -- Slots that are known: those that steps fill.
-use Rattle.std.proofs.Common.{◌≡◌, ℕ, zero, suc, ◌+◌, ◌<◌, ◌⊎◌, inl, inr, Bool, true, false, List, [], ◌∷◌, ◌++◌, length, get_or, take, map, set, replicate, Option, Some, sym, ap, ◌∙◌, subst}
-use Rattle.std.specs.List.{Contains, slice_get}
-use Rattle.std.proofs.lemmas.Bool.{cases_eq, false≢true}
-use Rattle.std.proofs.lemmas.Option.{none-some, same_Some}
+use Rattle.std.proofs.Common.{◌≡◌, ℕ, ◌+◌, ◌<◌, ◌⊎◌, inl, inr, List, [], ◌∷◌, ◌++◌, length, get_or, take, map, Option, Some, sym, ap, ◌∙◌, subst}
+use Rattle.std.specs.List.{Contains}
 use Rattle.std.proofs.lemmas.List.{take-map}
 use Rattle.std.proofs.lemmas.List.Elements.{Contains-append_left, Contains-push}
 use Rattle.list_laws.proofs.PartLaws.{map_more_read}
@@ -10,21 +8,6 @@ use Rattle.lorel_bound.specs.Plans.{StepTree}
 use Rattle.plan_ops.specs.Steps.{slot_of}
 use Rattle.plan_ops.specs.inside.Ready.{ReadyStep, ready_tree}
 use Rattle.plan_ops.specs.inside.Narrowing.{IsFilledBy}
-use Rattle.plan_ops.proofs.SlotLaws.{filled_elsewhere}
-
--- no slot is marked to begin with
-pub none_known : (n own : ℕ) → slice_get (replicate n false) own ≡ Some true → ⊥
-none_known zero own mark = none-some true mark
-none_known (suc n) zero mark = false≢true (same_Some false true mark)
-none_known (suc n) (suc own) mark = none_known n own mark
-
--- a slot that is marked was marked before, or is the one
-pub marked_in : (known : List Bool) (place own : ℕ) → slice_get (set known place true) own ≡ Some true
-    → (slice_get known own ≡ Some true) ⊎ (Some place ≡ Some own)
-marked_in known place own mark = elim (cases_eq own place) [
-  | inl here ↦ inr (ap Some (sym here))
-  | inr elsewhere ↦ inl (sym (filled_elsewhere known place own true elsewhere) ∙ mark)
-]
 
 one_more : (ready : List ReadyStep) (place : ℕ) (step : ReadyStep) → place < length ready → step ≡ get_or ready place step
     → take (place + 1) (map ready_tree ready) ≡ take place (map ready_tree ready) ++ ready_tree step ∷ []

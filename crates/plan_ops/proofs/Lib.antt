@@ -4,13 +4,12 @@ pub mod DescribeLawsRows
 pub mod DescribeLawsToCome
 pub mod FinishLaws
 pub mod FitLaws
+pub mod KeptLaws
 pub mod KnownSlotLaws
 pub mod NarrowLaws
 pub mod OfferLaws
 pub mod OrderLaws
 pub mod OrderLawsRanges
 pub mod ReadyLaws
-pub mod SlotLaws
 pub mod StackLaws
-pub mod ToldLaws
 pub mod TurnLaws

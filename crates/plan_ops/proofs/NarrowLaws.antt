@@ -1,139 +1,26 @@
 -- Objects that are left out of what a step offers, and rows that are hopeless for it.
-use Rattle.std.proofs.Common.{◌≡◌, ◌≢◌, ℕ, zero, suc, ◌+◌, ◌-◌, ◌<◌, ◌≤◌, ◌⊎◌, inl, inr, Bool, true, false, IsTrue, IfOk, List, [], ◌∷◌, ◌++◌, length, get_or, take, drop, map, set, append-nil, Some, Result, Ok, Err, refl, sym, ap, ◌∙◌, subst, arith}
-use Rattle.std.specs.List.{All, AllPairs, Contains, slice_get}
-use Rattle.std.proofs.lemmas.Bool.{cases_eq}
-use Rattle.std.proofs.lemmas.Option.{none-some, same_Some, slice_get-get_or}
-use Rattle.std.proofs.lemmas.List.{drop-drop, take_all, get_or-take, get_or_default, length-take}
-use Rattle.std.proofs.lemmas.List.Quantifiers.{all_pairs_push}
-use Rattle.std.proofs.lemmas.List.Elements.{All-head, All-tail, All-contains, All-drop, Contains-append_left, Contains-push, Contains-push_cases, Contains-get_or}
-use Rattle.lore_base.proofs.MemberLaws.{Contains-none, Contains-head, Contains-cases, Contains-tail}
+use Rattle.std.proofs.Common.{◌≡◌, ◌≢◌, ℕ, zero, suc, ◌+◌, ◌-◌, ◌<◌, ◌≤◌, inl, inr, Bool, true, List, [], ◌∷◌, length, get_or, take, drop, map, set, Some, refl, sym, ap, ◌∙◌, subst, arith}
+use Rattle.std.specs.List.{Contains, slice_get}
+use Rattle.std.proofs.lemmas.Option.{none-some, slice_get-get_or}
+use Rattle.std.proofs.lemmas.List.{drop-drop}
+use Rattle.std.proofs.lemmas.List.Elements.{All-head, All-tail, All-contains, All-drop}
+use Rattle.lore_base.proofs.MemberLaws.{Contains-none, Contains-head, Contains-cases}
 use Rattle.list_laws.proofs.MemberLaws.{Contains-map, Contains-from_map}
-use Rattle.list_laws.proofs.PartLaws.{take_more_read}
 use Rattle.list_laws.proofs.PlaceLaws.{Contains-from_place}
-use Rattle.index_traits.specs.PartRows.{Completes, NonePasses}
 use Rattle.lorel_bound.specs.Plans.{StepTree, filter}
+use Rattle.row_hints.specs.Thinned.{FailsWith, AreThinned}
+use Rattle.row_hints.proofs.SlotLaws.{filled_there, filled_elsewhere}
 use Rattle.plan_ops.specs.Types.{Oid, RANGES}
 use Rattle.plan_ops.specs.Steps.{StepsOver, Meets, Finishes, IsLeft, slot_of}
 use Rattle.plan_ops.specs.Rows.{AreQuiet, IsGuided}
 use Rattle.plan_ops.specs.declared.offers.Offer.{Offer}
-use Rattle.plan_ops.specs.inside.Offers.{Fill, IsHopeless, IsOffer, IsKeptOffer, IsOfferAt, IsKeptAt, offered}
+use Rattle.plan_ops.specs.inside.Offers.{Fill, IsVariant, IsHopeless, IsOffer, IsKeptOffer, IsOfferAt, IsKeptAt, offered}
 use Rattle.plan_ops.specs.inside.Orders.{IsSettled, Stands, AreInOrder}
-use Rattle.plan_ops.specs.inside.Narrowing.{IsFilledBy, FailsWith, AreThinned, item_unless}
-use Rattle.plan_ops.proofs.SlotLaws.{filled_there, filled_elsewhere}
-use Rattle.plan_ops.proofs.FinishLaws.{settles, all_kept}
-use Rattle.plan_ops.proofs.OfferLaws.{apart_filled}
+use Rattle.plan_ops.specs.inside.Narrowing.{IsFilledBy, AreHintedAt}
 use Rattle.plan_ops.specs.inside.Ready.{ReadyStep, ready_tree}
+use Rattle.plan_ops.proofs.FinishLaws.{settles, finishes_through, all_kept}
+use Rattle.plan_ops.proofs.OfferLaws.{apart_filled}
 use Rattle.plan_ops.proofs.TurnLaws.{drop_at, ordered_at, nothing_meets, step_at}
-
--- Going over a list of objects.
-
--- each that stood before is less
-pub before_there : (xs : List Oid) (i : ℕ) (x y : Oid) → AllPairs (λ (a b : Oid). a.0 < b.0) xs → i < length xs → x ≡ get_or xs i x
-    → Contains (take i xs) y → y.0 < x.0
-before_there xs i x y pairs within at h =
-    let few : h.0 < i = omega (arith, h.1, length-take i xs) in
-    let here : get_or xs h.0 y ≡ y = sym (get_or-take i xs h.0 y few) ∙ h.2 in
-    let there : get_or xs i y ≡ x = get_or_default xs i y x within ∙ sym at in
-    subst (λ (a : Oid). a.0 < x.0) here (subst (λ (b : Oid). (get_or xs h.0 y).0 < b.0) there (pairs h.0 i y few within))
-
--- an object more was looked at, and none is kept more
-less_kept : (Fails : Oid → Type 0) (xs kept : List Oid) (i : ℕ) (x : Oid) → i < length xs → x ≡ get_or xs i x → Fails x
-    → AreThinned Fails (take i xs) kept → AreThinned Fails (take (i + 1) xs) kept
-less_kept Fails xs kept i x within at fails so_far =
-    subst (λ (l : List Oid). AreThinned Fails l kept) (sym (take_more_read xs i x within at)) (record {
-      ascending = so_far.ascending;
-      sound = λ oid h. Contains-append_left (take i xs) (x ∷ []) oid (so_far.sound oid h);
-      complete = λ oid h. elim (Contains-push_cases (take i xs) x oid h) [
-        | inl early ↦ so_far.complete oid early
-        | inr same ↦ inr (subst Fails same fails)
-      ];
-    })
-
--- and it is kept
-more_kept : (Fails : Oid → Type 0) (xs kept : List Oid) (i : ℕ) (x : Oid) → AllPairs (λ (a b : Oid). a.0 < b.0) xs → i < length xs
-    → x ≡ get_or xs i x → AreThinned Fails (take i xs) kept → AreThinned Fails (take (i + 1) xs) (kept ++ x ∷ [])
-more_kept Fails xs kept i x ascend within at so_far =
-    subst (λ (l : List Oid). AreThinned Fails l (kept ++ x ∷ [])) (sym (take_more_read xs i x within at)) (record {
-      ascending = all_pairs_push (λ (a b : Oid). a.0 < b.0) kept x so_far.ascending (λ k d less.
-          before_there xs i x (get_or kept k d) ascend within at (so_far.sound (get_or kept k d) (Contains-get_or kept k d less)));
-      sound = λ oid h. elim (Contains-push_cases kept x oid h) [
-        | inl early ↦ Contains-append_left (take i xs) (x ∷ []) oid (so_far.sound oid early)
-        | inr same ↦ subst (Contains (take i xs ++ x ∷ [])) same (Contains-push (take i xs) x)
-      ];
-      complete = λ oid h. elim (Contains-push_cases (take i xs) x oid h) [
-        | inl early ↦ elim (so_far.complete oid early) [
-          | inl there ↦ inl (Contains-append_left kept (x ∷ []) oid there)
-          | inr gone ↦ inr gone
-        ]
-        | inr same ↦ inl (subst (Contains (kept ++ x ∷ [])) same (Contains-push kept x))
-      ];
-    })
-
-pub thinned_none : (Fails : Oid → Type 0) (kept : List Oid) → kept ≡ [] → AreThinned Fails [] kept
-thinned_none Fails kept empty = record {
-  ascending = subst (AllPairs (λ (a b : Oid). a.0 < b.0)) (sym empty) (λ i j d less within. absurd (omega (arith, within)));
-  sound = λ oid at. subst (λ (l : List Oid). Contains l oid) empty at;
-  complete = λ oid at. absurd (Contains-none oid at);
-}
-
-thinned_by : (Fails : Oid → Type 0) (xs kept new : List Oid) (i : ℕ) (x : Oid) (out : Bool) → AllPairs (λ (a b : Oid). a.0 < b.0) xs
-    → i < length xs → x ≡ get_or xs i x → new ≡ kept ++ item_unless out x → (IsTrue out → Fails x)
-    → AreThinned Fails (take i xs) kept → AreThinned Fails (take (i + 1) xs) new
-thinned_by Fails xs kept new i x true ascend within at is fails so_far =
-    subst (AreThinned Fails (take (i + 1) xs)) (sym (is ∙ append-nil kept)) (less_kept Fails xs kept i x within at (fails refl) so_far)
-thinned_by Fails xs kept new i x false ascend within at is fails so_far =
-    subst (AreThinned Fails (take (i + 1) xs)) (sym is) (more_kept Fails xs kept i x ascend within at so_far)
-
-pub thinned_at : (Fails : Oid → Type 0) (xs kept new : List Oid) (i : ℕ) (d : Oid) (out : Bool) → AllPairs (λ (a b : Oid). a.0 < b.0) xs
-    → i < length xs → new ≡ kept ++ item_unless out (get_or xs i d) → (IsTrue out → Fails (get_or xs i d))
-    → AreThinned Fails (take i xs) kept → AreThinned Fails (take (i + 1) xs) new
-thinned_at Fails xs kept new i d out ascend within is fails so_far =
-    thinned_by Fails xs kept new i (get_or xs i d) out ascend within (get_or_default xs i d (get_or xs i d) within) is fails so_far
-
-pub thinned_all : (Fails : Oid → Type 0) (xs kept : List Oid) (i : ℕ) → length xs ≤ i → AreThinned Fails (take i xs) kept → AreThinned Fails xs kept
-thinned_all Fails xs kept i past so_far = subst (λ (l : List Oid). AreThinned Fails l kept) (take_all i xs past) so_far
-
-thinned_for : (Fails Falls : Oid → Type 0) (oids kept : List Oid) → ((oid : Oid) → Fails oid → Falls oid) → AreThinned Fails oids kept
-    → AreThinned Falls oids kept
-thinned_for Fails Falls oids kept weaker thin = record {
-  ascending = thin.ascending;
-  sound = thin.sound;
-  complete = λ oid at. elim (thin.complete oid at) [
-    | inl there ↦ inl there
-    | inr fails ↦ inr (weaker oid fails)
-  ];
-}
-
--- A row is ruled out with an object in a slot.
-pub ruled_out_fails : (Passes : List Oid → Type 0) (known more : List Bool) (slot : ℕ) (row filled : List Oid) (oid : Oid) → slot < length row
-    → filled ≡ set row slot oid → ((own : ℕ) → slice_get more own ≡ Some true → (slice_get known own ≡ Some true) ⊎ (Some slot ≡ Some own))
-    → NonePasses Passes more filled → FailsWith Passes known slot row oid
-ruled_out_fails Passes known more slot row filled oid within is marked none other completes there =
-    none other (record {
-      eight = completes.eight;
-      agree = λ own mark. ap (λ (r : List Oid). slice_get r own) is ∙ agree own (marked own mark);
-      passes = completes.passes;
-    })
-  where
-    agree : (own : ℕ) → (slice_get known own ≡ Some true) ⊎ (Some slot ≡ Some own) → slice_get (set row slot oid) own ≡ slice_get other own
-    agree own before = elim (cases_eq own slot) [
-      | inl here ↦ ap (slice_get (set row slot oid)) here ∙ filled_there row slot oid within ∙ sym there ∙ ap (slice_get other) (sym here)
-      | inr elsewhere ↦ elim before [
-        | inl mark ↦ filled_elsewhere row slot own oid elsewhere ∙ completes.agree own mark
-        | inr same ↦ absurd (elsewhere (sym (same_Some slot own same)))
-      ]
-    ]
-
--- and so where a test tells
-pub out_fails : {E : Type 0} (Passes : List Oid → Type 0) (known more : List Bool) (slot : ℕ) (row filled : List Oid) (oid : Oid) (result : Result Bool E)
-    → slot < length row → filled ≡ set row slot oid
-    → ((own : ℕ) → slice_get more own ≡ Some true → (slice_get known own ≡ Some true) ⊎ (Some slot ≡ Some own))
-    → IfOk result (λ out. IsTrue out → NonePasses Passes more filled) → IfOk result (λ out. IsTrue out → FailsWith Passes known slot row oid)
-out_fails Passes known more slot row filled oid (Ok out) within is marked tells =
-    λ yes. ruled_out_fails Passes known more slot row filled oid within is marked (tells yes)
-out_fails Passes known more slot row filled oid (Err error) within is marked tells = tt
-
--- Hopeless rows.
 
 -- an item stands in what is left behind the places in front of it
 behind_there : {X : Type 0} (xs : List X) (k n : ℕ) (x : X) → k ≤ n → slice_get xs n ≡ Some x → Contains (drop k xs) x
@@ -157,21 +44,36 @@ filled_left (first ∷ others) (suc at) own order filled = elim (Contains-cases 
   | inr behind ↦ filled_left others at own order.1 (filled.0, behind, filled.2)
 ]
 
--- an object with which no row passes makes a row hopeless that has it in the slot
-fails_hopeless : (over : StepsOver) (step : StepTree) (later : List StepTree) (known : List Bool) (slot : ℕ) (row : List Oid) (oid : Oid)
-    → slot_of step ≡ Some slot → slot < RANGES → length row ≡ RANGES → IsLeft later slot → Contains later filter
+-- an object with which nothing is told of a row makes a row hopeless that has it in the slot
+fails_hopeless : (over : StepsOver) (Hints : List Oid → Type 0) (step : StepTree) (later : List StepTree) (known : List Bool) (slot : ℕ) (row : List Oid)
+    (oid : Oid) → slot_of step ≡ Some slot → slot < RANGES → length row ≡ RANGES → IsLeft later slot → Contains later filter → Stands step later
     → ((own : ℕ) → slice_get known own ≡ Some true → IsLeft (step ∷ later) own)
-    → FailsWith over.passes known slot row oid → IsHopeless over later (set row slot oid)
-fails_hopeless over step later known slot row oid fills within long left tests marked fails whole finishes =
+    → ((whole : List Oid) → Finishes over (step ∷ later) row whole → over.passes whole → Hints whole)
+    → IsVariant step row (set row slot oid) → Meets over step (set row slot oid)
+    → FailsWith Hints known slot row oid → IsHopeless over later (set row slot oid)
+fails_hopeless over Hints step later known slot row oid fills within long left tests stands marked hinted variant met fails whole finishes =
     fails whole (record {
       eight = finishes.eight;
       agree = λ own mark.
           let free = marked own mark in
           sym (filled_elsewhere row slot own oid (λ is. All-head (λ s. slot_of s ≢ Some own) step later free (fills ∙ ap Some (sym is))))
           ∙ sym (finishes.same own (All-tail (λ s. slot_of s ≢ Some own) step later free));
-      passes = All-contains (λ s. Meets over s whole) later filter finishes.met tests;
+      passes = hinted whole (finishes_through over step later row (set row slot oid) whole stands variant met finishes)
+          (All-contains (λ s. Meets over s whole) later filter finishes.met tests);
     })
     (finishes.same slot left ∙ filled_there row slot oid (omega (arith, within, long)))
+
+-- other causes to leave objects out
+thinned_for : (Fails Falls : Oid → Type 0) (oids kept : List Oid) → ((oid : Oid) → Contains oids oid → Fails oid → Falls oid) → AreThinned Fails oids kept
+    → AreThinned Falls oids kept
+thinned_for Fails Falls oids kept weaker thin = record {
+  ascending = thin.ascending;
+  sound = thin.sound;
+  complete = λ oid at. elim (thin.complete oid at) [
+    | inl there ↦ inl there
+    | inr fails ↦ inr (weaker oid at fails)
+  ];
+}
 
 -- objects are left out of an offer that make hopeless rows
 thinned_offer : (over : StepsOver) (step : StepTree) (later : List StepTree) (slot : ℕ) (row oids kept : List Oid) → length row ≡ RANGES
@@ -193,21 +95,23 @@ thinned_offer over step later slot row oids kept long offers thin = record {
   };
 }
 
-pub narrowed_at : (over : StepsOver) (steps : List StepTree) (at slot : ℕ) (row oids kept : List Oid) (known : List Bool)
+pub narrowed_at : (over : StepsOver) (Hints : List Oid → Type 0) (steps : List StepTree) (at slot : ℕ) (row oids kept : List Oid) (known : List Bool)
     → AreInOrder steps → length row ≡ RANGES → Contains (drop (at + 1) steps) filter
     → ((own : ℕ) → slice_get known own ≡ Some true → IsFilledBy (take at steps) own)
-    → IsOfferAt over steps at row (Fill slot oids) → AreThinned (FailsWith over.passes known slot row) oids kept
+    → IsOfferAt over steps at row (Fill slot oids) → AreHintedAt over Hints steps at row → AreThinned (FailsWith Hints known slot row) oids kept
     → IsKeptAt over steps at row (Fill slot kept)
-narrowed_at over steps at slot row oids kept known order long tests marked offers thin step later cut =
+narrowed_at over Hints steps at slot row oids kept known order long tests marked offers hinted thin step later cut =
     let offer = offers step later cut in
     let behind : drop (at + 1) steps ≡ later = sym (drop-drop 1 at steps) ∙ ap (drop 1) cut in
     let ordered : AreInOrder (step ∷ later) = subst AreInOrder cut (ordered_at steps at order) in
     let settled : IsSettled later slot = settles step later slot ordered.0 offer.own in
     thinned_offer over step later slot row oids kept long offer
-    (thinned_for (FailsWith over.passes known slot row) (λ oid. IsHopeless over later (set row slot oid)) oids kept
-    (λ oid. fails_hopeless over step later known slot row oid offer.own offer.fills long settled.1
-    (subst (λ (l : List StepTree). Contains l filter) behind tests)
-    (λ own mark. subst (λ (l : List StepTree). IsLeft l own) cut (filled_left steps at own order (marked own mark)))) thin)
+    (thinned_for (FailsWith Hints known slot row) (λ oid. IsHopeless over later (set row slot oid)) oids kept (λ oid there.
+    let made = (offer.rows.exact (set row slot oid)).0 (Contains-map (set row slot) oids oid there) in
+    fails_hopeless over Hints step later known slot row oid offer.own offer.fills long settled.1
+    (subst (λ (l : List StepTree). Contains l filter) behind tests) ordered.0
+    (λ own mark. subst (λ (l : List StepTree). IsLeft l own) cut (filled_left steps at own order (marked own mark)))
+    (λ whole finishes. hinted whole (subst (λ (l : List StepTree). Finishes over l row whole) (sym cut) finishes)) made.0 made.1) thin)
 
 -- where none is left out
 pub offer_kept : (over : StepsOver) (steps : List StepTree) (at : ℕ) (row : List Oid) (offer : Offer) → IsOfferAt over steps at row offer

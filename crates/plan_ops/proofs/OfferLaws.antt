@@ -5,7 +5,7 @@ use Rattle.std.proofs.lemmas.Bool.{cases_eq}
 use Rattle.std.proofs.lemmas.Option.{none-some, same_Some, slice_get-get_or}
 use Rattle.std.proofs.lemmas.List.{length-set, length-map, get_or-map}
 use Rattle.std.proofs.lemmas.List.Elements.{All-head}
-use Rattle.lore_base.specs.Walks.{oid_of}
+use Rattle.lore_base.specs.Walks.{Walk, oid_of}
 use Rattle.lore_base.specs.Lists.{ExtendsBy}
 use Rattle.lore_base.specs.Paths.{PathTree, Reaches}
 use Rattle.lore_base.specs.TargetSets.{ListsInOrder}
@@ -14,6 +14,9 @@ use Rattle.lore_base.proofs.TargetLaws.{ListsInOrder-same}
 use Rattle.list_laws.proofs.MemberLaws.{Contains-map, Contains-from_map}
 use Rattle.index_traits.specs.Entries.{IsFound}
 use Rattle.product_walk.specs.ProductWalks.{ReachesInto}
+use Rattle.word_walks.specs.declared.only_words.OnlyWord.{OnlyWord}
+use Rattle.word_walks.specs.declared.only_words.OnlyWord.TheVariants.{Labels, Lacking}
+use Rattle.word_walks.specs.WordWalks.{IsItsWord, IsReachedBy}
 use Rattle.lorel_bound.specs.Runnable.{IsWithin}
 use Rattle.lorel_bound.specs.SlotRows.{StartsAt}
 use Rattle.lorel_bound.specs.Plans.{StepTree, forward, from_guide, from_value, backward, check, IsCandidate}
@@ -23,8 +26,8 @@ use Rattle.plan_ops.specs.Steps.{StepsOver, Meets, Connects, slot_of}
 use Rattle.plan_ops.specs.Rows.{AreQuiet, IsGuided}
 use Rattle.plan_ops.specs.declared.offers.Offer.{Offer}
 use Rattle.plan_ops.specs.inside.Orders.{IsThere, Stands}
-use Rattle.plan_ops.specs.inside.Offers.{Fill, Lend, Keep, Reject, IsVariant, IsOffer, HasObjects, tested}
-use Rattle.plan_ops.proofs.SlotLaws.{same_places, filled_there, filled_elsewhere}
+use Rattle.plan_ops.specs.inside.Offers.{Fill, Lend, One, Keep, Reject, IsVariant, IsOffer, HasObjects, PutsAll, PutsThose, tested}
+use Rattle.row_hints.proofs.SlotLaws.{same_places, filled_there, filled_elsewhere}
 
 -- objects that ascend are put into the slot of a row: the rows are each once
 pub apart_filled : (row : List Oid) (slot : ℕ) (oids : List Oid) → slot < length row → AllPairs (λ a b. a.0 < b.0) oids
@@ -81,8 +84,18 @@ lent over step slot row oids (Lend own objects) has offers =
     let made : IsOffer over step row (Fill own objects.now) =
     subst (λ (n : ℕ). IsOffer over step row (Fill n objects.now)) (sym has.0) (subst (λ (l : List Oid). IsOffer over step row (Fill slot l)) (sym has.1) offers) in
     record { fills = made.fills; ordered = made.ordered; own = made.own; rows = made.rows }
+lent over step slot row oids (One own oid) has offers =
+    let made : IsOffer over step row (Fill own (oid ∷ [])) =
+    subst (λ (n : ℕ). IsOffer over step row (Fill n (oid ∷ []))) (sym has.0) (subst (λ (l : List Oid). IsOffer over step row (Fill slot l)) has.1 offers) in
+    record { fills = made.fills; ordered = tt; own = made.own; rows = made.rows }
 lent over step slot row oids Keep has offers = absurd has
 lent over step slot row oids Reject has offers = absurd has
+
+-- or where there is none the row is rejected
+pub put_offers : (over : StepsOver) (step : StepTree) (slot : ℕ) (row oids : List Oid) (offer : Offer) → PutsAll slot oids offer
+    → IsOffer over step row (Fill slot oids) → IsOffer over step row offer
+put_offers over step slot row [] offer puts offers = subst (IsOffer over step row) (sym puts) (record { fills = tt; ordered = tt; own = tt; rows = offers.rows })
+put_offers over step slot row (oid ∷ oids) offer puts offers = lent over step slot row (oid ∷ oids) offer puts offers
 
 -- a step that fills none makes of a row that row, where it meets the step, and else none
 variant_same : (step : StepTree) (row other : List Oid) → slot_of step ≡ None → IsVariant step row other → other ≡ row
@@ -152,13 +165,40 @@ connects Leads start slot row oid from within there at = (
 
 -- Each kind of step.
 
-pub forward_offers : (over : StepsOver) (start : Start) (path : PathTree) (slot : ℕ) (row : List Oid) (from : Oid) (oids : List Oid)
+forward_offers : (over : StepsOver) (start : Start) (path : PathTree) (slot : ℕ) (row : List Oid) (from : Oid) (oids : List Oid)
     → Stands (forward start path slot) [] → length row ≡ RANGES → StartsAt row start from
     → ListsInOrder (Reaches over.labels over.edges path from) oids → IsOffer over (forward start path slot) row (Fill slot oids)
 forward_offers over start path slot row from oids stands long at lists =
     fills over (forward start path slot) slot row oids refl stands.0.0 long
     (ListsInOrder-same (Reaches over.labels over.edges path from) (λ oid. Meets over (forward start path slot) (set row slot oid)) oids
     (λ oid. connects (Reaches over.labels over.edges path) start slot row oid from (omega (arith, stands.0.0, long)) stands.1 at) lists)
+
+-- and they are put into the slot
+pub route_offers : (over : StepsOver) (start : Start) (path : PathTree) (slot : ℕ) (row : List Oid) (from : Oid) (offer : Offer)
+    → Stands (forward start path slot) [] → length row ≡ RANGES → StartsAt row start from
+    → PutsThose (Reaches over.labels over.edges path from) slot offer → IsOffer over (forward start path slot) row offer
+route_offers over start path slot row from offer stands long at puts =
+    put_offers over (forward start path slot) slot row puts.0 offer puts.2 (forward_offers over start path slot row from puts.0 stands long at puts.1)
+
+-- along the one word of a path
+word_reaches : (labels : List (List ℕ)) (edges : List Edge) (path : PathTree) (word : OnlyWord) → IsItsWord labels path word
+    → (x y : Oid) → IsReachedBy word edges x y ↔ Reaches labels edges path x y
+word_reaches labels edges path (Labels own) its x y = (
+  λ walked. (own, (its own).1 refl, walked),
+  λ h. subst (λ (w : List Label). Walk edges x w y) ((its h.0).0 h.1) h.2,
+)
+word_reaches labels edges path Lacking its x y = (λ none. absurd none, λ h. absurd (its h.0 h.1))
+
+pub word_offers : (over : StepsOver) (start : Start) (path : PathTree) (word : OnlyWord) (slot : ℕ) (row : List Oid) (from : Oid) (offer : Offer)
+    → Stands (forward start path slot) [] → length row ≡ RANGES → StartsAt row start from → IsItsWord over.labels path word
+    → PutsThose (IsReachedBy word over.edges from) slot offer → IsOffer over (forward start path slot) row offer
+word_offers over start path word slot row from offer stands long at its puts =
+    route_offers over start path slot row from offer stands long at (
+      puts.0,
+      ListsInOrder-same (IsReachedBy word over.edges from) (Reaches over.labels over.edges path from) puts.0
+          (word_reaches over.labels over.edges path word its from) puts.1,
+      puts.2,
+    )
 
 -- what the guide told
 pub guide_offers : (over : StepsOver) (named : Oid) (path : PathTree) (slot : ℕ) (row oids : List Oid)

@@ -12,17 +12,19 @@ use Rattle.lorel_bound.specs.Bound.{RangeTree, BoundPathTree, BoundTree}
 use Rattle.lorel_bound.specs.Runnable.{IsRunnable}
 use Rattle.lorel_bound.specs.declared.plans.PlanStep.{PlanStep}
 use Rattle.lorel_bound.specs.Plans.{StepTree, step_tree, forward, from_value, backward, check, Probe, IsFitting, IsFirstFitting, IsTaken, CanBeBottom, tests, along, guided_step, back_steps, bottom_steps, AreStepsOf}
+use Rattle.row_hints.specs.declared.told.Told.{Told}
+use Rattle.row_hints.specs.Told.{AreTold}
 use Rattle.plan_ops.specs.Types.{Oid, Label, Start, LEAVES, RANGES, PlanKind, PartialRow}
 use Rattle.plan_ops.specs.Types.starts
 use Rattle.plan_ops.specs.Types.plan_kinds
-use Rattle.plan_ops.specs.Steps.{StepsOver, in_eight}
+use Rattle.plan_ops.specs.Steps.{StepsOver, Finishes, in_eight}
 use Rattle.plan_ops.specs.Rows.{AreApart}
 use Rattle.plan_ops.specs.inside.Offers.{partial_at}
 use Rattle.plan_ops.specs.inside.Ready.{ReadyStep, ready_tree, HasFound, CanBeReady}
-use Rattle.plan_ops.specs.inside.Told.{Told, AreTold}
+use Rattle.plan_ops.specs.inside.Keeping.{Kept, AreKeptBy}
 use Rattle.plan_ops.specs.inside.Machines.{IsReadyMachine}
 use Rattle.plan_ops.proofs.OrderLaws.{steps_in_order}
-use Rattle.plan_ops.proofs.DescribeLawsToCome.{AreFirst}
+use Rattle.plan_ops.proofs.DescribeLawsToCome.{AreFirst, finished_to_come}
 
 abbrev HasFew : RangeTree → Type 0
 HasFew range = leaves range.path ≤ LEAVES
@@ -153,13 +155,17 @@ first_of none partials row empty is unfilled = record {
   unfilled = unfilled;
 }
 
-pub first_machine : (over : StepsOver) (labels : List (List ℕ)) (bound : BoundTree) (kind : PlanKind) (steps : List StepTree) (ready : List ReadyStep)
-    (told : List Told) (partials : List PartialRow) → IsRunnable bound → AreStepsOf labels bound kind steps → map ready_tree ready ≡ steps
-    → All (HasFound over.reaches) ready → AreTold over.passes told → AreFirst partials → IsReadyMachine over steps ready told partials
-first_machine over labels bound kind steps ready told partials runnable are made found so first = record {
+pub first_machine : (over : StepsOver) (Hints : List Oid → Type 0) (labels : List (List ℕ)) (bound : BoundTree) (kind : PlanKind) (steps : List StepTree)
+    (ready : List ReadyStep) (kept : List Kept) (told : List Told) (partials : List PartialRow) → IsRunnable bound → AreStepsOf labels bound kind steps
+    → map ready_tree ready ≡ steps → All (HasFound over.labels over.reaches) ready → AreKeptBy over ready kept → AreTold Hints told
+    → ((row : List Oid) → Finishes over steps (in_eight []) row → over.passes row → Hints row) → AreFirst partials
+    → IsReadyMachine over Hints steps ready kept told partials
+first_machine over Hints labels bound kind steps ready kept told partials runnable are made found keep so implied first = record {
   ready_are = made;
   found = found;
+  kept_are = keep;
   told_are = so;
+  hinted = record { told = λ row comes. implied row ((finished_to_come over steps partials first row).0 comes) };
   machine = record {
     in_order = steps_in_order labels bound kind steps runnable are;
     can = steps_can labels bound kind steps runnable are;

@@ -4,7 +4,8 @@ use Rattle.std.specs.List.{All, AllPairs, Contains, slice_get}
 use Rattle.std.specs.Option.{option_to_list, option_map}
 use Rattle.std.proofs.Math.Nat.{mul-le-mul_right}
 use Rattle.std.proofs.lemmas.Option.{none-some, same_Some, slice_get-map, slice_get_within, slice_get_read, slice_get-get_or}
-use Rattle.std.proofs.lemmas.List.{append_assoc, length-map, length-reverse, length_push, drop_all, reverse-append, take_more}
+use Rattle.std.proofs.Math.Seq.{take-length}
+use Rattle.std.proofs.lemmas.List.{append_assoc, length-map, length-reverse, length-take, length_push, drop_all, reverse-append, take_more}
 use Rattle.std.proofs.lemmas.List.Elements.{All-nil, All-cons, All-append, All-head, All-tail, All-contains, Contains-push}
 use Rattle.std.proofs.lemmas.List.Sums.{sum_by_push, sum_by-append, sum_by-le}
 use Rattle.lore_base.proofs.MemberLaws.{Contains-none}
@@ -21,9 +22,12 @@ use Rattle.plan_ops.specs.declared.offers.Offer.{Offer}
 use Rattle.plan_ops.specs.inside.Offers.{FillsSlot, IsOffer, IsKeptOffer, IsOfferAt, IsKeptAt, IsReplaced, offered, partial_at}
 use Rattle.plan_ops.specs.inside.Orders.{IsThere, Stands, AreInOrder}
 use Rattle.plan_ops.specs.inside.Ready.{ReadyStep, ready_tree, HasFound, CanBeReady}
-use Rattle.plan_ops.specs.inside.Machines.{IsMachine, IsPopped}
+use Rattle.plan_ops.specs.declared.ready_steps.ReadyStep.TheVariants as ready_steps
+use Rattle.plan_ops.specs.inside.Keeping.{Kept, IsKeptBy, AreKeptBy}
+use Rattle.plan_ops.specs.inside.Machines.{AreHinted, IsMachine, IsPopped}
+use Rattle.plan_ops.specs.inside.Narrowing.{AreHintedAt}
 use Rattle.plan_ops.proofs.StackLaws.{All-front, map-reverse, Contains-reverse, Contains-reversed, AllPairs-turned, Comes, IsApart, comes_replaced, apart_replaced, gives_last}
-use Rattle.plan_ops.proofs.SlotLaws.{last_place}
+use Rattle.row_hints.proofs.SlotLaws.{last_place}
 use Rattle.plan_ops.proofs.FinishLaws.{finished_by_kept, finishes_one, finished_whole}
 
 -- the steps from a place on
@@ -237,6 +241,42 @@ replaced_by next offer old middle front new top last count same parts is whole c
   few = omega (arith, counted, few);
 }
 
+-- an offer of the same rows does the same
+pub replaced_alike : (next : ℕ) (one other : Offer) (old new : List PartialRow) → ((row : List Oid) → offered one row ≡ offered other row)
+    → IsReplaced next one old new → IsReplaced next other old new
+replaced_alike next one other old new same replaced = record {
+  front = replaced.front;
+  last = replaced.last;
+  was = replaced.was;
+  is = replaced.is ∙ ap (λ (rows : List (List Oid)). replaced.front ++ map (partial_at next) (reverse rows)) (same replaced.last.row);
+  few = subst (λ (rows : List (List Oid)). length rows < 2 ^ 64) (same replaced.last.row) replaced.few;
+}
+
+-- The last partial row has another row, in place.
+set_last : (front : List PartialRow) (last other : PartialRow) → set (front ++ last ∷ []) (length front) other ≡ front ++ other ∷ []
+set_last [] last other = refl
+set_last (first ∷ front) last other = ap (λ (l : List PartialRow). first ∷ l) (set_last front last other)
+
+pub replaced_in_place : (next : ℕ) (offer : Offer) (count : ℕ) (old new : List PartialRow) (last : PartialRow) (row : List Oid) → count ≡ length old → 0 < count
+    → last ≡ get_or old (count - 1) last → new ≡ set old (count - 1) (partial_at next row) → offered offer last.row ≡ row ∷ [] → IsReplaced next offer old new
+replaced_in_place next offer count old new last row counted some at is one =
+    let place = count - 1 in
+    let front = take place old in
+    let cut = length-take place old in
+    let long : length front ≡ place = omega (arith, cut, some, counted) in
+    let behind : place + 1 ≡ length old = omega (arith, some, counted) in
+    let was : old ≡ front ++ last ∷ [] =
+    sym (take-length old) ∙ ap (λ (n : ℕ). take n old) (sym behind) ∙ take_more old place last (omega (arith, some, counted))
+    ∙ ap (λ (p : PartialRow). front ++ p ∷ []) (sym at) in
+    record {
+      front = front;
+      last = last;
+      was = was;
+      is = is ∙ ap (λ (n : ℕ). set old n (partial_at next row)) (sym long) ∙ ap (λ (l : List PartialRow). set l (length front) (partial_at next row)) was
+          ∙ set_last front last (partial_at next row) ∙ ap (λ (rows : List (List Oid)). front ++ map (partial_at next) (reverse rows)) (sym one);
+      few = omega (arith, ap length one);
+    }
+
 pub filled_in : (next slot : ℕ) (row oids items : List Oid) (front new : List PartialRow) → items ≡ oids
     → new ≡ front ++ map (partial_at next) (map (set row slot) (reverse items)) → new ≡ front ++ map (partial_at next) (reverse (map (set row slot) oids))
 filled_in next slot row oids items front new same whole =
@@ -289,9 +329,9 @@ stands_there ready n step order at =
     stands_alone (ready_tree step) (drop (n + 1) steps)
     (subst AreInOrder (drop_at steps n (ready_tree step) (step_at ready n step at)) (ordered_at steps n order)).0
 
-pub found_there : (reaches : PathTree → Oid → Oid → Type 0) (ready : List ReadyStep) (n : ℕ) (step : ReadyStep) → All (HasFound reaches) ready
-    → slice_get ready n ≡ Some step → HasFound reaches step
-found_there reaches ready n step found at = All-contains (HasFound reaches) ready step found (Contains-from_place ready n step at)
+pub found_there : (labels : List (List ℕ)) (reaches : PathTree → Oid → Oid → Type 0) (ready : List ReadyStep) (n : ℕ) (step : ReadyStep)
+    → All (HasFound labels reaches) ready → slice_get ready n ≡ Some step → HasFound labels reaches step
+found_there labels reaches ready n step found at = All-contains (HasFound labels reaches) ready step found (Contains-from_place ready n step at)
 
 pub can_there : (ready : List ReadyStep) (n : ℕ) (step : ReadyStep) → All CanBeReady (map ready_tree ready) → slice_get ready n ≡ Some step
     → CanBeReady (ready_tree step)
@@ -303,16 +343,19 @@ pub eight_there : (over : StepsOver) (steps : List StepTree) (items : List Parti
 eight_there over steps items last machine at =
     All-contains (λ (p : PartialRow). length p.row ≡ RANGES) items last machine.eight (Contains-from_place items (length items - 1) last at)
 
-pub quiet_there : (over : StepsOver) (ready : List ReadyStep) (items : List PartialRow) (last : PartialRow) (step : ReadyStep)
-    → ReadNothing over (map ready_tree ready) items → slice_get items (length items - 1) ≡ Some last → slice_get ready last.step ≡ Some step
-    → AreQuiet over (ready_tree step ∷ [])
-quiet_there over ready items last step nothing at here =
+pub quiet_there : (over : StepsOver) (ready : List ReadyStep) (n : ℕ) (step : ReadyStep) → AreQuiet over (drop n (map ready_tree ready))
+    → slice_get ready n ≡ Some step → AreQuiet over (ready_tree step ∷ [])
+quiet_there over ready n step quiet here =
     let steps = map ready_tree ready in
-    quiet_alone over (ready_tree step) (drop (last.step + 1) steps)
-    (subst (AreQuiet over) (drop_at steps last.step (ready_tree step) (step_at ready last.step step here))
-    (All-contains (λ (p : PartialRow). AreQuiet over (drop p.step steps)) items last nothing (Contains-from_place items (length items - 1) last at)))
+    quiet_alone over (ready_tree step) (drop (n + 1) steps)
+    (subst (AreQuiet over) (drop_at steps n (ready_tree step) (step_at ready n step here)) quiet)
 
--- and those behind it too
+pub kept_there : (over : StepsOver) (ready : List ReadyStep) (list : List Kept) (n : ℕ) (step : ReadyStep) (kept : Kept) → AreKeptBy over ready list
+    → n < length list → slice_get ready n ≡ Some step → kept ≡ get_or list n kept → IsKeptBy over step kept
+kept_there over ready list n step kept are within here at =
+    are.each n step kept here (slice_get_read list (length list) n kept refl within at)
+
+-- from the step of the last partial row on no edge is read
 pub quiet_behind : (over : StepsOver) (ready : List ReadyStep) (items : List PartialRow) (last : PartialRow) → ReadNothing over (map ready_tree ready) items
     → slice_get items (length items - 1) ≡ Some last → AreQuiet over (drop last.step (map ready_tree ready))
 quiet_behind over ready items last nothing at =
@@ -328,19 +371,22 @@ offered_at over ready at step row offer is made other later cut =
     subst (λ (s : StepTree). IsOffer over s row offer) same made
 
 -- what is kept of it fills a slot too
-pub kept_fills : (over : StepsOver) (ready : List ReadyStep) (at : ℕ) (step : ReadyStep) (row : List Oid) (offer : Offer) → slice_get ready at ≡ Some step
+pub kept_fills : (over : StepsOver) (ready : List ReadyStep) (at : ℕ) (row : List Oid) (offer : Offer) → at < length ready
     → IsKeptAt over (map ready_tree ready) at row offer → FillsSlot offer
-kept_fills over ready at step row offer is kept =
+kept_fills over ready at row offer within kept =
     let steps = map ready_tree ready in
-    (kept (ready_tree step) (drop (at + 1) steps) (drop_at steps at (ready_tree step) (step_at ready at step is))).fills
+    let step = get_or ready at ready_steps.Filter in
+    (kept (ready_tree step) (drop (at + 1) steps)
+    (drop_at steps at (ready_tree step) (step_at ready at step (slice_get-get_or ready at ready_steps.Filter within)))).fills
 
-pub turns : (over : StepsOver) (ready : List ReadyStep) (step : ReadyStep) (old new : List PartialRow) (last : PartialRow) (offer : Offer)
-    → IsMachine over (map ready_tree ready) old → slice_get old (length old - 1) ≡ Some last → slice_get ready last.step ≡ Some step
+pub turns : (over : StepsOver) (ready : List ReadyStep) (old new : List PartialRow) (last : PartialRow) (offer : Offer)
+    → IsMachine over (map ready_tree ready) old → slice_get old (length old - 1) ≡ Some last → last.step < length ready
     → IsKeptAt over (map ready_tree ready) last.step last.row offer → IsReplaced (last.step + 1) offer old new → Turned over (map ready_tree ready) old new
-turns over ready step old new last offer machine at here offers replaced =
+turns over ready old new last offer machine at within offers replaced =
     let steps = map ready_tree ready in
+    let step = get_or ready last.step ready_steps.Filter in
     let same : replaced.last ≡ last = sym (same_last old replaced.front last replaced.last at replaced.was) in
-    let there : slice_get steps last.step ≡ Some (ready_tree step) = step_at ready last.step step here in
+    let there : slice_get steps last.step ≡ Some (ready_tree step) = step_at ready last.step step (slice_get-get_or ready last.step ready_steps.Filter within) in
     turned over steps old new replaced.front last (ready_tree step) offer machine there
     (offers (ready_tree step) (drop (last.step + 1) steps) (drop_at steps last.step (ready_tree step) there))
     (subst (λ (p : PartialRow). old ≡ replaced.front ++ p ∷ []) same replaced.was)
@@ -377,6 +423,23 @@ none_before over steps items before same empty row =
     let none = λ (come : IsToCome over steps items row). Contains-none come.0 (subst (λ (l : List PartialRow). Contains l come.0) empty come.1) in
     (λ h. none ((same row).1 h), none)
 
+-- What is told early of rows to come.
+
+pub hinted_same : (over : StepsOver) (Hints : List Oid → Type 0) (steps : List StepTree) (old new : List PartialRow)
+    → AreSame (IsToCome over steps old) (IsToCome over steps new) → AreHinted over Hints steps old → AreHinted over Hints steps new
+hinted_same over Hints steps old new same hinted = record { told = λ row comes. hinted.told row ((same row).0 comes) }
+
+pub hinted_less : (over : StepsOver) (Hints : List Oid → Type 0) (steps : List StepTree) (old new : List PartialRow) (given : List Oid)
+    → Gives (IsToCome over steps old) (IsToCome over steps new) given → AreHinted over Hints steps old → AreHinted over Hints steps new
+hinted_less over Hints steps old new given gives hinted = record { told = λ row comes. hinted.told row ((gives.others row).0 comes).0 }
+
+-- of the rows that come of one partial row
+pub hinted_there : (over : StepsOver) (Hints : List Oid → Type 0) (steps : List StepTree) (old items : List PartialRow) (last : PartialRow)
+    → AreSame (IsToCome over steps old) (IsToCome over steps items) → AreHinted over Hints steps old → slice_get items (length items - 1) ≡ Some last
+    → AreHintedAt over Hints steps last.step last.row
+hinted_there over Hints steps old items last same hinted at whole finishes =
+    hinted.told whole ((same whole).0 (last, Contains-from_place items (length items - 1) last at, finishes))
+
 -- how the end of a list is read
 pub read_last : (slice items : List PartialRow) (last : PartialRow) → Some last ≡ slice_get slice (length slice - 1) → slice ≡ items
     → slice_get items (length items - 1) ≡ Some last
@@ -386,8 +449,3 @@ pub empty_last : (slice items : List PartialRow) → None ≡ slice_get slice (l
 empty_last [] items at same = sym same
 empty_last (x ∷ xs) items at same =
     absurd (none-some (get_or (x ∷ xs) (length (x ∷ xs) - 1) x) (at ∙ slice_get-get_or (x ∷ xs) (length (x ∷ xs) - 1) x (omega arith)))
-
--- how a step is read
-pub read_step : (ready : List ReadyStep) (n : ℕ) (step : ReadyStep) → (n < length ready) × ((d : ReadyStep) → step ≡ get_or ready n d)
-    → slice_get ready n ≡ Some step
-read_step ready n step at = slice_get_read ready (length ready) n step refl at.0 (at.1 step)

@@ -3,5 +3,5 @@ pub mod Ready
 pub mod Orders
 pub mod Offers
 pub mod Narrowing
-pub mod Told
+pub mod Keeping
 pub mod Machines

@@ -1,4 +1,4 @@
-ghost use Rattle.std.specs.Prelude.{◌≡◌, ◌<◌, ◌+◌, ◌⊎◌, ℕ, true, length, map, take, drop};
+ghost use Rattle.std.specs.Prelude.{◌≡◌, ◌<◌, ◌+◌, ℕ, true, length, map, take, drop};
 ghost use Rattle.std.specs.Prelude.{Some, Contains, slice_get, IsTrue};
 ghost use Rattle.lorel_bound.specs.Plans.{filter};
 ghost use Rattle.plan_ops.specs.inside.Ready.{ready_tree};
@@ -6,6 +6,7 @@ ghost use Rattle.plan_ops.specs.inside.Narrowing.{IsFilledBy};
 
 use crate::ready_steps::ReadyStep;
 use lore_base::limits::RANGES;
+use row_hints::mark;
 
 /// The slots that the steps before this one fill.
 pub(crate) fn slots_before(ready: &[ReadyStep<'_>], at: usize) -> [bool; RANGES]
@@ -18,36 +19,6 @@ pub(crate) fn slots_before(ready: &[ReadyStep<'_>], at: usize) -> [bool; RANGES]
         mark(&mut known, ready[place].slot());
     }
     known
-}
-
-/// The known slots and one more.
-pub(crate) fn known_with(known: &[bool; RANGES], slot: u32) -> [bool; RANGES]
-    ensures { (own : ℕ) → slice_get result own ≡ Some true
-        → (slice_get known.now own ≡ Some true) ⊎ (Some slot ≡ Some own) }
-{
-    let mut more = *known;
-    mark(&mut more, Some(slot));
-    more
-}
-
-// Marks the slot, if there is one.
-fn mark(known: &mut [bool; RANGES], slot: Option<u32>)
-    ensures { (own : ℕ) → slice_get known.new own ≡ Some true
-        → (slice_get known.old own ≡ Some true) ⊎ (slot ≡ Some own) }
-{
-    let Some(slot) = slot else {
-        return;
-    };
-    let place = slot as usize;
-    if place >= RANGES {
-        return;
-    }
-    known[place] = true;
-}
-
-/// Whether some slot is known.
-pub(crate) fn knows_some(known: &[bool; RANGES]) -> bool {
-    known.as_slice().contains(&true)
 }
 
 /// Whether the plan ends in a test of the whole condition, which this step isn't.

@@ -7,6 +7,7 @@
 
 pub use rows::Rows;
 
+mod kept;
 mod known_slots;
 pub mod laws;
 mod machine;
@@ -17,5 +18,4 @@ mod ready_steps;
 mod rows;
 mod sources;
 mod step_objects;
-mod tallies;
-mod told;
+mod walks;

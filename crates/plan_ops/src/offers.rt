@@ -1,16 +1,16 @@
-ghost use Rattle.std.specs.Prelude.{◌≡◌, List, [], ◌∷◌, length, IsTrue, IfOk, IfSome, OnOk};
-ghost use Rattle.plan_ops.specs.Types.{Oid as TheOid, RANGES as THE_RANGES};
+ghost use Rattle.std.specs.Prelude.{◌≡◌, [], ◌∷◌, length, IfOk, OnOk};
+ghost use Rattle.plan_ops.specs.Types.{RANGES as THE_RANGES};
 ghost use Rattle.plan_ops.specs.Steps.{StepsOver};
 ghost use Rattle.plan_ops.specs.Rows.{AreQuiet};
-ghost use Rattle.plan_ops.specs.inside.Offers.{IsOffer, offered, tested};
+ghost use Rattle.plan_ops.specs.inside.Offers.{IsOffer, one_unless, tested};
+ghost use Rattle.plan_ops.specs.inside.Keeping.{IsKeptBy};
 ghost use Rattle.plan_ops.specs.inside.Orders.{Stands};
 ghost use Rattle.plan_ops.specs.inside.Ready.{CanBeReady, HasFound, ready_tree};
-ghost use Rattle.index_traits.specs.PartRows.{NonePasses, AreAllThatFit};
 
+use crate::kept::Kept;
 use crate::ready_steps::ReadyStep;
 use index_traits::Row;
-use lore_base::limits::RANGES;
-use lore_base::{NoMemory, OidBuf, Steps};
+use lore_base::{NoMemory, Oid, OidBuf, Steps};
 use std::alloc::Global;
 use std::sync::ledger::Ledger;
 
@@ -21,6 +21,8 @@ pub(crate) enum Offer<'r> {
     Fill { slot: u32, oids: OidBuf },
     /// The same with objects that the step keeps for further rows.
     Lend { slot: u32, oids: &'r OidBuf },
+    /// The row with this object in the slot.
+    One { slot: u32, oid: Oid },
     /// The row as it is.
     Keep,
     /// No row.
@@ -35,15 +37,14 @@ impl<'r> Offer<'r> {
         if passes { Offer::Keep } else { Offer::Reject }
     }
 
-    /// How many rows are made of a row.
-    pub(crate) fn count(&self) -> usize
-        ensures { (row : List TheOid) → result ≡ length (offered self.now row) }
+    /// The row with the object in the slot; none where it is left out.
+    pub(crate) fn one_unless(out: bool, slot: u32, oid: Oid) -> Offer<'r>
+        ensures { result ≡ one_unless out slot oid }
     {
-        match self {
-            Offer::Fill { oids, .. } => oids.len(),
-            Offer::Lend { oids, .. } => oids.len(),
-            Offer::Keep => 1,
-            Offer::Reject => 0,
+        if out {
+            Offer::Reject
+        } else {
+            Offer::One { slot, oid }
         }
     }
 }
@@ -54,44 +55,22 @@ pub(crate) trait Offers {
     ghost over: { Self → StepsOver };
 
     /// What the step makes of the row: exactly the rows that meet it and that are the same but in
-    /// its slot. No step is counted where it reads no edge.
+    /// its slot. No step is counted where it reads no edge. What it reached last is kept.
     fn offer<'r, L: Ledger>(
         &self,
         alloc: Global,
         step: &'r ReadyStep<'_>,
         row: &Row,
+        kept: &mut Kept,
         steps: &mut Steps<L>,
     ) -> Result<Offer<'r>, NoMemory>
         requires eight { length row.now ≡ THE_RANGES }
         requires stands { Stands (ready_tree step.now) [] }
         requires ready { CanBeReady (ready_tree step.now) }
-        requires found { HasFound (over self.now).reaches step.now }
+        requires found { HasFound (over self.now).labels (over self.now).reaches step.now }
+        requires kept { IsKeptBy (over self.now) step.now kept.old }
+        ensures kept { IsKeptBy (over self.now) step.now kept.new }
         ensures rows { IfOk result (IsOffer (over self.now) (ready_tree step.now) row.now) }
         ensures quiet { AreQuiet (over self.now) (ready_tree step.now ∷ [])
             → OnOk result (steps.new ≡ steps.old) };
-
-    /// Whether the objects in the known slots tell already that the condition holds of no row that
-    /// has them there.
-    fn rules_out<L: Ledger>(
-        &self,
-        alloc: Global,
-        known: &[bool; RANGES],
-        row: &Row,
-        steps: &mut Steps<L>,
-    ) -> Result<bool, NoMemory>
-        ensures { IfOk result (λ answer. IsTrue answer
-            → NonePasses (over self.now).passes known.now row.now) };
-
-    /// Objects, ascending, among which is the one in the slot of each row that has the row's
-    /// objects in the known slots and of which the condition holds; None where they can't be listed.
-    fn fitting<L: Ledger>(
-        &self,
-        alloc: Global,
-        known: &[bool; RANGES],
-        slot: u32,
-        row: &Row,
-        steps: &mut Steps<L>,
-    ) -> Result<Option<OidBuf>, NoMemory>
-        ensures { IfOk result (λ found. IfSome found (λ oids.
-            AreAllThatFit (over self.now).passes known.now slot row.now oids)) };
 }

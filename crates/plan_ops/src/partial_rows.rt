@@ -1,8 +1,9 @@
-ghost use Rattle.std.specs.Prelude.{◌≡◌, ◌+◌, ◌<◌, ◌≤◌, [], ◌∷◌, ◌++◌, length, map, reverse};
+ghost use Rattle.std.specs.Prelude.{◌≡◌, ℕ, ◌+◌, ◌<◌, ◌≤◌, [], ◌∷◌, ◌++◌, length, map, reverse};
 ghost use Rattle.std.specs.Prelude.{vec_len};
 ghost use Rattle.std.specs.Prelude.{slice_set, vec_capacity, OnOk, OnErr};
 ghost use Rattle.plan_ops.specs.Types.{RANGES};
-ghost use Rattle.plan_ops.specs.inside.Offers.{FillsSlot, IsReplaced, offered, partial_at};
+ghost use Rattle.plan_ops.specs.inside.Offers.{Fill, One, Keep, Reject};
+ghost use Rattle.plan_ops.specs.inside.Offers.{FillsSlot, IsReplaced, partial_at};
 
 use crate::offers::Offer;
 use index_traits::Row;
@@ -15,8 +16,9 @@ pub struct PartialRow {
     pub(crate) row: Row,
 }
 
-/// Replaces the last partial row by what a step makes of it, each before the step with this number,
-/// so that the rows that the offer gives first are the last. Where memory is refused all stays.
+/// Replaces the last partial row by what a step makes of it, each before the step with this
+/// number, so that the rows that the offer gives first are the last. Where memory is refused all
+/// stays.
 pub(crate) fn replace_last(
     partials: &mut Vec<PartialRow>,
     next: usize,
@@ -27,17 +29,69 @@ pub(crate) fn replace_last(
     ensures ok { OnOk result (IsReplaced next offer.entry partials.old.items partials.new.items) }
     ensures err { OnErr result (partials.new.items ≡ partials.old.items) }
 {
-    partials.reserve(offer.count())?;
+    match offer {
+        Offer::Fill { slot, oids } => fill_all(partials, next, slot, oids.as_slice()),
+        Offer::Lend { slot, oids } => fill_all(partials, next, slot, oids.as_slice()),
+        Offer::One { slot, oid } => Ok(fill_last(partials, next, slot, oid)),
+        Offer::Keep => Ok(keep_last(partials, next)),
+        Offer::Reject => Ok(drop_last(partials)),
+    }
+}
+
+// Replaces the last partial row by the row with each of the objects in the slot. Where memory is
+// refused all stays.
+fn fill_all(
+    partials: &mut Vec<PartialRow>,
+    next: usize,
+    slot: u32,
+    oids: &[Oid],
+) -> Result<(), NoMemory>
+    requires some { 0 < vec_len partials.old }
+    requires slot { slot < RANGES }
+    ensures ok { OnOk result (IsReplaced next (Fill slot oids.now) partials.old.items
+        partials.new.items) }
+    ensures err { OnErr result (partials.new.items ≡ partials.old.items) }
+{
+    partials.reserve(oids.len())?;
     let Some(PartialRow { row, .. }) = partials.pop() else {
         unreachable!();
     };
-    match offer {
-        Offer::Fill { slot, oids } => push_filled(partials, next, &row, slot, oids.as_slice()),
-        Offer::Lend { slot, oids } => push_filled(partials, next, &row, slot, oids.as_slice()),
-        Offer::Keep => push(partials, next, row),
-        Offer::Reject => {}
-    }
+    push_filled(partials, next, &row, slot, oids);
     Ok(())
+}
+
+// Puts the object into the slot of the last partial row, in place.
+fn fill_last(partials: &mut Vec<PartialRow>, next: usize, slot: u32, oid: Oid)
+    requires some { 0 < vec_len partials.old }
+    requires slot { slot < RANGES }
+    ensures { IsReplaced next (One slot oid) partials.old.items partials.new.items }
+{
+    let Some(last) = partials.last_mut() else {
+        unreachable!();
+    };
+    last.step = next;
+    last.row.set(slot, oid);
+}
+
+// Leaves the row of the last partial row as it is.
+fn keep_last(partials: &mut Vec<PartialRow>, next: usize)
+    requires { 0 < vec_len partials.old }
+    ensures { IsReplaced next Keep partials.old.items partials.new.items }
+{
+    let Some(last) = partials.last_mut() else {
+        unreachable!();
+    };
+    last.step = next;
+}
+
+// Takes the last partial row away.
+fn drop_last(partials: &mut Vec<PartialRow>)
+    requires { 0 < vec_len partials.old }
+    ensures { (next : ℕ) → IsReplaced next Reject partials.old.items partials.new.items }
+{
+    let Some(_) = partials.pop() else {
+        unreachable!();
+    };
 }
 
 // Puts the row behind the others. There is room.

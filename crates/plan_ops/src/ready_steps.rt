@@ -7,15 +7,25 @@ use crate::step_objects::selected;
 use index_traits::Paths;
 use lore_base::{Label, NoMemory, Oid, OidBuf, Op, Path, Value};
 use lorel_bound::{PlanStep, Start};
+use oem_labels::LabelTable;
 use product_walk::{Route, WayBack};
 use std::alloc::Global;
+use word_walks::{OnlyWord, only_word};
 
-/// A step of a plan whose path is made ready once, or the guide asked, and then taken for many rows.
+/// A step of a plan whose path is made ready once, or the guide asked, and then taken for many
+/// rows.
 #[derive(Drop)]
 pub(crate) enum ReadyStep<'a> {
     Forward {
         start: Start,
         route: Route<'a>,
+        slot: u32,
+    },
+    // Forward by a path that is plain labels one after another.
+    AlongWord {
+        start: Start,
+        path: &'a Path,
+        word: OnlyWord,
         slot: u32,
     },
     FromGuide {
@@ -51,6 +61,7 @@ impl<'a> ReadyStep<'a> {
     {
         match self {
             ReadyStep::Forward { slot, .. } => Some(*slot),
+            ReadyStep::AlongWord { slot, .. } => Some(*slot),
             ReadyStep::FromGuide { slot, .. } => Some(*slot),
             ReadyStep::FromValue { slot, .. } => Some(*slot),
             ReadyStep::Backward { parent, .. } => Some(*parent),
@@ -73,7 +84,7 @@ impl<'a> ReadyStep<'a> {
     pub(crate) fn walks_on(&self) -> bool {
         matches!(
             self,
-            ReadyStep::Forward { .. } | ReadyStep::FromGuide { .. }
+            ReadyStep::Forward { .. } | ReadyStep::AlongWord { .. } | ReadyStep::FromGuide { .. }
         )
     }
 }
@@ -82,15 +93,17 @@ impl<'a> ReadyStep<'a> {
 pub(crate) fn ready_steps<'a, P: Paths>(
     alloc: Global,
     paths: &P,
+    labels: &LabelTable,
     steps: &'a [PlanStep],
 ) -> Result<Vec<ReadyStep<'a>>, NoMemory>
     requires { All CanBeReady (map step_tree steps.now) }
     ensures trees { IfOk result (λ ready. map ready_tree ready.items ≡ map step_tree steps.now) }
-    ensures found { IfOk result (λ ready. All (HasFound (P.reaches paths.now)) ready.items) }
+    ensures found { IfOk result (λ ready.
+        All (HasFound labels.now (P.reaches paths.now)) ready.items) }
 {
     let mut ready = Vec::with_capacity(alloc, steps.len())?;
     'steps: for step in steps {
-        ready.push(ready_step(alloc, paths, step)?)?;
+        ready.push(ready_step(alloc, paths, labels, step)?)?;
     }
     Ok(ready)
 }
@@ -99,18 +112,27 @@ pub(crate) fn ready_steps<'a, P: Paths>(
 fn ready_step<'a, P: Paths>(
     alloc: Global,
     paths: &P,
+    labels: &LabelTable,
     step: &'a PlanStep,
 ) -> Result<ReadyStep<'a>, NoMemory>
     requires { CanBeReady (step_tree step.now) }
     ensures tree { IfOk result (λ ready. ready_tree ready ≡ step_tree step.now) }
-    ensures found { IfOk result (HasFound (P.reaches paths.now)) }
+    ensures found { IfOk result (HasFound labels.now (P.reaches paths.now)) }
 {
     match step {
-        PlanStep::Forward { start, path, slot } => Ok(ReadyStep::Forward {
-            start: *start,
-            route: Route::new(alloc, path)?,
-            slot: *slot,
-        }),
+        PlanStep::Forward { start, path, slot } => match only_word(alloc, path, labels)? {
+            Some(word) => Ok(ReadyStep::AlongWord {
+                start: *start,
+                path,
+                word,
+                slot: *slot,
+            }),
+            None => Ok(ReadyStep::Forward {
+                start: *start,
+                route: Route::new(alloc, path)?,
+                slot: *slot,
+            }),
+        },
         PlanStep::FromGuide { named, path, slot } => Ok(ReadyStep::FromGuide {
             named: *named,
             path,

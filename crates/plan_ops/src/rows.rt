@@ -1,24 +1,25 @@
-ghost use Rattle.std.specs.Prelude.{◌≡◌, ◌≢◌, ◌↔◌, ◌<◌, ◌≤◌, ◌⊎◌, List, length, All, AllPairs};
+ghost use Rattle.std.specs.Prelude.{◌≡◌, ◌≢◌, ◌↔◌, ◌<◌, ◌≤◌, ◌⊎◌, List, [], length, All};
+ghost use Rattle.std.specs.Prelude.{AllPairs};
 ghost use Rattle.std.specs.Prelude.{IfOk, IfSome, OnOk, OnErr};
 ghost use Rattle.lorel_bound.specs.Bound.{bound_tree};
 ghost use Rattle.lorel_bound.specs.Runnable.{IsRunnable};
 ghost use Rattle.lorel_bound.specs.Plans.{IsPlanOf, steps_of};
 ghost use Rattle.plan_ops.specs.Types.{Oid as TheOid, Value as TheValue};
-ghost use Rattle.plan_ops.specs.Steps.{steps_over, Agrees, IsSought};
+ghost use Rattle.plan_ops.specs.Steps.{steps_over, Agrees, Finishes, IsSought, in_eight};
 ghost use Rattle.plan_ops.specs.Rows.{IsToCome, AreSame, AnswersNext, AreQuiet, ReadNothing};
 ghost use Rattle.plan_ops.specs.Rows.{WalksOrTests};
 ghost use Rattle.plan_ops.specs.Rows.{HasTheSamePlan, work_left};
 
+use crate::kept::{Kept, none_kept};
 use crate::machine::next_row;
 use crate::partial_rows::PartialRow;
 use crate::ready_steps::{ReadyStep, ready_steps};
 use crate::sources::Sources;
-use crate::tallies::{Tally, no_tallies};
-use crate::told::{Told, none_asked};
 use index_traits::{Adjacent, Links, Paths, Row, RowTest, Values};
 use lore_base::{NoMemory, Steps};
 use lorel_bound::{Bound, Plan};
 use oem_labels::LabelTable;
+use row_hints::Learned;
 use std::alloc::Global;
 use std::marker::Model;
 use std::sync::ledger::Ledger;
@@ -30,8 +31,9 @@ pub struct Rows<'a, A: Adjacent, K: Links, V: Values, P: Paths, T: RowTest> {
     sources: Sources<'a, A, K, V, P, T>,
     plan: &'a Plan,
     ready: Vec<ReadyStep<'a>>,
-    told: Vec<Told>,
-    tallies: Vec<Tally>,
+    // What each step reached the last time that it was taken.
+    kept: Vec<Kept>,
+    learned: Learned,
     partials: Vec<PartialRow>,
 }
 
@@ -62,7 +64,9 @@ impl<'a, A: Adjacent, K: Links, V: Values, P: Paths, T: RowTest> Model for Rows<
         (steps_over rows.sources.labels.now (A.edges rows.sources.graph.now)
         (K.edges rows.sources.links.now) (V.entries rows.sources.values.now)
         (P.reaches rows.sources.paths.now) (T.passes rows.sources.test.now))
-        (steps_of rows.plan.now) rows.ready.items rows.told.items rows.partials.items };
+        (λ row. T.passes rows.sources.test.now row × T.passes rows.sources.hints.now row)
+        (steps_of rows.plan.now) rows.ready.items rows.kept.items rows.learned.told.items
+        rows.partials.items };
 }
 
 impl<'a, A: Adjacent, K: Links, V: Values, P: Paths, T: RowTest> Rows<'a, A, K, V, P, T> {
@@ -107,10 +111,60 @@ impl<'a, A: Adjacent, K: Links, V: Values, P: Paths, T: RowTest> Rows<'a, A, K, 
             IfOk result (λ rows. AreQuiet over (steps_of rows.plan)
             → ReadNothing over (steps_of rows.plan) rows.partials) }
     {
+        Rows::with_hints(
+            alloc, graph, links, values, paths, test, test, None, bound, plan, labels,
+        )
+    }
+
+    /// The same with hints: another test, which each row that comes of the plan passes where it
+    /// passes the test. It is asked which objects fit a slot where the test tells none; and, as long
+    /// as no slot from `late` on is filled, whether a row is ruled out. From then on the test is asked
+    /// that, and of a whole row the test alone. Without `late` the hints are never asked. Both decide
+    /// what is left out early, and not which rows come.
+    pub fn with_hints(
+        alloc: Global,
+        graph: &'a A,
+        links: &'a K,
+        values: &'a V,
+        paths: &'a P,
+        test: &'a T,
+        hints: &'a T,
+        late: Option<u32>,
+        bound: &'a Bound,
+        plan: &'a Plan,
+        labels: &'a LabelTable,
+    ) -> Result<Rows<'a, A, K, V, P, T>, NoMemory>
+        requires runnable { IsRunnable (bound_tree bound.now) }
+        requires plan { IsPlanOf labels.now (bound_tree bound.now) plan.now }
+        requires hints { let over = steps_over labels.now (A.edges graph.now) (K.edges links.now)
+            (V.entries values.now) (P.reaches paths.now) (T.passes test.now) in
+            (row : List TheOid) → Finishes over (steps_of plan.now) (in_eight []) row
+            → T.passes test.now row → T.passes hints.now row }
+        ensures over { IfOk result (λ rows. (rows.graph ≡ graph.now) × (rows.links ≡ links.now)
+            × (rows.values ≡ values.now) × (rows.paths ≡ paths.now) × (rows.test ≡ test.now)
+            × (rows.labels ≡ labels.now) × (rows.plan ≡ plan.now)) }
+        ensures rows { let over = steps_over labels.now (A.edges graph.now) (K.edges links.now)
+            (V.entries values.now) (P.reaches paths.now) (T.passes test.now) in
+            let sought = IsSought labels.now (A.edges graph.now) (T.passes test.now)
+            (bound_tree bound.now) in
+            IfOk result (λ rows. (objects : List (TheOid × TheValue))
+            → Agrees over objects (bound_tree bound.now)
+            → AreSame sought (IsToCome over (steps_of rows.plan) rows.partials)) }
+        ensures top { let over = steps_over labels.now (A.edges graph.now) (K.edges links.now)
+            (V.entries values.now) (P.reaches paths.now) (T.passes test.now) in
+            let sought = IsSought labels.now (A.edges graph.now) (T.passes test.now)
+            (bound_tree bound.now) in
+            IfOk result (λ rows. All WalksOrTests (steps_of plan.now)
+            → AreSame sought (IsToCome over (steps_of rows.plan) rows.partials)) }
+        ensures quiet { let over = steps_over labels.now (A.edges graph.now) (K.edges links.now)
+            (V.entries values.now) (P.reaches paths.now) (T.passes test.now) in
+            IfOk result (λ rows. AreQuiet over (steps_of rows.plan)
+            → ReadNothing over (steps_of rows.plan) rows.partials) }
+    {
         note_distinct(labels);
-        let ready = ready_steps(alloc, paths, plan.steps.as_slice())?;
-        let told = none_asked(alloc)?;
-        let tallies = no_tallies(alloc)?;
+        let ready = ready_steps(alloc, paths, labels, plan.steps.as_slice())?;
+        let kept = none_kept(alloc, ready.len())?;
+        let learned = Learned::new(alloc)?;
         let mut partials = Vec::new(alloc);
         partials.push(PartialRow {
             step: 0,
@@ -122,14 +176,16 @@ impl<'a, A: Adjacent, K: Links, V: Values, P: Paths, T: RowTest> Rows<'a, A, K, 
             values,
             paths,
             test,
+            hints,
+            late,
             labels,
         };
         Ok(Rows {
             sources,
             plan,
             ready,
-            told,
-            tallies,
+            kept,
+            learned,
             partials,
         })
     }
@@ -169,8 +225,8 @@ impl<'a, A: Adjacent, K: Links, V: Values, P: Paths, T: RowTest> Rows<'a, A, K, 
             alloc,
             &self.sources,
             self.ready.as_slice(),
-            &mut self.told,
-            &mut self.tallies,
+            &mut self.kept,
+            &mut self.learned,
             &mut self.partials,
             steps,
         )

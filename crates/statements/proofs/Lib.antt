@@ -4,6 +4,7 @@ pub mod ObjectRowLaws
 pub mod SlotLaws
 pub mod SelectLaws
 pub mod StageLaws
+pub mod HintedLaws
 pub mod SomeReadLaws
 pub mod LabelFitLaws
 pub mod LiteralLaws

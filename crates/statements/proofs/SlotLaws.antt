@@ -113,7 +113,7 @@ slots_alike labels edges slots more path within objects oid =
         let same = slice_get-front slots more slot within in (λ h. sym same ∙ h, λ h. same ∙ h)
     bound_in_front slots more (bound_starts.Quantified depth) oid objects within = (λ h. h, λ h. h)
 
-holds_in_front : (labels : List (List ℕ)) (edges : List Edge) (objects : List (Oid × Value)) (slots more : List Oid) (condition : Option (CondOf BoundPathTree))
+pub holds_in_front : (labels : List (List ℕ)) (edges : List Edge) (objects : List (Oid × Value)) (slots more : List Oid) (condition : Option (CondOf BoundPathTree))
     → All (λ path. IsBoundWithin (length slots) path.start) (paths_in condition)
     → HoldsOver labels edges objects (slots ++ more) condition ↔ HoldsOver labels edges objects slots condition
 holds_in_front labels edges objects slots more None within = (λ h. h, λ h. h)

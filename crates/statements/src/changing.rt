@@ -46,10 +46,11 @@ pub struct PlannedChange {
 }
 
 /// Works out what a statement that lists changes makes of the database, which stays as it is: its
-/// changes are made, and what no name walks to then vanishes. Refused is what a statement is refused for
-/// (`Cause`). No step is counted for numbers out of range by which objects were to be generated. For a
-/// load, a name that is taken away and generated objects no more is read than four times the work of
-/// their changes, and nothing where they are refused before these are prepared.
+/// changes are made, and what no name walks to then vanishes. Refused is what a statement is
+/// refused for (`Cause`). No step is counted for numbers out of range by which objects were to be
+/// generated. For a load, a name that is taken away and generated objects no more is read than
+/// four times the work of their changes, and nothing where they are refused before these are
+/// prepared.
 pub fn planned<L: Ledger>(
     alloc: Global,
     store: &Store,

@@ -19,11 +19,11 @@ use lorel_trees::Statement;
 use std::alloc::Global;
 use std::sync::ledger::Ledger;
 
-/// Executes a statement that lists no changes, and keeps and asks none of a history, views and blocks.
-/// A refusal, and want of memory, leave the database as it was. No step is counted for a statement that
-/// shows a plan, the guide, or where a label path leads, or sets something, and for a select for which
-/// no edge is read: where the guide tells all and no cell shows a word, or no value is found to begin
-/// with.
+/// Executes a statement that lists no changes, and keeps and asks none of a history, views and
+/// blocks. A refusal, and want of memory, leave the database as it was. No step is counted for a
+/// statement that shows a plan, the guide, or where a label path leads, or sets something, and for
+/// a select for which no edge is read: where the guide tells all and no cell shows a word, or no
+/// value is found to begin with.
 pub fn execute<L: Ledger>(
     alloc: Global,
     store: &mut Store,

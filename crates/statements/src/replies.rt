@@ -19,9 +19,9 @@ pub enum Reply {
         moment: u32,
         answer: Answer,
     },
-    /// The plan of a select: its kind; how many objects have a value that its comparison asks for; and
-    /// how many the comparison's range reaches from the name. Both are None where it can have no plan
-    /// from the bottom.
+    /// The plan of a select: its kind; how many objects have a value that its comparison asks for;
+    /// and how many the comparison's range reaches from the name. Both are None where it can have
+    /// no plan from the bottom.
     PlanShown {
         kind: PlanKind,
         candidates: Option<u32>,

@@ -1,17 +1,20 @@
-ghost use Rattle.std.specs.Prelude.{◌≡◌, ◌≢◌, ◌≤◌, ◌⊎◌, map, All, option_map};
+ghost use Rattle.std.specs.Prelude.{◌≡◌, ◌≢◌, ◌≤◌, ◌⊎◌, ◌↔◌, List, [], map, All, AllPairs};
+ghost use Rattle.std.specs.Prelude.{option_map};
 ghost use Rattle.std.specs.Prelude.{IsTrue, IfOk, IfErr, IfSome};
 ghost use Rattle.std.specs.Option.{option_copied};
 ghost use Rattle.lorel_bound.specs.Bound.{bound_cond, bound_tree};
 ghost use Rattle.lorel_bound.specs.Conditions.{paths_in};
 ghost use Rattle.lorel_bound.specs.Runnable.{IsRunnable};
 ghost use Rattle.lorel_bound.specs.Plans.{IsPlanOf, IsCandidate, filter, step_tree, steps_of};
-ghost use Rattle.plan_ops.specs.Steps.{Agrees};
+ghost use Rattle.lorel_bound.specs.SlotRows.{HoldsOver};
+ghost use Rattle.plan_ops.specs.Steps.{Agrees, Finishes, steps_over, in_eight};
 ghost use Rattle.plan_ops.specs.Rows.{WalksOrTests, IsGuided};
 ghost use Rattle.plan_ops.specs.inside.Ready.{CanBeReady};
 ghost use Rattle.index_traits.specs.Entries.{IsProbed};
 ghost use Rattle.lorel_eval.specs.Tests.{rest_leaves};
 ghost use Rattle.index_eval.specs.Indexes.{AreIndexes};
 ghost use Rattle.answers.specs.Asked.{AreRows, AreTooMany};
+ghost use Rattle.select_hints.specs.Hints.{AreHints};
 ghost use Rattle.statements.specs.Types.{Oid as TheOid, Complex, LEAVES};
 ghost use Rattle.statements.specs.Types.refusals;
 ghost use Rattle.statements.specs.Stops.{told, OnReply};
@@ -19,12 +22,13 @@ ghost use Rattle.statements.specs.inside.Views.{view_over, IsRowOf, ReadsNone, R
 
 use crate::stops::Stop;
 use answers::all_rows;
-use index_eval::{IndexedTest, may_be_listed};
-use index_traits::{Adjacent, Links, Paths, ValueOf, Values};
+use index_eval::{IndexedTest, Pace, may_be_listed};
+use index_traits::{Adjacent, Links, Paths, RowTest, ValueOf, Values};
 use lore_base::{Label, NoMemory, Op, Refusal, Steps, Value};
 use lorel_bound::{Answer, Bound, BoundCond, Plan, PlanStep};
 use oem_labels::LabelTable;
 use plan_ops::Rows;
+use select_hints::{hints_for, late_from};
 use std::alloc::Global;
 use std::sync::ledger::Ledger;
 
@@ -80,11 +84,165 @@ pub(crate) fn rows_over<G: Adjacent + ValueOf, K: Links, V: Values, P: Paths, L:
         OnReply result (ReadsNone over (bound_tree bound.now) (steps_of plan.now)
         → steps.new ≡ steps.old) }
 {
+    let Some(hints) = hints_of(alloc, view, bound)? else {
+        return rows_by(alloc, view, bound, plan, steps);
+    };
+    let found = rows_hinted(alloc, view, bound, &hints, plan, steps);
+    // A drop that is written out is proved once; else it is proved in this function, at length.
+    drop(hints);
+    found
+}
+
+// The condition with hints; None where there are none, where no index tells by them which objects
+// fit, and where rows may be looked up.
+fn hints_of<G, K, V, P>(
+    alloc: Global,
+    view: &View<'_, G, K, V, P>,
+    bound: &Bound,
+) -> Result<Option<BoundCond>, NoMemory>
+    requires { IsRunnable (bound_tree bound.now) }
+    ensures hints { IfOk result (λ found. IfSome found (λ hints.
+        AreHints (bound_tree bound.now) (bound_cond hints))) }
+    ensures indexed { IfOk result (λ found. IfSome found (λ hints. IsTrue view.now.indexed)) }
+{
+    if !view.indexed {
+        return Ok(None);
+    }
+    // A hint could be taken in place of the member that rows are looked up by.
+    if takes_long_walks(bound.cond.as_ref()) {
+        return Ok(None);
+    }
+    hints_for(alloc, bound)
+}
+
+/// Whether objects for which the condition holds may be listed, in place of a long walk from each.
+pub(crate) fn takes_long_walks(cond: Option<&BoundCond>) -> bool {
+    match cond {
+        Some(cond) => may_be_listed(cond),
+        None => false,
+    }
+}
+
+// The rows of `rows_over` by the condition alone.
+fn rows_by<G: Adjacent + ValueOf, K: Links, V: Values, P: Paths, L: Ledger>(
+    alloc: Global,
+    view: &View<'_, G, K, V, P>,
+    bound: &Bound,
+    plan: &Plan,
+    steps: &mut Steps<L>,
+) -> Result<Answer, Stop>
+    requires runnable { IsRunnable (bound_tree bound.now) }
+    requires planned { IsPlanOf view.now.labels.now (bound_tree bound.now) plan.now }
+    requires indexed { IsTrue view.now.indexed → AreIndexes (G.objects view.now.graph.now)
+        (G.edges view.now.graph.now) (K.edges view.now.links.now) (V.entries view.now.values.now) }
+    requires fits { let over = view_over view.now.labels.now (G.edges view.now.graph.now)
+        (G.objects view.now.graph.now) (K.edges view.now.links.now) (V.entries view.now.values.now)
+        (P.reaches view.now.paths.now) (bound_tree bound.now) in
+        All WalksOrTests (steps_of plan.now)
+        ⊎ Agrees over (G.objects view.now.graph.now) (bound_tree bound.now) }
+    ensures rows { let asked = IsRowOf view.now.labels.now (G.edges view.now.graph.now)
+        (G.objects view.now.graph.now) (bound_tree bound.now) in
+        IfOk result (AreRows asked) }
+    ensures refused { let asked = IsRowOf view.now.labels.now (G.edges view.now.graph.now)
+        (G.objects view.now.graph.now) (bound_tree bound.now) in
+        IfErr result (λ stop. IfSome (told stop) (λ refusal.
+        (refusal ≡ refusals.TooManyRows) × AreTooMany asked)) }
+    ensures quiet { let over = view_over view.now.labels.now (G.edges view.now.graph.now)
+        (G.objects view.now.graph.now) (K.edges view.now.links.now) (V.entries view.now.values.now)
+        (P.reaches view.now.paths.now) (bound_tree bound.now) in
+        OnReply result (ReadsNone over (bound_tree bound.now) (steps_of plan.now)
+        → steps.new ≡ steps.old) }
+{
+    let pace = Pace::new();
+    let test = test_over(alloc, view, bound.cond.as_ref(), plan, &pace, steps)?;
+    answer_by(alloc, view, &test, &test, None, bound, plan, steps)
+}
+
+// The same with hints.
+fn rows_hinted<G: Adjacent + ValueOf, K: Links, V: Values, P: Paths, L: Ledger>(
+    alloc: Global,
+    view: &View<'_, G, K, V, P>,
+    bound: &Bound,
+    hints: &BoundCond,
+    plan: &Plan,
+    steps: &mut Steps<L>,
+) -> Result<Answer, Stop>
+    requires runnable { IsRunnable (bound_tree bound.now) }
+    requires planned { IsPlanOf view.now.labels.now (bound_tree bound.now) plan.now }
+    requires indexed { AreIndexes (G.objects view.now.graph.now) (G.edges view.now.graph.now)
+        (K.edges view.now.links.now) (V.entries view.now.values.now) }
+    requires hints { AreHints (bound_tree bound.now) (bound_cond hints.now) }
+    requires fits { let over = view_over view.now.labels.now (G.edges view.now.graph.now)
+        (G.objects view.now.graph.now) (K.edges view.now.links.now) (V.entries view.now.values.now)
+        (P.reaches view.now.paths.now) (bound_tree bound.now) in
+        All WalksOrTests (steps_of plan.now)
+        ⊎ Agrees over (G.objects view.now.graph.now) (bound_tree bound.now) }
+    ensures rows { let asked = IsRowOf view.now.labels.now (G.edges view.now.graph.now)
+        (G.objects view.now.graph.now) (bound_tree bound.now) in
+        IfOk result (AreRows asked) }
+    ensures refused { let asked = IsRowOf view.now.labels.now (G.edges view.now.graph.now)
+        (G.objects view.now.graph.now) (bound_tree bound.now) in
+        IfErr result (λ stop. IfSome (told stop) (λ refusal.
+        (refusal ≡ refusals.TooManyRows) × AreTooMany asked)) }
+    ensures quiet { let over = view_over view.now.labels.now (G.edges view.now.graph.now)
+        (G.objects view.now.graph.now) (K.edges view.now.links.now) (V.entries view.now.values.now)
+        (P.reaches view.now.paths.now) (bound_tree bound.now) in
+        OnReply result (ReadsNone over (bound_tree bound.now) (steps_of plan.now)
+        → steps.new ≡ steps.old) }
+{
+    let (graph, labels, links, values) = (view.graph, view.labels, view.links, view.values);
+    note_distinct(labels);
+    let pace = Pace::new();
+    let cond = bound.cond.as_ref();
+    let test = IndexedTest::new(alloc, cond, graph, labels, links, values, &pace)?;
+    // Hints that compare what two paths reach would be tested by all pairs of it.
+    let early = IndexedTest::for_hints(alloc, Some(hints), graph, labels, links, values, &pace)?;
+    let late = Some(late_from(bound, hints));
+    answer_by(alloc, view, &test, &early, late, bound, plan, steps)
+}
+
+// The rows that pass a test of the condition, with hints, which each of them passes.
+fn answer_by<G: Adjacent + ValueOf, K: Links, V: Values, P: Paths, T: RowTest, L: Ledger>(
+    alloc: Global,
+    view: &View<'_, G, K, V, P>,
+    test: &T,
+    hints: &T,
+    late: Option<u32>,
+    bound: &Bound,
+    plan: &Plan,
+    steps: &mut Steps<L>,
+) -> Result<Answer, Stop>
+    requires runnable { IsRunnable (bound_tree bound.now) }
+    requires planned { IsPlanOf view.now.labels.now (bound_tree bound.now) plan.now }
+    requires passes { (row : List TheOid) → T.passes test.now row ↔ HoldsOver view.now.labels.now
+        (G.edges view.now.graph.now) (G.objects view.now.graph.now) row (bound_tree bound.now).cond }
+    requires hints { let over = steps_over view.now.labels.now (G.edges view.now.graph.now)
+        (K.edges view.now.links.now) (V.entries view.now.values.now) (P.reaches view.now.paths.now)
+        (T.passes test.now) in
+        (row : List TheOid) → Finishes over (steps_of plan.now) (in_eight []) row
+        → T.passes test.now row → T.passes hints.now row }
+    requires fits { let over = view_over view.now.labels.now (G.edges view.now.graph.now)
+        (G.objects view.now.graph.now) (K.edges view.now.links.now) (V.entries view.now.values.now)
+        (P.reaches view.now.paths.now) (bound_tree bound.now) in
+        All WalksOrTests (steps_of plan.now)
+        ⊎ Agrees over (G.objects view.now.graph.now) (bound_tree bound.now) }
+    ensures rows { let asked = IsRowOf view.now.labels.now (G.edges view.now.graph.now)
+        (G.objects view.now.graph.now) (bound_tree bound.now) in
+        IfOk result (AreRows asked) }
+    ensures refused { let asked = IsRowOf view.now.labels.now (G.edges view.now.graph.now)
+        (G.objects view.now.graph.now) (bound_tree bound.now) in
+        IfErr result (λ stop. IfSome (told stop) (λ refusal.
+        (refusal ≡ refusals.TooManyRows) × AreTooMany asked)) }
+    ensures quiet { let over = view_over view.now.labels.now (G.edges view.now.graph.now)
+        (G.objects view.now.graph.now) (K.edges view.now.links.now) (V.entries view.now.values.now)
+        (P.reaches view.now.paths.now) (bound_tree bound.now) in
+        OnReply result (ReadsNone over (bound_tree bound.now) (steps_of plan.now)
+        → steps.new ≡ steps.old) }
+{
     let (graph, labels) = (view.graph, view.labels);
     let (links, values, paths) = (view.links, view.values, view.paths);
-    let test = test_over(alloc, view, bound.cond.as_ref(), plan, steps)?;
-    let mut rows = Rows::new(
-        alloc, graph, links, values, paths, &test, bound, plan, labels,
+    let mut rows = Rows::with_hints(
+        alloc, graph, links, values, paths, test, hints, late, bound, plan, labels,
     )?;
     match all_rows(alloc, &mut rows, bound, graph, labels, steps)? {
         Some(answer) => Ok(answer),
@@ -92,16 +250,24 @@ pub(crate) fn rows_over<G: Adjacent + ValueOf, K: Links, V: Values, P: Paths, L:
     }
 }
 
+// The texts of a table of labels are distinct. Nothing is done.
+fn note_distinct(labels: &LabelTable)
+    ensures { AllPairs (λ a b. a ≢ b) labels.now }
+{
+    let _count = labels.len();
+}
+
 // The test of a condition, with the help of the indexes where they are those of the graph. Where
 // many rows are to be tested, the objects of a member that takes long walks are listed once. No
 // step is counted where the plan reads no edge.
-fn test_over<'a, G: Adjacent + ValueOf, K: Links, V: Values, P: Paths, L: Ledger>(
+fn test_over<'a, 'p, G: Adjacent + ValueOf, K: Links, V: Values, P: Paths, L: Ledger>(
     alloc: Global,
     view: &View<'a, G, K, V, P>,
     cond: Option<&'a BoundCond>,
     plan: &Plan,
+    pace: &'p Pace,
     steps: &mut Steps<L>,
-) -> Result<IndexedTest<'a, G, K, V>, NoMemory>
+) -> Result<IndexedTest<'a, 'p, G, K, V>, NoMemory>
     requires leaves { rest_leaves (paths_in (option_map bound_cond (option_copied cond))) ≤ LEAVES }
     requires ready { All CanBeReady (steps_of plan.now) }
     requires indexed { IsTrue view.now.indexed → AreIndexes (G.objects view.now.graph.now)
@@ -115,12 +281,12 @@ fn test_over<'a, G: Adjacent + ValueOf, K: Links, V: Values, P: Paths, L: Ledger
 {
     let (graph, labels, links, values) = (view.graph, view.labels, view.links, view.values);
     if !view.indexed {
-        return IndexedTest::plain(alloc, cond, graph, labels, links, values);
+        return IndexedTest::plain(alloc, cond, graph, labels, links, values, pace);
     }
     if tests_many(alloc, view, cond, plan)? {
-        return IndexedTest::listed(alloc, cond, graph, labels, links, values, steps);
+        return IndexedTest::listed(alloc, cond, graph, labels, links, values, pace, steps);
     }
-    IndexedTest::new(alloc, cond, graph, labels, links, values)
+    IndexedTest::new(alloc, cond, graph, labels, links, values, pace)
 }
 
 // Whether many rows may be tested of a condition with a member whose objects may be listed.
@@ -134,10 +300,7 @@ fn tests_many<G, K, V: Values, P: Paths>(
     ensures { IfOk result (λ answer. IsTrue answer
         → ReadsSome (V.entries view.now.values.now) (steps_of plan.now)) }
 {
-    let Some(cond) = cond else {
-        return Ok(false);
-    };
-    if !may_be_listed(cond) {
+    if !takes_long_walks(cond) {
         return Ok(false);
     }
     begins_with_many(alloc, view.values, view.paths, plan.steps.as_slice())

@@ -23,15 +23,14 @@ ghost use Rattle.statements.specs.inside.Stages.{ReadCause, bind_order, read_ord
 ghost use Rattle.answers.specs.Asked.{AreRows, AreTooMany};
 
 use crate::replies::Reply;
-use crate::rows::{View, rows_over};
+use crate::rows::{View, rows_over, takes_long_walks};
 use crate::stops::Stop;
 use guide_query::GuidePaths;
-use index_eval::may_be_listed;
 use index_traits::{Adjacent, Paths, ValueOf};
 use lore_base::{Names, NoMemory, Steps};
 use lore_store::Store;
 use lorel_bind::bind;
-use lorel_bound::{Answer, Bound, BoundCond, Plan, PlanKind};
+use lorel_bound::{Answer, Bound, Plan, PlanKind};
 use lorel_trees::Select;
 use planner::{choose, forward_plan, guided_plan};
 use std::alloc::Global;
@@ -168,8 +167,8 @@ pub(crate) fn found<L: Ledger>(
 }
 
 // Whether the indexes may help to carry out the plan: there are further ranges to be joined; or the
-// condition takes long walks; or the plan doesn't begin with values as it is, and as far as was counted
-// the range that a comparison reads has more than a few objects.
+// condition takes long walks; or the plan doesn't begin with values as it is, and as far as was
+// counted the range that a comparison reads has more than a few objects.
 fn can_help(bound: &Bound, plan: &Plan) -> bool {
     if bound.ranges.len() > 1 {
         return true;
@@ -183,17 +182,9 @@ fn can_help(bound: &Bound, plan: &Plan) -> bool {
     }
 }
 
-// Whether objects for which the condition holds may be listed, in place of a long walk from each.
-fn takes_long_walks(cond: Option<&BoundCond>) -> bool {
-    match cond {
-        Some(cond) => may_be_listed(cond),
-        None => false,
-    }
-}
-
-/// The rows of a select over a graph with these names, whose labels are in the store's table: they are
-/// found from the names alone. Refused is what a select over these names and this graph is refused
-/// for.
+/// The rows of a select over a graph with these names, whose labels are in the store's table: they
+/// are found from the names alone. Refused is what a select over these names and this graph is
+/// refused for.
 pub fn select_over<G: Adjacent + ValueOf, L: Ledger>(
     alloc: Global,
     store: &Store,
@@ -217,8 +208,8 @@ pub fn select_over<G: Adjacent + ValueOf, L: Ledger>(
     found
 }
 
-// The rows of a bound select over the graph. The store's links, values and paths are of the present: a
-// plan from names asks nothing of them.
+// The rows of a bound select over the graph. The store's links, values and paths are of the
+// present: a plan from names asks nothing of them.
 fn found_over<G: Adjacent + ValueOf, L: Ledger>(
     alloc: Global,
     store: &Store,
@@ -248,9 +239,9 @@ fn found_over<G: Adjacent + ValueOf, L: Ledger>(
     rows_over(alloc, &view, bound, &plan, steps)
 }
 
-/// The rows of a select by the plan that mode guided chooses, where what paths reach is told by these
-/// in place of the guide. Refused is what a select is refused for. No step is counted where there is at
-/// most one range, no condition, and no cell that shows a word.
+/// The rows of a select by the plan that mode guided chooses, where what paths reach is told by
+/// these in place of the guide. Refused is what a select is refused for. No step is counted where
+/// there is at most one range, no condition, and no cell that shows a word.
 pub fn select_by<P: Paths, L: Ledger>(
     alloc: Global,
     store: &Store,

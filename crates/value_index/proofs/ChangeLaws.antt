@@ -1,28 +1,29 @@
 -- What becomes of values and orders, and of the list of entries that they stand for, where entries go and come.
-use Rattle.std.proofs.Common.{◌≡◌, ◌≢◌, ◌↔◌, ◌⊎◌, ◌<◌, ◌^◌, ◌||◌, inl, inr, Bool, true, false, not, Equal, List, map, length, All, Contains, subst, refl, sym, ap, ◌∙◌}
-use Rattle.std.proofs.lemmas.Bool.{true≢false, false_from_ne_true, or_left, or_right, or_parts}
+use Rattle.std.proofs.Common.{◌≡◌, ◌≢◌, ◌↔◌, ◌⊎◌, ◌<◌, ◌^◌, ◌||◌, inl, inr, Bool, true, false, not, Less, Equal, List, length, All, Contains, subst, refl, sym, ap, ◌∙◌}
+use Rattle.std.proofs.lemmas.Bool.{true≢false, false_from_ne_true, or_right}
 use Rattle.std.proofs.lemmas.Cmp.{tied_itself}
 use Rattle.std.proofs.lemmas.List.Elements.{All-contains}
+use Rattle.std.proofs.lemmas.List.Kept.{AllPairs-filter}
 use Rattle.list_laws.proofs.MemberLaws.{All-from_members, Contains-map, Contains-from_map}
 use Rattle.lore_base.specs.Databases.{IsLive}
-use Rattle.lore_base.proofs.MemberLaws.{Contains-none, Contains-same, Contains-filter, unfiltered}
+use Rattle.lore_base.proofs.MemberLaws.{Contains-same, Contains-filter, unfiltered}
 use Rattle.index_traits.specs.Entries.{AreAscendingEntries, entry_of, entry_cmp}
 use Rattle.index_traits.proofs.ObjectLaws.{told_live, entry_cmp_total}
-use Rattle.sorted_list.specs.SortedLists.{IsThen, IsChange, IsLessWith}
-use Rattle.value_index.specs.Types.{Oid, Label, Value, Whole, Chars, Flag, Complex, ValueEntry, Entry, Kind, Wholes, Texts, Flags, Readings, FlagReadings}
+use Rattle.sorted_list.specs.SortedLists.{IsThen, IsLessWith}
+use Rattle.value_index.specs.Types.{Oid, Label, Value, Whole, Chars, Flag, Complex, ValueEntry, Entry, Kind}
 use Rattle.value_index.specs.Values.{FitsEntries}
-use Rattle.value_index.specs.inside.Kinds.{is_of, own_kind}
-use Rattle.value_index.specs.inside.Held.{AscendByObject, held, has_value, ArePut, less_objects}
-use Rattle.value_index.specs.inside.Entries.{naming, entry_in, held_of, HasOneValueIn, AreHeldIn, names, own_entries}
-use Rattle.value_index.specs.inside.EntryOrder.{AscendByValue}
-use Rattle.value_index.specs.inside.Leaving.{is_staying, leaving_of}
-use Rattle.value_index.specs.inside.Orders.{Orders, orders_of, order_at, entries_at, AreOrders, in_order, AreSortedOrders, AreCountedOrders}
-use Rattle.value_index.proofs.CompareLaws.{of_own, of_atomic, own_of}
-use Rattle.value_index.proofs.KeyLaws.{same_naming, ascend-as}
-use Rattle.value_index.proofs.HeldLaws.{held-member, live-has, has-live, one_object, less-kept, less-from, leaving-ascends}
+use Rattle.value_orders.specs.Kinds.{is_of, own_kind}
+use Rattle.value_orders.specs.Held.{object_cmp, AscendByObject, held, has_value, ArePut, less_objects}
+use Rattle.value_orders.specs.Entries.{entry_in, held_of, AreHeldIn}
+use Rattle.value_orders.specs.inside.Naming.{naming}
+use Rattle.value_index.specs.inside.Leaving.{names, own_entries, is_staying, leaving_of}
+use Rattle.value_orders.specs.Orders.{Orders, orders_of, order_at, entries_at, AreOrders, in_order}
+use Rattle.value_orders.proofs.KindLaws.{own_of}
+use Rattle.value_orders.proofs.KeyLaws.{same_naming}
+use Rattle.value_orders.proofs.HeldLaws.{held-member, has-live, one_object, less-kept, less-from}
 use Rattle.value_index.proofs.NameLaws.{names-from, names-to}
-use Rattle.value_index.proofs.EntryLaws.{same_of_equal}
-use Rattle.value_index.proofs.OrderLaws.{ascend-in_order, in_order-exact, orders-like, atomic-in_order, one-in_order, kind-ascends}
+use Rattle.value_orders.proofs.EntryLaws.{same_of_equal}
+use Rattle.value_orders.proofs.OrderLaws.{ascend-in_order, in_order-exact, orders-like}
 
 -- an entry that has one value by both lists
 entry-as : (old new : List (Oid × Value)) (entry : Entry) → held new entry.object ≡ held old entry.object → entry_in new entry ≡ entry_in old entry
@@ -39,6 +40,12 @@ own-order orders Complex atomic = absurd (atomic refl)
 told_true : (b : Bool) → (b ≡ false → ⊥) → b ≡ true
 told_true true other = refl
 told_true false other = absurd (other refl)
+
+-- those that leave ascend
+pub leaving-ascends : (come : List (Oid × Value)) (wholes texts flags : List Entry) (gone : List (Oid × Value)) → AscendByObject gone
+    → AscendByObject (leaving_of come wholes texts flags gone)
+leaving-ascends come wholes texts flags gone ascend =
+    AllPairs-filter (λ (a b : Oid × Value). object_cmp a b ≡ Less) (λ object. not (is_staying come wholes texts flags object)) gone ascend
 
 -- ---- entries go
 

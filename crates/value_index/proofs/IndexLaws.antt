@@ -1,26 +1,31 @@
 -- How many objects an index finds, in which list it puts them, and what a change makes of it.
-use Rattle.std.proofs.Common.{◌≡◌, ◌≢◌, ◌↔◌, ◌⊎◌, ◌<◌, ◌^◌, inl, ℕ, List, ◌++◌, length, take, drop, nat_cmp, All, Contains, subst, sym, ap, ◌∙◌, arith}
+use Rattle.std.proofs.Common.{◌≡◌, ◌≢◌, ◌↔◌, ◌⊎◌, ◌<◌, ◌^◌, inl, ℕ, List, [], ◌++◌, length, take, drop, nat_cmp, All, Contains, subst, sym, ap, ◌∙◌, arith}
 use Rattle.std.specs.List.Sorted.{IsPermutation, IsSorted}
 use Rattle.std.proofs.lemmas.List.{take_at, drop_at, take-append-drop}
 use Rattle.std.proofs.lemmas.List.Elements.{All-contains}
 use Rattle.list_laws.proofs.MemberLaws.{All-from_members}
 use Rattle.lore_base.specs.Lists.{ExtendsBy}
 use Rattle.lore_base.specs.TargetSets.{ListsInOrder}
-use Rattle.index_traits.specs.Entries.{AreAscendingEntries, IsProbed, IsFound}
+use Rattle.index_traits.specs.Entries.{IsProbed, IsFound}
 use Rattle.sorted_list.specs.SortedLists.{IsLessWith, AreWithout, AreJoined}
 use Rattle.value_index.specs.Types.{Oid, Label, Value, Complex, Op, ValueEntry, Entry, Kind, Wholes, Texts, Flags, Readings, FlagReadings}
 use Rattle.value_index.specs.Values.{FitsEntries}
-use Rattle.value_index.specs.inside.Held.{AscendByObject, ArePut, less_objects}
-use Rattle.value_index.specs.inside.Entries.{HasOneValueIn}
-use Rattle.value_index.specs.inside.EntryOrder.{entry_order, AscendByValue}
+use Rattle.value_orders.specs.Held.{ArePut, less_objects}
+use Rattle.value_orders.specs.Entries.{HasOneValueIn}
+use Rattle.value_orders.specs.EntryOrder.{entry_order, AscendByValue}
 use Rattle.value_index.specs.inside.Leaving.{leaving_of}
-use Rattle.value_index.specs.inside.Orders.{Orders, orders_of, order_at, AreSortedOrders, AreCountedOrders, in_order}
+use Rattle.value_orders.specs.Orders.{Orders, orders_of, order_at, AreSortedOrders, in_order}
+use Rattle.value_index.specs.inside.Counted.{AreCountedOrders}
 use Rattle.value_index.specs.inside.Runs.{run_at, ListsOnce, objects_in}
 use Rattle.value_index.proofs.ProbeLaws.{AreAnswers, answers-find}
 use Rattle.value_index.proofs.CountLaws.{few_found, sorted_once}
-use Rattle.value_index.proofs.KeyLaws.{ascend-as}
-use Rattle.value_index.proofs.OrderLaws.{each_kind, ascend-in_order, atomic-in_order, one-in_order, kind-ascends}
+use Rattle.value_orders.proofs.KeyLaws.{ascend-as}
+use Rattle.value_orders.proofs.OrderLaws.{none-sorted, ascend-in_order, atomic-in_order, one-in_order, kind-ascends}
 use Rattle.value_index.proofs.ChangeLaws.{comes-as, stays-as, all-new, orders-less, orders-are, orders-few}
+
+-- the orders of no entries
+pub none-counted : AreCountedOrders (orders_of [] [] [] [] [] [])
+none-counted = record { sorted = none-sorted; few = omega arith }
 
 -- a probe finds fewer objects than can be counted
 pub few_runs : (orders : Orders) → AreCountedOrders orders → (entries : List ValueEntry) → in_order orders ≡ entries

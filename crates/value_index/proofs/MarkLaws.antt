@@ -1,28 +1,28 @@
 -- Objects that are marked: which of them entries name, and which leave.
-use Rattle.std.proofs.Common.{◌≡◌, ◌==◌, ◌+◌, ◌<◌, ◌&&◌, ◌||◌, ℕ, Bool, true, false, not, cond, Less, Equal, Err, List, [], ◌∷◌, ◌++◌, map, length, get_or, take, drop, All, Contains, subst, refl, sym, ap, ◌∙◌, arith}
+use Rattle.std.proofs.Common.{◌≡◌, ◌==◌, ◌+◌, ◌<◌, ◌&&◌, ◌||◌, ℕ, Bool, true, false, not, cond, Equal, Err, List, [], ◌∷◌, ◌++◌, map, length, get_or, take, drop, All, subst, refl, sym, ap, ◌∙◌, arith}
 use Rattle.std.specs.Prelude.{filter, slice_set}
 use Rattle.std.specs.Ordering.{nat_cmp}
 use Rattle.std.specs.List.Sorted.{IsBinarySearchResult}
 use Rattle.std.proofs.lemmas.Bool.{false_from_ne_true}
 use Rattle.std.proofs.lemmas.Bool.Decides.{nat_tests}
 use Rattle.std.proofs.lemmas.List.{take-append-drop, get_or_default, get_or-map, length-take-le, length-map, map-append, set_at, length-set}
-use Rattle.std.proofs.lemmas.List.Elements.{All-contains, All-head, All-tail}
-use Rattle.lore_base.proofs.MemberLaws.{Contains-same, Contains-head, Contains-tail}
+use Rattle.std.proofs.lemmas.List.Elements.{All-tail}
+use Rattle.lore_base.proofs.MemberLaws.{Contains-same}
 use Rattle.list_laws.proofs.MemberLaws.{All-from_members}
 use Rattle.list_laws.proofs.OrderLaws.{less_from_cmp, same_from_cmp}
 use Rattle.list_laws.proofs.PartLaws.{drop_more_read}
 use Rattle.index_traits.specs.Entries.{entry_of}
 use Rattle.sorted_list.proofs.SingleLaws.{all_below, all_above}
-use Rattle.value_index.specs.Types.{Oid, Value, Whole, Chars, Flag, Complex, Entry, Kind, Wholes, Texts, Flags, Readings, FlagReadings}
-use Rattle.value_index.specs.inside.Kinds.{is_of}
-use Rattle.value_index.specs.inside.Held.{object_cmp, AscendByObject, has_value}
-use Rattle.value_index.specs.inside.Entries.{names, own_entries}
-use Rattle.value_index.specs.inside.EntryOrder.{object_total}
+use Rattle.value_index.specs.Types.{Oid, Value, Whole, Chars, Flag, Complex, Entry, Kind, Wholes, Texts, Flags}
+use Rattle.value_orders.specs.Kinds.{is_of}
+use Rattle.value_orders.specs.Held.{object_cmp, AscendByObject, has_value}
+use Rattle.value_index.specs.inside.Leaving.{names, own_entries}
+use Rattle.value_orders.specs.EntryOrder.{object_total}
 use Rattle.value_index.specs.inside.Leaving.{is_staying, leaving_of}
 use Rattle.value_index.specs.inside.Marks.{is_complex, marked_if, marked, marked_by}
-use Rattle.value_index.specs.inside.Orders.{Orders, AreSortedOrders}
-use Rattle.value_index.proofs.HeldLaws.{none-live, written-whole}
-use Rattle.value_index.proofs.OrderLaws.{atomic-in_order}
+use Rattle.value_orders.specs.Orders.{Orders, AreSortedOrders}
+use Rattle.value_orders.proofs.HeldLaws.{none-live, written-whole}
+use Rattle.value_orders.proofs.OrderLaws.{atomic-in_order}
 
 map_same : {X : Type 0} (f : X → X) (xs : List X) → All (λ x. f x ≡ x) xs → map f xs ≡ xs
 map_same f [] all = refl

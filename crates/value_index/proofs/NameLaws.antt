@@ -1,8 +1,7 @@
 -- Which objects entries name.
-use Rattle.std.proofs.Common.{◌≡◌, ◌==◌, ◌+◌, ◌<◌, ◌≤◌, inl, inr, ℕ, Bool, true, false, Less, Equal, Err, List, AllPairs, length, get_or, Contains, subst, refl, sym, ap, ◌∙◌, arith}
+use Rattle.std.proofs.Common.{◌≡◌, ◌==◌, ◌<◌, ◌≤◌, inl, inr, ℕ, Bool, true, false, Less, List, AllPairs, length, get_or, Contains, subst, refl, sym, ap, ◌∙◌, arith}
 use Rattle.std.specs.Prelude.{nat_le}
 use Rattle.std.specs.Ordering.{nat_cmp, ordering_then}
-use Rattle.std.specs.List.{list_any}
 use Rattle.std.specs.declared.cmp.Ordering.{Ordering}
 use Rattle.std.specs.List.Sorted.{IsPartitionedBy, IsPartitionPoint}
 use Rattle.std.proofs.lemmas.Bool.{true≢false, false_from_ne_true, cases_lt, leb-true, le-leb}
@@ -13,12 +12,11 @@ use Rattle.lore_base.proofs.MemberLaws.{Contains-same}
 use Rattle.list_laws.proofs.OrderLaws.{eqb_itself}
 use Rattle.index_traits.proofs.ObjectLaws.{same_oid}
 use Rattle.value_index.specs.Types.{Oid, Label, Value, Entry, Kind}
-use Rattle.value_index.specs.inside.Kinds.{value_cmp}
-use Rattle.value_index.specs.inside.Held.{held}
-use Rattle.value_index.specs.inside.Entries.{naming, names}
-use Rattle.value_index.specs.inside.EntryOrder.{entry_order, AscendByValue}
+use Rattle.value_orders.specs.inside.Naming.{naming}
+use Rattle.value_index.specs.inside.Leaving.{names}
+use Rattle.value_orders.specs.EntryOrder.{AscendByValue}
 use Rattle.value_index.specs.inside.Leaving.{IsPastLabel}
-use Rattle.value_index.proofs.KeyLaws.{same_naming}
+use Rattle.value_orders.proofs.KeyLaws.{same_naming}
 
 -- an entry that names an object, by its label
 pub names-from : (entries : List Entry) (object : Oid) → names entries object ≡ true → (label : Label) × Contains entries (naming label object)

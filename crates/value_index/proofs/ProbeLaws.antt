@@ -1,5 +1,5 @@
 -- What a probe finds: in each order the objects whose values there compare so, in all of them those that are found.
-use Rattle.std.proofs.Common.{◌≡◌, ◌≢◌, ◌↔◌, ◌⊎◌, inl, inr, ◌<◌, Bool, true, false, cond, List, [], ◌++◌, map, get_or, Contains, subst, refl, sym, ap, ◌∙◌, arith}
+use Rattle.std.proofs.Common.{◌≡◌, ◌≢◌, ◌↔◌, ◌⊎◌, inl, inr, ◌<◌, Bool, true, false, cond, List, [], ◌++◌, get_or, Contains, subst, refl, sym, ap, ◌∙◌, arith}
 use Rattle.std.proofs.lemmas.Bool.{true≢false}
 use Rattle.std.proofs.lemmas.List.Elements.{Contains-append_left, Contains-append_right, Contains-append_cases, Contains-get_or}
 use Rattle.lore_base.specs.Comparisons.{Admits, Compares}
@@ -8,17 +8,17 @@ use Rattle.lore_base.proofs.MemberLaws.{Contains-none, Contains-same}
 use Rattle.list_laws.proofs.MemberLaws.{Contains-map, Contains-from_map}
 use Rattle.index_traits.specs.Entries.{AreAscendingEntries, entry_of, IsProbed, IsFound}
 use Rattle.value_index.specs.Types.{Oid, Label, Value, Op, ValueEntry, Entry, Kind, Wholes, Texts, Flags, Readings, FlagReadings}
-use Rattle.value_index.specs.inside.Kinds.{is_of, is_sought, value_cmp}
-use Rattle.value_index.specs.inside.Held.{held}
-use Rattle.value_index.specs.inside.Entries.{naming, entry_in}
-use Rattle.value_index.specs.inside.EntryOrder.{AscendByValue}
-use Rattle.value_index.specs.inside.Orders.{Orders, order_at, entries_at, AreOrders, in_order, AreSortedOrders}
+use Rattle.value_orders.specs.Kinds.{is_of, is_sought, value_cmp}
+use Rattle.value_orders.specs.Held.{held}
+use Rattle.value_orders.specs.Entries.{entry_in}
+use Rattle.value_orders.specs.inside.Naming.{naming}
+use Rattle.value_orders.specs.Orders.{Orders, order_at, in_order, AreSortedOrders}
 use Rattle.value_index.specs.inside.Runs.{run_in, run_at, ListsOnce, objects_in}
 use Rattle.value_index.proofs.CompareLaws.{ByKind, ByReads, ByNoText, ByNoWhole, ByKinds}
 use Rattle.value_index.proofs.CompareLaws.{compares_by, only_wholes, only_texts, only_flags, only_readings}
-use Rattle.value_index.proofs.EntryLaws.{one_own}
-use Rattle.value_index.proofs.KeyLaws.{same_naming}
-use Rattle.value_index.proofs.OrderLaws.{ascend-in_order, value-in_order, kind-ascends}
+use Rattle.value_orders.proofs.EntryLaws.{one_own}
+use Rattle.value_orders.proofs.KeyLaws.{same_naming}
+use Rattle.value_orders.proofs.OrderLaws.{ascend-in_order, value-in_order, kind-ascends}
 use Rattle.value_index.proofs.RunLaws.{run-objects, run-once}
 
 -- the object has an entry of the label whose value passes

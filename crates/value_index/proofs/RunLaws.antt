@@ -11,10 +11,10 @@ use Rattle.std.proofs.lemmas.Bool.Decides.{nat_tests}
 use Rattle.std.proofs.lemmas.List.{append-nil, get_or-drop, get_or-take, length-take, take-append-drop}
 use Rattle.std.proofs.lemmas.List.Elements.{filter-append}
 use Rattle.value_index.specs.Types.{Oid, Label, Value, Op, Eq, Ne, Lt, Le, Gt, Ge, Like, Entry, Kind}
-use Rattle.value_index.specs.inside.Kinds.{value_cmp}
-use Rattle.value_index.specs.inside.Held.{held}
-use Rattle.value_index.specs.inside.Entries.{naming}
-use Rattle.value_index.specs.inside.EntryOrder.{entry_order, AscendByValue, value_total, order_total}
+use Rattle.value_orders.specs.Kinds.{value_cmp}
+use Rattle.value_orders.specs.Held.{held}
+use Rattle.value_orders.specs.inside.Naming.{naming}
+use Rattle.value_orders.specs.EntryOrder.{entry_order, AscendByValue, value_total, order_total}
 use Rattle.value_index.specs.inside.Runs.{side_of, side_in, run_in, objects_in}
 use Rattle.lore_base.specs.Comparisons.{Admits}
 use Rattle.lore_base.proofs.MemberLaws.{Contains-same, Contains-filter, unfiltered}
@@ -26,7 +26,7 @@ use Rattle.std.proofs.lemmas.List.Kept.{AllPairs-filter}
 use Rattle.list_laws.proofs.OrderLaws.{Equal-from_test, comparison_rises}
 use Rattle.list_laws.proofs.MemberLaws.{Contains-map, Contains-from_map}
 use Rattle.list_laws.proofs.PartLaws.{filter_all, filter_none, All-take_within, All-drop_within}
-use Rattle.value_index.proofs.KeyLaws.{first_same, rest_equal, same_naming}
+use Rattle.value_orders.proofs.KeyLaws.{first_same, rest_equal, same_naming}
 
 -- which side it is, by its number
 in_test : (o : Ordering) → nat_eq (ordering_index o) 1 ≡ true → is_eq o ≡ true

@@ -2,17 +2,14 @@ ghost use Rattle.std.specs.Prelude.{◌≡◌, ◌≢◌, ◌<◌, ◌≤◌, le
 ghost use Rattle.std.specs.List.{HoldsAt};
 ghost use Rattle.std.specs.declared.cmp.Ordering.TheVariants.{Equal};
 ghost use Rattle.index_traits.specs.Entries.{IsProbed};
-ghost use Rattle.value_index.specs.inside.Held.{held, AscendByObject};
-ghost use Rattle.value_index.specs.inside.Kinds.{value_cmp};
-ghost use Rattle.value_index.specs.inside.EntryOrder.{AscendByValue};
+ghost use Rattle.value_orders.specs.Held.{held, AscendByObject};
+ghost use Rattle.value_orders.specs.Kinds.{value_cmp};
+ghost use Rattle.value_orders.specs.EntryOrder.{AscendByValue};
 ghost use Rattle.value_index.specs.inside.Runs.{side_of, side_in, run_in, run_at};
 
-use crate::by_value::compare_to;
-use crate::entry::Entry;
-use crate::keys::is_sought;
-use crate::kind::Kind;
 use lore_base::{Label, Oid, Op, Value};
 use std::cmp::Ordering;
+use value_orders::{Entry, Kind, compare_to, is_sought};
 
 // The entries that are sought: one run of the ascending entries, and nothing where values of the
 // kind aren't compared with this one.
@@ -59,8 +56,8 @@ fn bisected<'a>(
     &near[..len]
 }
 
-// A place that the run at the front of these entries doesn't go beyond. It is looked for in steps that
-// double, since a run is most often short.
+// A place that the run at the front of these entries doesn't go beyond. It is looked for in steps
+// that double, since a run is most often short.
 fn reach(
     entries: &[Entry],
     values: &[(Oid, Value)],

@@ -2,18 +2,15 @@ ghost use Rattle.std.specs.Prelude.{◌≡◌, ◌≢◌, ◌↔◌, ◌+◌, �
 ghost use Rattle.std.specs.Prelude.{All, AllPairs, Contains, IsTrue};
 ghost use Rattle.std.specs.Prelude.{vec_len, vec_capacity};
 ghost use Rattle.value_index.specs.Types.{Complex, Wholes, Texts, Flags};
-ghost use Rattle.value_index.specs.inside.Held.{AscendByObject, ArePut, has_value, less_objects};
-ghost use Rattle.value_index.specs.inside.Entries.{names, own_entries};
-ghost use Rattle.value_index.specs.inside.EntryOrder.{AscendByValue};
+ghost use Rattle.value_orders.specs.Held.{AscendByObject, ArePut, has_value, less_objects};
+ghost use Rattle.value_index.specs.inside.Leaving.{names, own_entries};
+ghost use Rattle.value_orders.specs.EntryOrder.{AscendByValue};
 ghost use Rattle.value_index.specs.inside.Leaving.{is_staying, leaving_of, IsPastLabel};
 
-use crate::by_value::ByValue;
-use crate::entry::Entry;
-use crate::held::{FEW, drop_values, has_value, put_values};
-use crate::kind::Kind;
 use crate::marks::{is_complex, mark_named};
 use lore_base::{Label, Oid, Value};
 use sorted_list::{OrderedList, place_of};
+use value_orders::{ByValue, Entry, FEW, Kind, drop_values, has_value, put_values};
 
 // Takes out the values of the objects that go and have no entry now, and puts in those that come.
 // Takes no memory.

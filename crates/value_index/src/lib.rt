@@ -1,4 +1,5 @@
-//! The atomic values of objects, by the labels of the edges that enter them, searched by bisection.
+//! The atomic values of objects, by the labels of the edges that enter them, searched by
+//! bisection.
 //!
 //! Each object's value stands once. Entries that name objects stand in five orders: those of whole
 //! numbers, of texts, of flags, of texts that read as whole numbers, and of texts that read as
@@ -11,19 +12,9 @@ pub use value_index::ValueIndex;
 pub use value_plan::ValuePlan;
 
 mod bisection;
-mod by_value;
-mod dealing;
-mod entry;
-mod held;
-mod keys;
-mod kind;
 mod leaving;
 mod marks;
 mod naive_values;
-mod orders;
-mod ranked;
 mod runs;
-mod slots;
-mod sorting;
 mod value_index;
 mod value_plan;

@@ -1,16 +1,14 @@
 ghost use Rattle.std.specs.Prelude.{◌≡◌, ◌<◌, length, map, slice_set, slice_index_or};
 ghost use Rattle.value_index.specs.Types.{Oid as TheOid, Value as TheValue};
-ghost use Rattle.value_index.specs.inside.Held.{AscendByObject};
+ghost use Rattle.value_orders.specs.Held.{AscendByObject};
 ghost use Rattle.value_index.specs.inside.Marks.{is_complex, marked, marked_by, marked_if};
-ghost use Rattle.value_index.specs.inside.Kinds.{is_of};
+ghost use Rattle.value_orders.specs.Kinds.{is_of};
 
-use crate::entry::Entry;
-use crate::held::search;
-use crate::keys::is_of;
-use crate::kind::Kind;
 use lore_base::{Oid, Value};
+use value_orders::{Entry, Kind, is_of, search};
 
-// Gives those objects a complex value that one of the entries names and whose values are of the kind.
+// Gives those objects a complex value that one of the entries names and whose values are of the
+// kind.
 pub(crate) fn mark_named(objects: &mut Vec<(Oid, Value)>, entries: &[Entry], kind: Kind)
     requires { AscendByObject objects.old.items }
     ensures { objects.new.items ≡ map (marked_by kind entries.now) objects.old.items }

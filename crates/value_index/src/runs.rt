@@ -2,9 +2,9 @@ ghost use Rattle.std.specs.Prelude.{◌≡◌, ◌<◌, ◌^◌, ◌++◌, lengt
 ghost use Rattle.lore_base.specs.Lists.{Extends};
 ghost use Rattle.value_index.specs.inside.Runs.{objects_in};
 
-use crate::entry::Entry;
 use lore_base::{NoMemory, OidBuf};
 use std::marker::Model;
+use value_orders::Entry;
 
 // What a probe finds in each of the five orders. Contracts see it as the list of the objects.
 #[derive(Drop)]

@@ -3,17 +3,13 @@ ghost use Rattle.lore_base.specs.TargetSets.{ListsInOrder};
 ghost use Rattle.index_traits.specs.Entries.{AreAscendingEntries, IsProbed, IsFound};
 ghost use Rattle.sorted_list.specs.SortedLists.{IsLessWith, AreWithout, AreJoined};
 ghost use Rattle.value_index.specs.Values.{FitsEntries, HasRoom};
-ghost use Rattle.value_index.specs.inside.Held.{AscendByObject};
-ghost use Rattle.value_index.specs.inside.EntryOrder.{entry_order, AscendByValue};
-ghost use Rattle.value_index.specs.inside.Orders.{order_at};
+ghost use Rattle.value_orders.specs.Held.{AscendByObject};
+ghost use Rattle.value_orders.specs.EntryOrder.{entry_order, AscendByValue};
+ghost use Rattle.value_orders.specs.Orders.{order_at};
 ghost use Rattle.value_index.specs.inside.Runs.{ListsOnce};
 
 use crate::bisection::run_of;
-use crate::by_value::ByValue;
-use crate::entry::Entry;
-use crate::kind::Kind;
 use crate::leaving::change_values;
-use crate::orders::EntryOrders;
 use crate::runs::Runs;
 use crate::value_plan::ValuePlan;
 use index_traits::{EntryList, Values};
@@ -21,6 +17,7 @@ use lore_base::{Label, NoMemory, Oid, OidBuf, Op, Value};
 use sorted_list::OrderedList;
 use std::alloc::Global;
 use std::marker::Model;
+use value_orders::{ByValue, Entry, EntryOrders, Kind};
 
 /// The values of objects, each once, and in five orders the value entries that name them: of whole
 /// numbers, of texts, of flags, of texts that read as whole numbers, and of texts that read as
@@ -39,7 +36,8 @@ pub struct ValueIndex {
 impl Model for ValueIndex {
     ghost use Rattle.std.specs.Prelude.{◌-◌, length, vec_capacity};
     ghost use Rattle.value_index.specs.Values.{RoomyEntries};
-    ghost use Rattle.value_index.specs.inside.Orders.{orders_of, in_order, AreCountedOrders};
+    ghost use Rattle.value_orders.specs.Orders.{orders_of, in_order};
+    ghost use Rattle.value_index.specs.inside.Counted.{AreCountedOrders};
 
     ghost Value = { RoomyEntries };
 

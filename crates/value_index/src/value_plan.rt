@@ -1,5 +1,5 @@
-use crate::orders::EntryOrders;
 use std::marker::Model;
+use value_orders::EntryOrders;
 
 /// What a change of a `ValueIndex` takes away and brings, worked out by `ValueIndex::prepare` and
 /// put in place by `ValueIndex::commit`.
@@ -12,7 +12,7 @@ pub struct ValuePlan {
 impl Model for ValuePlan {
     ghost use Rattle.std.specs.Prelude.{length};
     ghost use Rattle.value_index.specs.Values.{PlannedEntries};
-    ghost use Rattle.value_index.specs.inside.Orders.{in_order};
+    ghost use Rattle.value_orders.specs.Orders.{in_order};
 
     ghost Value = { PlannedEntries };
 

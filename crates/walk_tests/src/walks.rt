@@ -1,5 +1,6 @@
 ghost use Rattle.std.specs.Prelude.{◌≡◌, ◌<◌};
 
+use crate::along::check_along;
 use crate::shapes::{Labelled, RING, automaton_of, edges_of, labelled_graph, paths_of};
 use crate::words::check_words;
 use index_traits::Paths;
@@ -19,7 +20,7 @@ fn oids_of(alloc: Global, numbers: &[u32]) -> Result<OidBuf, NoMemory> {
 }
 
 // The numbers of the objects as digits.
-fn digits(oids: &OidBuf) -> u64 {
+pub(crate) fn digits(oids: &OidBuf) -> u64 {
     let mut digits = 0_u64;
     for oid in oids.as_slice() {
         digits = digits.wrapping_mul(10).wrapping_add(u64::from(oid.0));
@@ -151,7 +152,8 @@ fn check_all<L: Ledger>(alloc: Global, blank: Blank) -> Result<(), Fail>
     let mut steps = Steps::<L>::new(blank);
     check_forward(alloc, &over, &mut steps)?;
     check_backward(alloc, &over, &mut steps)?;
-    check_words(alloc, &over, &mut steps)
+    check_words(alloc, &over, &mut steps)?;
+    check_along(alloc, &over, &mut steps)
 }
 
 #[test]

@@ -1,5 +1,6 @@
 -- The edges of rows as one list, and the places of the edges that leave each node.
 use Rattle.std.specs.Prelude.{◌≡◌, ◌↔◌, ◌⊎◌, ℕ, ◌<◌, List, length, slice_index, Contains}
+use Rattle.block_rounds.specs.Gathered.{AreGathered}
 use Rattle.block_rounds.specs.Partitions.{Rows, Enters}
 use Rattle.block_haste.specs.inside.Recounting.{edge_at}
 
@@ -28,3 +29,7 @@ AreOutPairs edges pairs = ArePairsBelow (length edges) edges pairs
 abbrev pub AreNumbersBelow : ℕ → List ℕ → List (ℕ × ℕ) → Type 0
 AreNumbersBelow count numbers pairs = (number node : ℕ) → Contains pairs (number, node)
     ↔ ((node < count) × (slice_index numbers node ≡ number))
+
+-- the lists have the nodes of each block
+abbrev pub AreOfBlocks : List ℕ → List (List ℕ) → Type 0
+AreOfBlocks numbers lists = (pairs : List (ℕ × ℕ)) × AreNumbersBelow (length numbers) numbers pairs × AreGathered pairs lists

@@ -2,6 +2,7 @@
 use Rattle.std.specs.Prelude.{◌≡◌, List, Contains}
 use Rattle.lore_base.specs.Comparisons.{Compares}
 use Rattle.lorel_eval.specs.Types.{Oid, Value, Op}
+use Rattle.lorel_eval.specs.inside.FoundObjects.{oids_of}
 use Rattle.lorel_eval.specs.declared.comparisons.Side.{Side}
 use Rattle.lorel_eval.specs.declared.comparisons.Side.TheVariants.{Own, Objects}
 
@@ -16,7 +17,7 @@ SomeHasSuch objects Passes oids = (oid : Oid) × Contains oids oid × HasSuch ob
 -- a side gives a value: its own, or that of one of its objects
 abbrev pub SideGives : List (Oid × Value) → Side → Value → Type 0
 SideGives objects (Own own) value = value ≡ own.now
-SideGives objects (Objects oids) value = (oid : Oid) × Contains oids oid × Contains objects (oid, value)
+SideGives objects (Objects found) value = (oid : Oid) × Contains (oids_of found) oid × Contains objects (oid, value)
 
 -- the value and some value of the right side compare so
 abbrev pub ComparesWith : List (Oid × Value) → Op → Side → Value → Type 0

@@ -1,12 +1,18 @@
 -- What holds of the machine of partial rows between two answers.
 use Rattle.std.specs.Prelude.{◌≡◌, List, [], ◌∷◌, ◌++◌, length, map, All}
 use Rattle.lorel_bound.specs.Plans.{StepTree}
+use Rattle.row_hints.specs.declared.told.Told.{Told}
+use Rattle.row_hints.specs.Told.{AreTold}
 use Rattle.plan_ops.specs.Types.{Oid, PartialRow, RANGES}
 use Rattle.plan_ops.specs.Steps.{StepsOver}
-use Rattle.plan_ops.specs.Rows.{AreApart}
+use Rattle.plan_ops.specs.Rows.{IsToCome, AreApart}
 use Rattle.plan_ops.specs.inside.Orders.{AreInOrder}
 use Rattle.plan_ops.specs.inside.Ready.{ReadyStep, ready_tree, HasFound, CanBeReady}
-use Rattle.plan_ops.specs.inside.Told.{Told, AreTold}
+use Rattle.plan_ops.specs.inside.Keeping.{Kept, AreKeptBy}
+
+-- what is told early holds of each row that is to come of these partial rows and passes
+pub record AreHinted (over : StepsOver) (Hints : List Oid → Type 0) (steps : List StepTree) (partials : List PartialRow) : Type 0 where
+  pub told : (row : List Oid) → IsToCome over steps partials row → over.passes row → Hints row
 
 -- each step finds what it reads and can be taken, and no row comes of two partial rows, each of which has eight slots
 pub record IsMachine (over : StepsOver) (steps : List StepTree) (partials : List PartialRow) : Type 0 where
@@ -15,12 +21,15 @@ pub record IsMachine (over : StepsOver) (steps : List StepTree) (partials : List
   pub apart : AreApart over steps partials
   pub eight : All (λ partial. length partial.row ≡ RANGES) partials
 
--- and the steps are made ready, with what the guide tells at hand, and what the condition told of slots
-pub record IsReadyMachine (over : StepsOver) (steps : List StepTree) (ready : List ReadyStep) (told : List Told)
-    (partials : List PartialRow) : Type 0 where
+-- and the steps are made ready, with what the guide tells at hand, and what they keep, what was told of slots and what is
+-- of rows is so
+pub record IsReadyMachine (over : StepsOver) (Hints : List Oid → Type 0) (steps : List StepTree) (ready : List ReadyStep)
+    (kept : List Kept) (told : List Told) (partials : List PartialRow) : Type 0 where
   pub ready_are : map ready_tree ready ≡ steps
-  pub found : All (HasFound over.reaches) ready
-  pub told_are : AreTold over.passes told
+  pub found : All (HasFound over.labels over.reaches) ready
+  pub kept_are : AreKeptBy over ready kept
+  pub told_are : AreTold Hints told
+  pub hinted : AreHinted over Hints steps partials
   pub machine : IsMachine over steps partials
 
 -- the last partial row was taken away, and had this row

@@ -1,36 +1,14 @@
--- What is left out of the objects for a slot, since the condition tells early that none of them can stand there.
-use Rattle.std.specs.Prelude.{◌≡◌, ℕ, ◌<◌, ◌⊎◌, Bool, true, false, List, [], ◌∷◌, Option, Some, None, AllPairs, Contains, slice_get}
-use Rattle.index_traits.specs.PartRows.{Completes}
+-- When objects may be left out of those for a slot: which slots are known, and what is told of rows.
+use Rattle.std.specs.Prelude.{◌≡◌, ℕ, List, Some, Contains, drop}
 use Rattle.lorel_bound.specs.Plans.{StepTree}
 use Rattle.plan_ops.specs.Types.{Oid}
-use Rattle.plan_ops.specs.Steps.{slot_of}
+use Rattle.plan_ops.specs.Steps.{StepsOver, Finishes, slot_of}
 
 -- some step of these fills the slot
 abbrev pub IsFilledBy : List StepTree → ℕ → Type 0
 IsFilledBy steps slot = (step : StepTree) × Contains steps step × (slot_of step ≡ Some slot)
 
--- no row passes that has the row's objects in the known slots and this object in the slot
-abbrev pub FailsWith : (List Oid → Type 0) → List Bool → ℕ → List Oid → Oid → Type 0
-FailsWith Passes known slot row oid =
-    (other : List Oid) → Completes Passes known row other → slice_get other slot ≡ Some oid → ⊥
-
--- these are left of the objects, in order: all but some that fail
-pub record AreThinned (Fails : Oid → Type 0) (oids kept : List Oid) : Type 0 where
-  pub ascending : AllPairs (λ a b. a.0 < b.0) kept
-  pub sound : (oid : Oid) → Contains kept oid → Contains oids oid
-  pub complete : (oid : Oid) → Contains oids oid → Contains kept oid ⊎ Fails oid
-
--- the objects that were kept; all of them where there is no list of these
-abbrev pub kept_of : Option (List Oid) → List Oid → List Oid
-kept_of None oids = oids
-kept_of (Some kept) oids = kept
-
--- the item, unless it is out
-abbrev pub item_unless : {X : Type 0} → Bool → X → List X
-item_unless true item = []
-item_unless false item = item ∷ []
-
--- the item where it passes
-abbrev pub item_if : {X : Type 0} → Bool → X → List X
-item_if true item = item ∷ []
-item_if false item = []
+-- what is told early holds of each row that finishes this one by the steps from this place on and passes
+abbrev pub AreHintedAt : StepsOver → (List Oid → Type 0) → List StepTree → ℕ → List Oid → Type 0
+AreHintedAt over Hints steps at row =
+    (whole : List Oid) → Finishes over (drop at steps) row whole → over.passes whole → Hints whole

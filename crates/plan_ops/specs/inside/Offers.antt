@@ -1,10 +1,11 @@
 -- What one step makes of a row.
 use Rattle.std.specs.Prelude.{◌≡◌, ◌≢◌, ◌↔◌, ℕ, ◌<◌, ◌^◌, ◌⊎◌, Bool, true, false, List, [], ◌∷◌, ◌++◌, length, map, reverse, drop, Some, AllPairs, Contains, slice_get, slice_set}
+use Rattle.lore_base.specs.TargetSets.{ListsInOrder}
 use Rattle.lorel_bound.specs.Plans.{StepTree}
 use Rattle.plan_ops.specs.Types.{Oid, RANGES, PartialRow}
 use Rattle.plan_ops.specs.Steps.{StepsOver, Meets, Finishes, slot_of}
 use Rattle.plan_ops.specs.declared.offers.Offer.{Offer}
-pub use Rattle.plan_ops.specs.declared.offers.Offer.TheVariants.{Fill, Lend, Keep, Reject}
+pub use Rattle.plan_ops.specs.declared.offers.Offer.TheVariants.{Fill, Lend, One, Keep, Reject}
 
 -- the other row is the same but in the slot that the step fills
 pub record IsVariant (step : StepTree) (row other : List Oid) : Type 0 where
@@ -32,6 +33,7 @@ pub record AreKept (over : StepsOver) (step : StepTree) (later : List StepTree) 
 abbrev pub offered : Offer → List Oid → List (List Oid)
 offered (Fill slot oids) row = map (slice_set row slot) oids
 offered (Lend slot oids) row = map (slice_set row slot) oids.now
+offered (One slot oid) row = slice_set row slot oid ∷ []
 offered Keep row = row ∷ []
 offered Reject row = []
 
@@ -40,10 +42,16 @@ abbrev pub tested : Bool → Offer
 tested true = Keep
 tested false = Reject
 
+-- what one of an object that may be left out does
+abbrev pub one_unless : Bool → ℕ → Oid → Offer
+one_unless true slot oid = Reject
+one_unless false slot oid = One slot oid
+
 -- what an offer fills is a slot
 abbrev pub FillsSlot : Offer → Type 0
 FillsSlot (Fill slot oids) = slot < RANGES
 FillsSlot (Lend slot oids) = slot < RANGES
+FillsSlot (One slot oid) = slot < RANGES
 FillsSlot Keep = Unit {0}
 FillsSlot Reject = Unit {0}
 
@@ -51,6 +59,7 @@ FillsSlot Reject = Unit {0}
 abbrev pub FillsInOrder : Offer → Type 0
 FillsInOrder (Fill slot oids) = AllPairs (λ a b. a.0 < b.0) oids
 FillsInOrder (Lend slot oids) = AllPairs (λ a b. a.0 < b.0) oids.now
+FillsInOrder (One slot oid) = Unit {0}
 FillsInOrder Keep = Unit {0}
 FillsInOrder Reject = Unit {0}
 
@@ -58,6 +67,7 @@ FillsInOrder Reject = Unit {0}
 abbrev pub FillsItsSlot : StepTree → Offer → Type 0
 FillsItsSlot step (Fill slot oids) = slot_of step ≡ Some slot
 FillsItsSlot step (Lend slot oids) = slot_of step ≡ Some slot
+FillsItsSlot step (One slot oid) = slot_of step ≡ Some slot
 FillsItsSlot step Keep = Unit {0}
 FillsItsSlot step Reject = Unit {0}
 
@@ -65,8 +75,18 @@ FillsItsSlot step Reject = Unit {0}
 abbrev pub HasObjects : Offer → ℕ → List Oid → Type 0
 HasObjects (Fill own objects) slot oids = (own ≡ slot) × (objects ≡ oids)
 HasObjects (Lend own objects) slot oids = (own ≡ slot) × (objects.now ≡ oids)
+HasObjects (One own oid) slot oids = (own ≡ slot) × (oids ≡ oid ∷ [])
 HasObjects Keep slot oids = ⊥
 HasObjects Reject slot oids = ⊥
+
+-- or rejects the row where there is none
+abbrev pub PutsAll : ℕ → List Oid → Offer → Type 0
+PutsAll slot [] offer = offer ≡ Reject
+PutsAll slot (oid ∷ oids) offer = HasObjects offer slot (oid ∷ oids)
+
+-- and so with those that pass
+abbrev pub PutsThose : (Oid → Type 0) → ℕ → Offer → Type 0
+PutsThose Passes slot offer = (oids : List Oid) × ListsInOrder Passes oids × PutsAll slot oids offer
 
 -- the offer is what the step makes of the row
 pub record IsOffer (over : StepsOver) (step : StepTree) (row : List Oid) (offer : Offer) : Type 0 where

@@ -1,8 +1,19 @@
 -- Objects that leave: those whose entries are all gone, and which are given no value.
-use Rattle.std.specs.Prelude.{ℕ, ◌<◌, ◌≤◌, Bool, not, ◌||◌, List, length, filter, slice_index_or}
-use Rattle.value_index.specs.Types.{Oid, Label, Value, Entry}
-use Rattle.value_index.specs.inside.Held.{has_value}
-use Rattle.value_index.specs.inside.Entries.{names, own_entries}
+use Rattle.std.specs.Prelude.{ℕ, ◌<◌, ◌≤◌, ◌==◌, Bool, not, ◌||◌, List, [], length, filter, slice_index_or}
+use Rattle.std.specs.List.{list_any}
+use Rattle.value_index.specs.Types.{Oid, Label, Value, Whole, Chars, Flag, Complex, Entry}
+use Rattle.value_orders.specs.Held.{has_value}
+
+-- whether some entry names the object
+abbrev pub names : List Entry → Oid → Bool
+names entries object = list_any (λ entry. entry.object.0 == object.0) entries
+
+-- the entries among which those of an object stand that has the value
+abbrev pub own_entries : List Entry → List Entry → List Entry → Value → List Entry
+own_entries wholes texts flags (Whole number) = wholes
+own_entries wholes texts flags (Chars text) = texts
+own_entries wholes texts flags (Flag flag) = flags
+own_entries wholes texts flags Complex = []
 
 -- the object is given a value, or an entry names it among those where its own stand
 abbrev pub is_staying : List (Oid × Value) → List Entry → List Entry → List Entry → Oid × Value → Bool

@@ -1,8 +1,8 @@
 -- Objects that are marked by a complex value.
 use Rattle.std.specs.Prelude.{Bool, true, false, cond, ◌==◌, ◌&&◌, List}
 use Rattle.value_index.specs.Types.{Oid, Value, Whole, Chars, Flag, Complex, Entry, Kind}
-use Rattle.value_index.specs.inside.Kinds.{is_of}
-use Rattle.value_index.specs.inside.Entries.{names}
+use Rattle.value_orders.specs.Kinds.{is_of}
+use Rattle.value_index.specs.inside.Leaving.{names}
 
 abbrev pub is_complex : Value → Bool
 is_complex (Whole number) = false

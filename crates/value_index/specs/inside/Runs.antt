@@ -1,11 +1,11 @@
 -- Runs of entries: those of a label whose value stands so to a given one.
-use Rattle.std.specs.Prelude.{◌≡◌, ◌≢◌, ◌↔◌, Bool, cond, List, [], AllPairs, Contains, filter, map}
+use Rattle.std.specs.Prelude.{◌≢◌, ◌↔◌, cond, List, [], AllPairs, Contains, filter, map}
 use Rattle.std.specs.Ordering.{nat_cmp, ordering_then, is_eq}
 use Rattle.std.specs.declared.cmp.Ordering.{Ordering}
 use Rattle.std.specs.declared.cmp.Ordering.TheVariants.{Less, Equal, Greater}
 use Rattle.value_index.specs.Types.{Oid, Label, Value, Op, Lt, Le, Gt, Ge, Entry, Kind}
-use Rattle.value_index.specs.inside.Kinds.{is_sought, value_cmp}
-use Rattle.value_index.specs.inside.Held.{held}
+use Rattle.value_orders.specs.Kinds.{is_sought, value_cmp}
+use Rattle.value_orders.specs.Held.{held}
 
 -- on which side of the values that the operator admits one stands that compares so: `Less` before them, `Equal`
 -- among them, `Greater` behind them

@@ -5,12 +5,12 @@ ghost use Rattle.value_index.specs.Types.{Complex};
 ghost use Rattle.value_index.specs.Values.{FitsEntries};
 
 use super::ValueIndex;
-use crate::entry::Entry;
 use index_traits::{EntryList, ValueEntry};
 use lore_base::{Label, NoMemory, OemText, Oid, Value, read_whole};
 use std::alloc::Global;
 use std::cmp::Ordering;
 use std::test::Fail;
+use value_orders::Entry;
 
 // Labels of the objects 1, 2 and so on, with what writes their values: a text behind `'`, and else a
 // flag or a whole number. Under one label two are the same number, and two texts read as the same.
@@ -121,10 +121,18 @@ fn index_of(alloc: Global, come: &EntryList) -> Result<ValueIndex, NoMemory>
 {
     let gone = EntryList::new(alloc);
     let mut index = ValueIndex::new(alloc);
-    let plan = index.prepare(&gone, come)?;
+    change(&mut index, &gone, come)?;
+    Ok(index)
+}
+
+// Takes out the entries that go and puts in those that come.
+fn change(index: &mut ValueIndex, gone: &EntryList, come: &EntryList) -> Result<(), NoMemory>
+    requires fits { FitsEntries index.old.entries gone.now come.now }
+{
+    let plan = index.prepare(gone, come)?;
     index.reserve(&plan)?;
     index.commit(plan);
-    Ok(index)
+    Ok(())
 }
 
 fn sample(alloc: Global) -> Result<ValueIndex, Fail> {
@@ -135,22 +143,25 @@ fn sample(alloc: Global) -> Result<ValueIndex, Fail> {
     Ok(index_of(alloc, &come)?)
 }
 
-// The labels and objects of an order, whose entries are taken apart by all of their fields.
-fn named(alloc: Global, entries: &[Entry]) -> Result<Vec<(u32, u32)>, NoMemory> {
-    let mut named = Vec::new(alloc);
-    for Entry { label, object } in entries {
-        named.push((label.0, object.0))?;
+// Whether these are the labels and objects of an order, whose entries are taken apart by all of their
+// fields.
+fn are_named(entries: &[Entry], named: &[(u32, u32)]) -> bool {
+    for (place, Entry { label, object }) in entries.iter().enumerate() {
+        if named.get(place) != Some(&(label.0, object.0)) {
+            return false;
+        }
     }
-    Ok(named)
+    entries.len() == named.len()
 }
 
-// The objects that have values.
-fn objects(alloc: Global, values: &[(Oid, Value)]) -> Result<Vec<u32>, NoMemory> {
-    let mut objects = Vec::new(alloc);
-    for (object, _value) in values {
-        objects.push(object.0)?;
+// Whether these are the objects that have values.
+fn are_objects(values: &[(Oid, Value)], objects: &[u32]) -> bool {
+    for (place, (object, _value)) in values.iter().enumerate() {
+        if objects.get(place) != Some(&object.0) {
+            return false;
+        }
     }
-    Ok(objects)
+    values.len() == objects.len()
 }
 
 // The object's value, found by going over all of them.
@@ -227,10 +238,15 @@ fn flags_ascend(values: &[(Oid, Value)], entries: &[Entry]) -> bool {
     true
 }
 
-// The patterns name all fields of an index and of its entries, so that one more isn't read.
-#[test]
-fn stated_fields(rt: HostRuntime) -> Result<(), Fail> {
-    let alloc = rt.alloc();
+// What an index keeps.
+#[derive(Drop)]
+struct Lists<'a> {
+    values: &'a [(Oid, Value)],
+    orders: [&'a [Entry]; 5],
+}
+
+// The pattern names all fields of an index, so that one more isn't read.
+fn kept(index: &ValueIndex) -> Lists<'_> {
     let ValueIndex {
         values,
         wholes,
@@ -238,34 +254,47 @@ fn stated_fields(rt: HostRuntime) -> Result<(), Fail> {
         flags,
         readings,
         flag_readings,
-    } = sample(alloc)?;
-    let values = values.as_slice();
-    assert_eq!(rt; objects(alloc, values)?.as_slice(), OBJECTS.as_slice());
-    assert!(rt; numbers_ascend(values, wholes.as_slice()));
-    assert!(rt; texts_ascend(values, chars.as_slice()));
-    assert!(rt; flags_ascend(values, flags.as_slice()));
-    assert!(rt; numbers_ascend(values, readings.as_slice()));
-    assert!(rt; flags_ascend(values, flag_readings.as_slice()));
-    assert_eq!(rt;
-        named(alloc, wholes.as_slice())?.as_slice(),
-        BY_NUMBER.as_slice()
-    );
-    assert_eq!(rt;
-        named(alloc, chars.as_slice())?.as_slice(),
-        BY_TEXT.as_slice()
-    );
-    assert_eq!(rt;
-        named(alloc, flags.as_slice())?.as_slice(),
-        BY_FLAG.as_slice()
-    );
-    assert_eq!(rt;
-        named(alloc, readings.as_slice())?.as_slice(),
-        BY_READ_NUMBER.as_slice()
-    );
-    assert_eq!(rt;
-        named(alloc, flag_readings.as_slice())?.as_slice(),
-        BY_READ_FLAG.as_slice()
-    );
+    } = index;
+    Lists {
+        values: values.as_slice(),
+        orders: [
+            wholes.as_slice(),
+            chars.as_slice(),
+            flags.as_slice(),
+            readings.as_slice(),
+            flag_readings.as_slice(),
+        ],
+    }
+}
+
+fn all_ascend(lists: &Lists<'_>) -> bool {
+    let [wholes, chars, flags, readings, flag_readings] = lists.orders;
+    numbers_ascend(lists.values, wholes)
+        && texts_ascend(lists.values, chars)
+        && flags_ascend(lists.values, flags)
+        && numbers_ascend(lists.values, readings)
+        && flags_ascend(lists.values, flag_readings)
+}
+
+fn all_named(lists: &Lists<'_>) -> bool {
+    let [wholes, chars, flags, readings, flag_readings] = lists.orders;
+    are_named(wholes, BY_NUMBER.as_slice())
+        && are_named(chars, BY_TEXT.as_slice())
+        && are_named(flags, BY_FLAG.as_slice())
+        && are_named(readings, BY_READ_NUMBER.as_slice())
+        && are_named(flag_readings, BY_READ_FLAG.as_slice())
+}
+
+// Whether the index keeps the objects of `ENTRIES`, and its entries where they are to stand.
+fn is_stated(index: &ValueIndex) -> bool {
+    let lists = kept(index);
+    are_objects(lists.values, OBJECTS.as_slice()) && all_ascend(&lists) && all_named(&lists)
+}
+
+#[test]
+fn stated_fields(rt: HostRuntime) -> Result<(), Fail> {
+    let index = sample(rt.alloc())?;
+    assert!(rt; is_stated(&index));
     Ok(())
 }
 

@@ -1,9 +1,9 @@
 use Rattle.std.proofs.Common.{List, map, All, sym, subst}
 use Rattle.std.proofs.lemmas.List.{drop_all}
 use Rattle.std.proofs.lemmas.List.Elements.{All-nil}
-use Rattle.lorel_bound.specs.Bound.{BoundPathTree, conds_from}
 use Rattle.lorel_bound.specs.Conditions.{CondOf, paths_of_all}
 use Rattle.lorel_eval.specs.declared.ready_conds.ReadyCond.{ReadyCond}
+use Rattle.lorel_eval.specs.inside.Labelled.{LabelledPath, in_order}
 use Rattle.lorel_eval.specs.inside.Ready.{ready_tree}
 use Rattle.lorel_eval.specs.inside.Early.{StartsKnown}
 use Rattle.lorel_eval.proofs.KnownLaws.{exists_known, for_all_known, compare_known, same_known, members_known}
@@ -34,8 +34,8 @@ both_read_known-returns t c = λ yes. (c.is_known.ensures c.if-not-is_known.fals
 
 pub all_read_known-members-init : goal.all_read_known-members-init
 all_read_known-members-init t c =
-    subst (λ (trees : List (CondOf BoundPathTree)). All (StartsKnown c.args.known.now) (paths_of_all (conds_from (map ready_tree c.as_slice-member-items.result.now)))
-    → All (StartsKnown c.args.known.now) (paths_of_all (conds_from trees))) c.as_slice-member-items.ensures.trees (λ told. told)
+    subst (λ (trees : List (CondOf LabelledPath)). All (StartsKnown c.args.known.now) (paths_of_all (in_order (map ready_tree c.as_slice-member-items.result.now)))
+    → All (StartsKnown c.args.known.now) (paths_of_all (in_order trees))) c.as_slice-member-items.ensures.trees (λ told. told)
 
 pub all_read_known-members-preserved : goal.all_read_known-members-preserved
 all_read_known-members-preserved t c = λ rest. c.members.invariant
@@ -44,5 +44,5 @@ all_read_known-members-preserved t c = λ rest. c.members.invariant
 
 pub all_read_known-returns : goal.all_read_known-returns
 all_read_known-returns t c = λ yes. c.members.invariant
-    (subst (λ (l : List ReadyCond). All (StartsKnown c.args.known.now) (paths_of_all (conds_from (map ready_tree l))))
+    (subst (λ (l : List ReadyCond). All (StartsKnown c.args.known.now) (paths_of_all (in_order (map ready_tree l))))
     (sym (drop_all c.members.member-index c.as_slice-member-items.result.now c.members-test.false)) (All-nil (StartsKnown c.args.known.now)))

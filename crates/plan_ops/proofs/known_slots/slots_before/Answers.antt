@@ -2,7 +2,8 @@ use Rattle.std.proofs.Common.{◌≡◌, ◌<◌, ℕ, Some, true, length, map, 
 use Rattle.plan_ops.specs.Types.{RANGES}
 use Rattle.plan_ops.specs.inside.Ready.{ready_tree}
 use Rattle.plan_ops.specs.inside.Narrowing.{IsFilledBy}
-use Rattle.plan_ops.proofs.KnownSlotLaws.{none_known, known_more}
+use Rattle.row_hints.proofs.ToldLaws.{none_known}
+use Rattle.plan_ops.proofs.KnownSlotLaws.{known_more}
 use Rattle.plan_ops.proofs.known_slots.slots_before.Goals as goal
 
 pub steps-init : goal.steps-init

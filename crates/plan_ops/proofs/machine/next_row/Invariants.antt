@@ -2,7 +2,8 @@ use Rattle.std.proofs.Common.{◌≡◌, ◌≤◌, length, map}
 use Rattle.plan_ops.specs.Rows.{IsToCome, AreSame, ReadNothing, work_left}
 use Rattle.plan_ops.specs.inside.Machines.{IsMachine}
 use Rattle.plan_ops.specs.inside.Ready.{ready_tree}
-use Rattle.plan_ops.specs.inside.Told.{AreTold}
+use Rattle.plan_ops.specs.inside.Keeping.{AreKeptBy}
+use Rattle.row_hints.specs.Told.{AreTold}
 use Rattle.plan_ops.proofs.machine.next_row.Given as goal
 
 abbrev pub invariant-partials : goal.invariant-partials
@@ -11,7 +12,8 @@ invariant-partials g l =
     let plan = map ready_tree l.ready in
     record {
       machine : IsMachine over plan l.partials.items;
-      told : AreTold over.passes l.told.items;
+      kept : AreKeptBy over l.ready l.kept.items;
+      told : AreTold (g.S.Hints.hints l.sources) l.learned.told.items;
       same : AreSame (IsToCome over plan l.fn.partials.items) (IsToCome over plan l.partials.items);
       lighter : work_left (length plan) l.partials.items ≤ work_left (length plan) l.fn.partials.items;
       quiet : ReadNothing over plan l.fn.partials.items → (l.steps ≡ l.fn.steps) × ReadNothing over plan l.partials.items;

@@ -3,7 +3,7 @@ use Rattle.plan_ops.specs.Types.{Oid}
 use Rattle.plan_ops.specs.declared.offers.Offer.{Offer}
 use Rattle.plan_ops.specs.inside.Offers.{Fill, Keep, Reject, HasObjects, IsOfferAt, IsKeptAt}
 use Rattle.plan_ops.specs.inside.Ready.{ready_tree}
-use Rattle.plan_ops.specs.inside.Narrowing.{kept_of}
+use Rattle.row_hints.specs.Thinned.{kept_of}
 use Rattle.plan_ops.proofs.NarrowLaws.{offer_kept}
 use Rattle.plan_ops.proofs.FitLaws.{lent_offer, kept_lent}
 use Rattle.plan_ops.proofs.narrowing.narrowed_offer.Goals as goal
@@ -18,6 +18,20 @@ objects_left-requires-in-Lend-clause-offer g c =
     let turn = c.args.turn.now in
     lent_offer (g.S.Offers.over turn.sources.now) (map ready_tree turn.ready.now) turn.at c.in-Lend.slot turn.row.now c.in-Lend.oids.now c.args.offer
     (subst (λ (o : Offer). HasObjects o c.in-Lend.slot c.in-Lend.oids.now) (sym c.in-Lend.is) (refl, refl)) c.requires.offer
+
+pub one_left-requires-clause-offer : goal.one_left-requires-clause-offer
+one_left-requires-clause-offer g c =
+    let turn = c.args.turn.now in
+    subst (λ (o : Offer). IsOfferAt (g.S.Offers.over turn.sources.now) (map ready_tree turn.ready.now) turn.at turn.row.now o) c.in-One.is c.requires.offer
+
+pub one_left-requires-clause-hinted : goal.one_left-requires-clause-hinted
+one_left-requires-clause-hinted g c = c.requires.hinted
+
+pub objects_left-requires-clause-hinted : goal.objects_left-requires-clause-hinted
+objects_left-requires-clause-hinted g c = c.requires.hinted
+
+pub objects_left-requires-in-Lend-clause-hinted : goal.objects_left-requires-in-Lend-clause-hinted
+objects_left-requires-in-Lend-clause-hinted g c = c.requires.hinted
 
 pub returns-in_ok-kept-in-Fill-clause-rows : goal.returns-in_ok-kept-in-Fill-clause-rows
 returns-in_ok-kept-in-Fill-clause-rows g c =

@@ -1,9 +1,10 @@
-use Rattle.std.proofs.Common.{List, length, subst, sym, ap, ◌∙◌, refl, arith}
-use Rattle.value_index.specs.Types.{Oid, Value, Entry, Wholes, Texts, Flags}
-use Rattle.value_index.specs.inside.Held.{AscendByObject, ArePut, less_objects}
+use Rattle.std.proofs.Common.{List, subst, sym, ap, ◌∙◌, arith}
+use Rattle.value_index.specs.Types.{Oid, Value, Wholes, Texts, Flags}
+use Rattle.value_orders.specs.Held.{AscendByObject, ArePut, less_objects}
 use Rattle.value_index.specs.inside.Leaving.{leaving_of}
-use Rattle.value_index.proofs.KeyLaws.{ascend-seen}
-use Rattle.value_index.proofs.HeldLaws.{less-ascend, leaving-ascends}
+use Rattle.value_orders.proofs.KeyLaws.{ascend-seen}
+use Rattle.value_orders.proofs.HeldLaws.{less-ascend}
+use Rattle.value_index.proofs.ChangeLaws.{leaving-ascends}
 use Rattle.value_index.proofs.IndexLaws.{put-seen}
 use Rattle.value_index.proofs.leaving.change_values.Goals as goal
 
@@ -34,4 +35,4 @@ returns c =
     ∙ ap (λ (l : List (Oid × Value)). leaving_of l c.as_slice-wholes.result.now c.as_slice-chars.result.now c.as_slice-flags.result.now c.args.gone.items) c.as_slice.ensures.value in
     let left = c.drop_values.ensures.values ∙ ap (λ (l : List (Oid × Value)). less_objects l c.args.values.now.items) leaves in
     put-seen _ _ _ _ _ _ _ _ _ _ c.as_slice-wholes.ensures c.as_slice-chars.ensures c.as_slice-flags.ensures
-    (subst (λ (l : List (Oid × Value)). ArePut c.args.come.items l c.put_values.new.values.items) left c.put_values.ensures)
+    (subst (λ (l : List (Oid × Value)). ArePut c.args.come.items l c.put_values.new.values.items) left c.put_values.ensures.put)

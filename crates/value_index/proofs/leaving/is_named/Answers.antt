@@ -1,6 +1,6 @@
 use Rattle.std.proofs.Common.{refl, sym, arith}
 use Rattle.std.proofs.lemmas.Bool.{false≢true}
-use Rattle.value_index.specs.inside.Entries.{naming}
+use Rattle.value_orders.specs.inside.Naming.{naming}
 use Rattle.value_index.proofs.NameLaws.{passed-none, passed-all, passed-more, passes-on, labels-rise, names-to}
 use Rattle.value_index.proofs.leaving.is_named.Goals as goal
 

@@ -1,8 +1,8 @@
-use Rattle.std.proofs.Common.{true≢false, refl, sym, ap, ◌∙◌}
+use Rattle.std.proofs.Common.{true≢false, refl, sym, ◌∙◌}
 use Rattle.sorted_list.specs.SortedLists.{Ascends}
 use Rattle.sorted_list.proofs.ListedLaws.{not_found, listed}
-use Rattle.value_index.specs.inside.EntryOrder.{entry_order, order_total}
-use Rattle.value_index.proofs.KeyLaws.{exact_order, found-there, to-order}
+use Rattle.value_orders.specs.EntryOrder.{entry_order, order_total}
+use Rattle.value_orders.proofs.KeyLaws.{exact_order, found-there, to-order}
 use Rattle.value_index.proofs.leaving.is_there.Goals as goal
 
 pub returns-in-Ok : goal.returns-in-Ok

@@ -2,7 +2,7 @@ use Rattle.std.proofs.Common.{List, ◌||◌, not, rules, map, subst, sym, ap, �
 use Rattle.std.specs.Prelude.{filter}
 use Rattle.std.proofs.lemmas.Fn.{filter_same}
 use Rattle.value_index.specs.Types.{Oid, Value, Wholes, Texts, Flags}
-use Rattle.value_index.specs.inside.Held.{AscendByObject, has_value}
+use Rattle.value_orders.specs.Held.{AscendByObject, has_value}
 use Rattle.value_index.specs.inside.Marks.{is_complex, marked_by}
 use Rattle.value_index.proofs.MarkLaws.{marked-ascend, marked-leave}
 use Rattle.value_index.proofs.leaving.many_leaving.Goals as goal

@@ -1,7 +1,7 @@
 use Rattle.std.proofs.Common.{List, get_or, map, sym, ap, subst, ◌∙◌, arith}
 use Rattle.std.proofs.lemmas.List.{take_all, take_more}
 use Rattle.value_index.specs.Types.{Oid, Value, Entry}
-use Rattle.value_index.specs.inside.Held.{AscendByObject}
+use Rattle.value_orders.specs.Held.{AscendByObject}
 use Rattle.value_index.specs.inside.Marks.{marked, marked_by}
 use Rattle.value_index.proofs.MarkLaws.{marked-none, marked-more, marked-ascend}
 use Rattle.value_index.proofs.marks.mark_named.Goals as goal

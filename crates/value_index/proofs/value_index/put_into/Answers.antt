@@ -1,5 +1,5 @@
 use Rattle.sorted_list.specs.SortedLists.{Ascends, AreJoined}
-use Rattle.value_index.proofs.KeyLaws.{exact_order, as-order, to-order}
+use Rattle.value_orders.proofs.KeyLaws.{exact_order, as-order, to-order}
 use Rattle.value_index.proofs.value_index.put_into.Goals as goal
 
 pub put_in-requires-clause-exact : goal.put_in-requires-clause-exact

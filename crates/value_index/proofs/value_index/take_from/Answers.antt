@@ -1,10 +1,10 @@
 use Rattle.std.proofs.Common.{List, subst, sym, ap, ◌∙◌}
 use Rattle.sorted_list.specs.SortedLists.{Ascends, AreWithout}
 use Rattle.value_index.specs.Types.{Entry}
-use Rattle.value_index.specs.inside.EntryOrder.{entry_order}
-use Rattle.value_index.specs.inside.Orders.{Orders, order_at, orders_of}
-use Rattle.value_index.proofs.KeyLaws.{exact_order, as-order, to-order, ascend-seen}
-use Rattle.value_index.proofs.OrderLaws.{kind-ascends}
+use Rattle.value_orders.specs.EntryOrder.{entry_order}
+use Rattle.value_orders.specs.Orders.{Orders, order_at}
+use Rattle.value_orders.proofs.KeyLaws.{exact_order, as-order, to-order}
+use Rattle.value_orders.proofs.OrderLaws.{kind-ascends}
 use Rattle.value_index.proofs.value_index.take_from.Goals as goal
 
 pub take_out-requires-clause-exact : goal.take_out-requires-clause-exact

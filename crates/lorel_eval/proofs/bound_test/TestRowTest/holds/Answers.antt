@@ -20,7 +20,7 @@ returns-in-Some-ready g c =
     subst (λ (test : CondOver). IfOk c.cond_holds.result (λ answer. IsTrue answer
     ↔ HoldsOver test.labels test.edges test.objects c.args.row.now (option_map bound_cond test.cond))) c.self.view_is
     (tells_by over c.args.row.now c.in-Some.cond.now (ready_tree c.in-Some-ready.ready) c.cond_holds.result there
-    (stands_for cond c.self.inside.ready c.in-Some.cond.now c.in-Some-ready.ready c.self.invariant.1 c.in-Some-ready.is there) c.cond_holds.ensures)
+    (stands_for over.labels cond c.self.inside.ready c.in-Some.cond.now c.in-Some-ready.ready c.self.invariant.1 c.in-Some-ready.is there) c.cond_holds.ensures)
 
 pub returns-in_ok-ready-in-None : goal.returns-in_ok-ready-in-None
 returns-in_ok-ready-in-None g c =

@@ -1,39 +1,16 @@
-use Rattle.std.proofs.Common.{List, map, All, sym, ap, ◌∙◌, subst}
-use Rattle.lorel_bound.specs.Bound.{bound_tree}
-use Rattle.lorel_bound.specs.declared.plans.PlanStep.{PlanStep}
-use Rattle.lorel_bound.specs.Plans.{step_tree, steps_of}
-use Rattle.plan_ops.specs.Steps.{steps_over}
-use Rattle.plan_ops.specs.inside.Ready.{CanBeReady}
-use Rattle.plan_ops.proofs.ReadyLaws.{steps_can, first_of, first_machine}
-use Rattle.plan_ops.proofs.DescribeLawsToCome.{top_to_come, sought_to_come}
-use Rattle.plan_ops.proofs.ToldLaws.{unasked_told}
 use Rattle.plan_ops.proofs.rows.Rows.new.Goals as goal
 
-pub ready_steps-requires : goal.ready_steps-requires
-ready_steps-requires g c =
-    subst (λ (l : List PlanStep). All CanBeReady (map step_tree l)) (sym c.as_slice.ensures)
-    (steps_can c.args.labels.now (bound_tree c.args.bound.now) c.args.plan.now.kind (steps_of c.args.plan.now) c.requires.runnable c.requires.plan)
+pub with_hints-requires-clause-hints : goal.with_hints-requires-clause-hints
+with_hints-requires-clause-hints g c = λ row finishes passes. passes
 
-pub invariant_of-result : goal.invariant_of-result
-invariant_of-result g c =
-    let over = steps_over c.args.labels.now (g.A.Adjacent.edges c.args.graph.now) (g.K.Links.edges c.args.links.now) (g.V.Values.entries c.args.values.now)
-    (g.P.Paths.reaches c.args.paths.now) (g.T.RowTest.passes c.args.test.now) in
-    first_machine over c.args.labels.now (bound_tree c.args.bound.now) c.args.plan.now.kind (steps_of c.args.plan.now) c.in_ok-ready.ready.items c.in_ok-told.told.items c.push.new.self.items
-    c.requires.runnable c.requires.plan (c.in_ok-ready.ensures.trees ∙ ap (map step_tree) c.as_slice.ensures) c.in_ok-ready.ensures.found (unasked_told over.passes c.in_ok-told.told.items c.in_ok-told.ensures)
-    (first_of c.new-partials.result.items c.push.new.self.items c.new.result c.new-partials.ensures.items c.in_ok-push.ensures.items c.new.ensures)
+pub returns-clause-over : goal.returns-clause-over
+returns-clause-over g c = c.with_hints.ensures.over
 
 pub returns-clause-rows : goal.returns-clause-rows
-returns-clause-rows g c =
-    let over = steps_over c.args.labels.now (g.A.Adjacent.edges c.args.graph.now) (g.K.Links.edges c.args.links.now) (g.V.Values.entries c.args.values.now)
-    (g.P.Paths.reaches c.args.paths.now) (g.T.RowTest.passes c.args.test.now) in
-    λ objects agrees. sought_to_come over (steps_of c.args.plan.now) c.push.new.self.items
-    (first_of c.new-partials.result.items c.push.new.self.items c.new.result c.new-partials.ensures.items c.in_ok-push.ensures.items c.new.ensures)
-    objects (bound_tree c.args.bound.now) c.args.plan.now.kind c.note_distinct.ensures c.requires.runnable c.requires.plan agrees
+returns-clause-rows g c = c.with_hints.ensures.rows
 
 pub returns-clause-top : goal.returns-clause-top
-returns-clause-top g c =
-    let over = steps_over c.args.labels.now (g.A.Adjacent.edges c.args.graph.now) (g.K.Links.edges c.args.links.now) (g.V.Values.entries c.args.values.now)
-    (g.P.Paths.reaches c.args.paths.now) (g.T.RowTest.passes c.args.test.now) in
-    λ walks. top_to_come over (steps_of c.args.plan.now) c.push.new.self.items
-    (first_of c.new-partials.result.items c.push.new.self.items c.new.result c.new-partials.ensures.items c.in_ok-push.ensures.items c.new.ensures)
-    (bound_tree c.args.bound.now) c.args.plan.now.kind c.requires.runnable c.requires.plan walks
+returns-clause-top g c = c.with_hints.ensures.top
+
+pub returns-clause-quiet : goal.returns-clause-quiet
+returns-clause-quiet g c = c.with_hints.ensures.quiet

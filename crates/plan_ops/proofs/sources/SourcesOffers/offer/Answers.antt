@@ -1,11 +1,31 @@
 use Rattle.std.proofs.Common.{refl}
 use Rattle.plan_ops.specs.Steps.{steps_over}
-use Rattle.plan_ops.proofs.OfferLaws.{forward_offers, guide_offers, lent, value_offers, none_found, back_offers, test_offers, check_tells}
+use Rattle.std.proofs.lemmas.Result.{IfOk-weaker}
+use Rattle.plan_ops.proofs.OfferLaws.{route_offers, word_offers, guide_offers, lent, value_offers, none_found, back_offers, test_offers, check_tells}
 use Rattle.plan_ops.proofs.sources.SourcesOffers.offer.Goals as goal
 
-pub returns-in_ok-oids-in-Forward-clause-rows : goal.returns-in_ok-oids-in-Forward-clause-rows
-returns-in_ok-oids-in-Forward-clause-rows g c =
-    rw c.in-Forward.is (forward_offers _ _ _ _ _ _ _ (rw c.in-Forward.is at c.requires.stands) c.requires.eight c.object-from.ensures c.in_ok-oids-in-Forward.ensures)
+pub along_route-requires : goal.along_route-requires
+along_route-requires g c = rw c.in-Forward.is at c.requires.kept
+
+pub along_word-requires : goal.along_word-requires
+along_word-requires g c = rw c.in-AlongWord.is at c.requires.kept
+
+pub returns-in-Forward-clause-kept : goal.returns-in-Forward-clause-kept
+returns-in-Forward-clause-kept g c = rw c.in-Forward.is c.along_route.ensures.kept
+
+pub returns-in-Forward-clause-rows : goal.returns-in-Forward-clause-rows
+returns-in-Forward-clause-rows g c =
+    rw c.in-Forward.is (IfOk-weaker c.along_route.result _ _ (λ offer puts. route_offers _ _ _ _ _ _ offer (rw c.in-Forward.is at c.requires.stands)
+    c.requires.eight c.object-from.ensures puts) c.along_route.ensures.objects)
+
+pub returns-in-AlongWord-clause-kept : goal.returns-in-AlongWord-clause-kept
+returns-in-AlongWord-clause-kept g c = rw c.in-AlongWord.is c.along_word.ensures.kept
+
+pub returns-in-AlongWord-clause-rows : goal.returns-in-AlongWord-clause-rows
+returns-in-AlongWord-clause-rows g c =
+    rw c.in-AlongWord.is (IfOk-weaker c.along_word.result _ _ (λ offer puts. word_offers _ _ _ _ _ _ _ offer
+    (rw c.in-AlongWord.is at c.requires.stands) c.requires.eight c.object.ensures (rw c.in-AlongWord.is at c.requires.found) puts)
+    c.along_word.ensures.objects)
 
 pub returns-in-FromGuide-clause-rows : goal.returns-in-FromGuide-clause-rows
 returns-in-FromGuide-clause-rows g c =

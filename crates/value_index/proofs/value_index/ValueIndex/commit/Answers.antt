@@ -1,11 +1,11 @@
 use Rattle.std.proofs.Common.{◌≡◌, List, All, length, ap, refl, subst, sym, ◌∙◌, arith}
-use Rattle.value_index.specs.Types.{Oid, Value, Complex, Entry, Wholes, Texts, Flags, Readings, FlagReadings}
-use Rattle.value_index.specs.inside.Held.{AscendByObject, ArePut, less_objects}
+use Rattle.value_index.specs.Types.{Oid, Value, Complex, Wholes, Texts, Flags, Readings, FlagReadings}
+use Rattle.value_orders.specs.Held.{AscendByObject, ArePut, less_objects}
 use Rattle.value_index.specs.inside.Leaving.{leaving_of}
-use Rattle.value_index.specs.inside.Orders.{Orders, orders_of, in_order}
-use Rattle.value_index.proofs.KeyLaws.{ascend-seen}
+use Rattle.value_orders.specs.Orders.{Orders, orders_of, in_order}
+use Rattle.value_orders.proofs.KeyLaws.{ascend-seen}
 use Rattle.value_index.proofs.MarkLaws.{held-atomic}
-use Rattle.value_index.proofs.OrderLaws.{ascend-in_order}
+use Rattle.value_orders.proofs.OrderLaws.{ascend-in_order}
 use Rattle.value_index.proofs.IndexLaws.{AreTaken, AreAllJoined, AreSeen, taken-seen, joined-seen, left-ascends, coming-ascends, coming-new, commit-less, commit-orders}
 use Rattle.value_index.proofs.value_index.ValueIndex.commit.Goals as goal
 

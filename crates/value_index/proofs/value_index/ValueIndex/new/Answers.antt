@@ -1,6 +1,8 @@
 use Rattle.std.proofs.Common.{◌≡◌, [], refl}
-use Rattle.value_index.specs.inside.Orders.{Orders, in_order, AreCountedOrders}
-use Rattle.value_index.proofs.OrderLaws.{none-counted, none-seen}
+use Rattle.value_orders.specs.Orders.{Orders, in_order}
+use Rattle.value_index.specs.inside.Counted.{AreCountedOrders}
+use Rattle.value_index.proofs.IndexLaws.{none-counted}
+use Rattle.value_orders.proofs.OrderLaws.{none-seen}
 use Rattle.value_index.proofs.value_index.ValueIndex.new.Goals as goal
 
 pub invariant_of-result : goal.invariant_of-result

@@ -1,7 +1,7 @@
 use Rattle.std.proofs.Common.{◌≢◌, All, Contains, List, sym, subst, ap}
 use Rattle.value_index.specs.Types.{ValueEntry, Complex}
-use Rattle.value_index.specs.inside.Entries.{HasOneValueIn}
-use Rattle.value_index.specs.inside.Orders.{orders_of}
+use Rattle.value_orders.specs.Entries.{HasOneValueIn}
+use Rattle.value_orders.specs.Orders.{orders_of}
 use Rattle.value_index.proofs.IndexLaws.{atomic_gone, one_gone, one_come}
 use Rattle.value_index.proofs.value_index.ValueIndex.prepare.Goals as goal
 

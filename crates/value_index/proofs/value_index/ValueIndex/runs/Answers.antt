@@ -1,6 +1,6 @@
 use Rattle.std.proofs.Common.{ap}
 use Rattle.value_index.specs.Types.{Wholes, Texts, Flags, Readings, FlagReadings}
-use Rattle.value_index.specs.inside.Orders.{orders_of}
+use Rattle.value_orders.specs.Orders.{orders_of}
 use Rattle.value_index.proofs.IndexLaws.{found_runs, few_runs, run_seen}
 use Rattle.value_index.proofs.value_index.ValueIndex.runs.Goals as goal
 

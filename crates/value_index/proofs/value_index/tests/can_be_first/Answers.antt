@@ -9,7 +9,7 @@ use Rattle.index_traits.specs.Entries.{AreAscendingEntries, entry_cmp}
 use Rattle.sorted_list.specs.SortedLists.{IsThen}
 use Rattle.value_index.specs.Types.{Complex, ValueEntry}
 use Rattle.value_index.specs.Values.{FitsEntries}
-use Rattle.value_index.proofs.EntryLaws.{less_once}
+use Rattle.value_orders.proofs.EntryLaws.{less_once}
 use Rattle.value_index.proofs.value_index.tests.can_be_first.Goals as goal
 
 -- entries that come into an index of none

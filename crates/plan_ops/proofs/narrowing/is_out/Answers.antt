@@ -1,4 +1,0 @@
-use Rattle.plan_ops.proofs.narrowing.is_out.Goals as goal
-
-pub returns : goal.returns
-returns g c = c.in_ok-out.ensures

@@ -1,0 +1,4 @@
+pub mod FitLaws
+pub mod SlotLaws
+pub mod ThinLaws
+pub mod ToldLaws

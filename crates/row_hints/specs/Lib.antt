@@ -1,0 +1,4 @@
+pub mod Types
+pub mod Thinned
+pub mod Told
+pub mod inside

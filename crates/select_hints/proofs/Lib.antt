@@ -1,0 +1,5 @@
+pub mod FormLaws
+pub mod JoinLaws
+pub mod MoveLaws
+pub mod CountLaws
+pub mod HintLaws

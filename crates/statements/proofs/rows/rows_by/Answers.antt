@@ -1,0 +1,34 @@
+use Rattle.std.proofs.Common.{◌≡◌, ◌∙◌}
+use Rattle.lorel_bound.specs.Bound.{bound_tree}
+use Rattle.lorel_bound.specs.Plans.{steps_of}
+use Rattle.plan_ops.proofs.ReadyLaws.{steps_can}
+use Rattle.statements.specs.inside.Views.{view_over, ReadsNone}
+use Rattle.statements.proofs.SomeReadLaws.{some_read}
+use Rattle.statements.proofs.StageLaws.{passes_alike}
+use Rattle.statements.proofs.StopLaws.{on_reply_weaker}
+use Rattle.statements.proofs.rows.rows_by.Goals as goal
+
+pub test_over-requires-clause-ready : goal.test_over-requires-clause-ready
+test_over-requires-clause-ready g c =
+    steps_can c.args.view.now.labels.now (bound_tree c.args.bound.now) c.args.plan.now.kind (steps_of c.args.plan.now) c.requires.runnable c.requires.planned
+
+pub answer_by-requires-clause-passes : goal.answer_by-requires-clause-passes
+answer_by-requires-clause-passes g c =
+    let view = c.args.view.now in
+    let made = c.in_ok-test.ensures in
+    passes_alike view.labels.now (g.G.Adjacent.edges view.graph.now) (g.G.ValueOf.objects view.graph.now) c.in_ok-test.test c.args.bound.now.cond
+    made.labels made.edges made.objects (made.cond ∙ c.as_ref.ensures.value)
+
+pub answer_by-requires-clause-hints : goal.answer_by-requires-clause-hints
+answer_by-requires-clause-hints g c = λ row finishes passes. passes
+
+pub returns-clause-quiet : goal.returns-clause-quiet
+returns-clause-quiet g c =
+    let view = c.args.view.now in
+    let tree = bound_tree c.args.bound.now in
+    let plan = steps_of c.args.plan.now in
+    let over = view_over view.labels.now (g.G.Adjacent.edges view.graph.now) (g.G.ValueOf.objects view.graph.now) (g.K.Links.edges view.links.now)
+    (g.V.Values.entries view.values.now) (g.P.Paths.reaches view.paths.now) tree in
+    on_reply_weaker c.answer_by.result (ReadsNone over tree plan → c.answer_by.new.steps ≡ c.test_over.new.steps)
+    (ReadsNone over tree plan → c.answer_by.new.steps ≡ c.args.steps.now)
+    (λ quiet none. quiet none ∙ c.in_ok-test.ensures.quiet (λ some. some_read over plan some none.0)) c.answer_by.ensures.quiet

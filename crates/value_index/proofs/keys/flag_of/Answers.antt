@@ -1,7 +1,0 @@
-use Rattle.std.proofs.Common.{sym, ap, ◌∙◌}
-use Rattle.value_index.specs.inside.Kinds.{flag_in}
-use Rattle.value_index.proofs.ReadingLaws.{flag_found}
-use Rattle.value_index.proofs.keys.flag_of.Goals as goal
-
-pub returns-in-Chars : goal.returns-in-Chars
-returns-in-Chars c = flag_found _ _ c.as_flag.ensures.some c.as_flag.ensures.none ∙ ap flag_in (sym c.in-Chars.is)

@@ -1,9 +1,0 @@
-use Rattle.std.proofs.Common.{subst, ap}
-use Rattle.value_index.specs.inside.Orders.{Orders, AreSortedOrders}
-use Rattle.value_index.proofs.orders.EntryOrders.into_values.Goals as goal
-
-pub returns-clause-values : goal.returns-clause-values
-returns-clause-values c = ap (λ (o : Orders). o.values) c.self.view_is
-
-pub returns-clause-sorted : goal.returns-clause-sorted
-returns-clause-sorted c = subst AreSortedOrders c.self.view_is c.self.invariant

@@ -1,0 +1,12 @@
+pub mod KeyLaws
+pub mod ReadingLaws
+pub mod KindLaws
+pub mod EntryLaws
+pub mod HeldLaws
+pub mod OrderLaws
+pub mod SplitLaws
+pub mod SortLaws
+pub mod RankLaws
+pub mod SlotLaws
+pub mod DropLaws
+pub mod BehindLaws
