@@ -221,6 +221,15 @@ def grouped(each):
         (f"select G{path}, M from A.g G, G.m M;", found) for path in (".name", "(.name|.title)")])
 
 
+def named(each):
+    """The same where two objects are shown of the one: what is kept of its walk is put into a row again for each member."""
+    members = range(each // 2)
+    load = braces("A", [f"g {{ name \"n\", name \"o\", {', '.join(f'm {i}' for i in members)} }}"])
+    found = rows(f'&{3 + place} "{name}" | &{5 + i} {i}' for place, name in enumerate("no") for i in members)
+    return Asked("one object's members, beside two that are shown of it", load, ok(len(members) + 4, len(members) + 3, 4), [
+        ("select G.name, M from A.g G, G.m M;", found)])
+
+
 def parts(each):
     """What two parts of one object refer to is joined: the one's are not compared with all of the other's, though both are known with it."""
     members = [*(f"y {{ a {i} }}" for i in range(each)), *(f"c {{ b {each + i} }}" for i in range(each))]
@@ -244,7 +253,7 @@ def sorts(each):
 QUESTIONS = (
     (join, 500), (filtered, 500), (first_of_three, 500), (shared, 1_200), (passing, 5_000), (meeting, 500), (ranked, 500),
     (common, 4_000), (ring, 1_200), (shown, 500), (shown_meeting, 500), (guarded, 2_000),
-    (grouped, 1_000), (parts, 2_000), (sorts, 1_000),
+    (grouped, 1_000), (named, 1_000), (parts, 2_000), (sorts, 1_000),
 )
 
 

@@ -81,7 +81,7 @@ fn are_in_order(entries: &[ValueEntry]) -> bool
 }
 
 // The orders of entries, or of none where these aren't in order.
-fn orders_of(alloc: Global, entries: &[ValueEntry]) -> Result<Option<EntryOrders>, NoMemory> {
+fn orders_of(alloc: Global, entries: &mut [ValueEntry]) -> Result<Option<EntryOrders>, NoMemory> {
     if !are_in_order(entries) {
         return Ok(None);
     }
@@ -92,7 +92,8 @@ fn orders_of(alloc: Global, entries: &[ValueEntry]) -> Result<Option<EntryOrders
 }
 
 fn sample(alloc: Global) -> Result<EntryOrders, Fail> {
-    match orders_of(alloc, entries(alloc)?.as_slice())? {
+    let mut given = entries(alloc)?.into_items();
+    match orders_of(alloc, given.as_mut_slice())? {
         Some(orders) => Ok(orders),
         None => Err(Fail::new("the entries are not in order")),
     }

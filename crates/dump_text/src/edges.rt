@@ -4,7 +4,7 @@ ghost use Rattle.dump_text.specs.Types.{LABELS as THE_LABELS};
 ghost use Rattle.dump_text.specs.Rules.{numbered_edge};
 
 use lore_base::{Edge, EdgeBuf, NoMemory, OemText, Oid};
-use oem_labels::LabelTable;
+use oem_labels::{Guesses, LabelTable};
 use std::alloc::Global;
 
 // The labels with their numbers; None exactly where a text stands twice.
@@ -41,13 +41,13 @@ pub(crate) fn numbered_edges(
         IfNone found (¬ All (λ entry. Contains labels.now entry.1) entries.now)) }
 {
     let mut edges = EdgeBuf::with_capacity(alloc, entries.len())?;
-    // Members that repeat their labels in order have the one behind the last.
-    let mut likely = 0;
+    // Members mostly repeat their labels in order.
+    let mut guesses = Guesses::new();
     'entries: for entry in entries {
-        let Some(label) = labels.find_at(likely, &entry.1) else {
+        let Some(label) = labels.find_at(guesses.next(), &entry.1) else {
             return Ok(None);
         };
-        likely = label.0 as usize + 1;
+        guesses.note(label);
         edges.push(Edge {
             parent: entry.0,
             label,

@@ -1,5 +1,5 @@
 -- Chains of places: made from the first edge on, and followed from the last one.
-use Rattle.std.proofs.Common.{◌≡◌, ◌⊎◌, ◌↔◌, ℕ, ◌+◌, ◌-◌, ◌%◌, ◌<◌, ◌≤◌, ◌==◌, Bool, true, false, Less, inl, inr, List, [], ◌∷◌, ◌++◌, length, get_or, set, replicate, All, AllPairs, Contains, refl, sym, ap, ◌∙◌, subst, arith, length-set}
+use Rattle.std.proofs.Common.{◌≡◌, ◌⊎◌, ◌↔◌, ℕ, ◌+◌, ◌-◌, ◌%◌, ◌<◌, ◌≤◌, ◌==◌, Bool, false, Less, inl, inr, List, [], ◌∷◌, ◌++◌, length, get_or, set, replicate, AllPairs, Contains, refl, sym, ap, ◌∙◌, subst, arith, length-set}
 use Rattle.std.proofs.lemmas.Bool.{cases_eq, cases_lt, true≢false}
 use Rattle.std.proofs.lemmas.Grind.{get_or-set_at}
 use Rattle.std.proofs.lemmas.List.{get_or-replicate, length-replicate, get_or-set_other, get_or_append_left, get_or-append_right, length_push, get_or_default}

@@ -66,6 +66,29 @@ pub fn push_leaving(
         append_run(buf, new)?;
         return Ok(());
     }
+    push_listed(objects, records, lost, fresh, new, oid, buf)
+}
+
+// The same where the object has a list. It stands apart, so that the call for a new object stays
+// short.
+fn push_listed(
+    objects: &[ObjectRecord],
+    records: &Slab<EdgeRecord>,
+    lost: &[Edge],
+    fresh: &[Edge],
+    new: &[Edge],
+    oid: Oid,
+    buf: &mut EdgeBuf,
+) -> Result<(), NoMemory>
+    requires ascend { AreAscendingObjects objects.now }
+    requires chained { AreChained Out objects.now records.now [] }
+    requires lost { AreAscendingEdges lost.now }
+    requires fresh { AreAscendingEdges fresh.now }
+    requires own { new.now ≡ out_of oid fresh.now }
+    ensures ok { OnOk result
+        (ExtendsBy (IsLayeredList Out records.now lost.now fresh.now oid) buf.old buf.new) }
+    ensures err { OnErr result (Extends buf.old buf.new) }
+{
     let gone = run_of(lost, oid);
     if new.is_empty() && gone.is_empty() {
         push_list(objects, records, Side::Out, oid, buf)?;

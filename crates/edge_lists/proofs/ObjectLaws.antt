@@ -1,11 +1,14 @@
 -- The heads of objects' lists, where one of them is set.
-use Rattle.std.proofs.Common.{◌≡◌, ◌≢◌, ℕ, zero, suc, ◌<◌, ◌≤◌, Option, None, cond, nat_eq, nat_cmp, true, false, Less, Equal, Greater, Err, List, [], ◌∷◌, length, get_or, set, map, refl, sym, ap, ◌∙◌, inl, inr, arith}
+use Rattle.std.proofs.Common.{◌≡◌, ◌≢◌, ℕ, zero, suc, ◌-◌, ◌<◌, ◌≤◌, Option, Some, None, Bool, cond, ltb, nat_eq, nat_cmp, true, false, Less, Equal, Greater, Err, List, [], ◌∷◌, length, get_or, set, map, All, refl, sym, ap, ◌∙◌, inl, inr, arith}
+use Rattle.std.specs.Bool.{OnTrue}
+use Rattle.std.specs.List.{slice_get}
 use Rattle.std.specs.List.Sorted.{IsBinarySearchResult, IsNonDecreasingBy}
 use Rattle.std.specs.Ordering.{ordering_index}
-use Rattle.std.proofs.lemmas.Bool.{cases_eq, cases_lt}
+use Rattle.std.proofs.lemmas.Bool.{cases_eq, cases_lt, ltb-true}
 use Rattle.std.proofs.lemmas.Bool.Decides.{nat_tests}
 use Rattle.std.proofs.lemmas.Cmp.{ranked}
 use Rattle.std.proofs.lemmas.List.{get_or-map, length-map, get_or-set_same, length-set}
+use Rattle.std.proofs.lemmas.Option.{get_or_from_slice_get}
 use Rattle.edge_lists.specs.Types.{Oid, Value, Side, Out, In, ObjectRecord}
 use Rattle.edge_lists.specs.Objects.{first_of, with_first, head_of, object_of, AreAscendingObjects, IsLive, IsHeaded}
 
@@ -119,6 +122,36 @@ pub found_oid : (objects : List ObjectRecord) (oid : Oid) (place : ℕ) (d : Obj
 found_oid objects oid place d lt equal =
     let number : (get_or objects place d).oid.0 ≡ oid.0 = ranked _ _ Equal (sym equal) in
     ap (λ n. record { 0 = n }) number
+
+-- all are below what the last is below
+pub below-last : (objects : List ObjectRecord) (oid : Oid) (last : ObjectRecord) → AreAscendingObjects objects → slice_get objects (length objects - 1) ≡ Some last
+    → OnTrue (ltb last.oid.0 oid.0) (All (λ o. o.oid.0 < oid.0) objects)
+below-last objects oid last ascend at = at_test (ltb last.oid.0 oid.0) (ltb-true last.oid.0 oid.0)
+  where
+    whole : last.oid.0 < oid.0 → All (λ o. o.oid.0 < oid.0) objects
+    whole lower k d lt =
+        let read : get_or objects (length objects - 1) d ≡ last = get_or_from_slice_get objects (length objects - 1) last d at in
+        elim (cases_lt k (length objects - 1)) [
+          | inl early ↦ omega (arith, ascend k (length objects - 1) d early (omega arith), ap (λ (o : ObjectRecord). o.oid.0) read, lower)
+          | inr late ↦
+              let here : k ≡ length objects - 1 = omega arith in
+              omega (arith, ap (λ n. (get_or objects n d).oid.0) here, ap (λ (o : ObjectRecord). o.oid.0) read, lower)
+        ]
+
+    at_test : (b : Bool) → (b ≡ true → last.oid.0 < oid.0) → OnTrue b (All (λ o. o.oid.0 < oid.0) objects)
+    at_test true lower = whole (lower refl)
+    at_test false lower = tt
+
+-- what is above all isn't there
+pub above_all : (objects : List ObjectRecord) (oid : Oid) → All (λ o. o.oid.0 < oid.0) objects → IsLive objects oid → ⊥
+above_all [] oid below live = absurd (omega (arith, live.1))
+above_all (o ∷ rest) oid below live =
+    let objects = o ∷ rest in
+    let k = live.0 in
+    let lt : k < length objects = omega (arith, live.1, length-map objects (λ (o : ObjectRecord). o.oid)) in
+    let here : (get_or objects k o).oid.0 ≡ oid.0 = ap (λ (a : Oid). a.0) (sym (get_or-map (λ (o : ObjectRecord). o.oid) objects k o oid lt) ∙ live.2) in
+    let lower = below k o lt in
+    omega (arith, lower, here)
 
 comparison_rises : (a b n : ℕ) → a ≤ b → ordering_index (nat_cmp a n) ≤ ordering_index (nat_cmp b n)
 comparison_rises a b n h = grind (arith, nat_tests)

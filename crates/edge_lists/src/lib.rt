@@ -10,7 +10,7 @@
 pub use commits::commit_edges;
 pub use links::Link;
 pub use lists::{push_list, push_records};
-pub use objects::{ObjectRecord, has_list, place_of};
+pub use objects::{ObjectRecord, are_below, has_list, place_of};
 pub use records::EdgeRecord;
 pub use sides::{Side, Way};
 pub use sifts::{Sifted, count_there, sift};

@@ -1,4 +1,5 @@
-ghost use Rattle.std.specs.Prelude.{◌≡◌, ◌<◌, length, slice_index_or, IfSome, IfNone, ℕ, true, is_some};
+ghost use Rattle.std.specs.Prelude.{◌≡◌, ◌<◌, length, slice_index_or, All, IfSome, IfNone, true, is_some};
+ghost use Rattle.std.specs.Bool.{OnTrue};
 ghost use Rattle.edge_lists.specs.Types.{ObjectRecord as TheObject};
 ghost use Rattle.edge_lists.specs.Links.{Fits};
 ghost use Rattle.edge_lists.specs.Objects.{bare, first_of, with_first, head_of, AreAscendingObjects, IsLive, IsHeaded};
@@ -56,7 +57,8 @@ impl ObjectRecord {
 }
 
 /// The place of the object among ascending ones. It is looked for first where it stands while
-/// numbers have no gap, and then by binary search.
+/// numbers have no gap, and then by binary search, unless its number is above all others, as those of
+/// new objects are.
 pub fn place_of(objects: &[ObjectRecord], oid: Oid) -> Option<usize>
     requires { AreAscendingObjects objects.now }
     ensures inside { IfSome result (λ place. place < length objects.now) }
@@ -68,9 +70,23 @@ pub fn place_of(objects: &[ObjectRecord], oid: Oid) -> Option<usize>
     if stands_at(objects, likely, oid) {
         return Some(likely);
     }
+    if are_below(objects, oid) {
+        return None;
+    }
     match objects.binary_search_by_key(&oid, |object| object.oid) {
         Ok(place) => Some(place),
         Err(_) => None,
+    }
+}
+
+/// Whether all numbers are below this one, told by the last of them.
+pub fn are_below(objects: &[ObjectRecord], oid: Oid) -> bool
+    requires { AreAscendingObjects objects.now }
+    ensures { OnTrue result (All (λ object. object.oid.0 < oid.0) objects.now) }
+{
+    match objects.last() {
+        Some(last) => last.oid.0 < oid.0,
+        None => true,
     }
 }
 

@@ -1,14 +1,12 @@
 -- Objects as records, where values are given to them.
-use Rattle.std.proofs.Common.{◌≡◌, ℕ, zero, suc, ◌+◌, ◌-◌, ◌<◌, ◌≤◌, Bool, true, false, not, cond, ltb, nat_eq, nat_cmp, Less, Greater, Err, Option, Some, None, List, [], ◌∷◌, ◌++◌, length, get_or, take, drop, set, map, All, Contains, refl, sym, ap, ◌∙◌, inl, inr, subst, arith}
-use Rattle.std.specs.Bool.{OnTrue}
-use Rattle.std.specs.List.{insert, slice_get, filter}
+use Rattle.std.proofs.Common.{◌≡◌, ℕ, zero, suc, ◌+◌, ◌-◌, ◌<◌, ◌≤◌, Bool, true, not, cond, nat_eq, nat_cmp, Less, Greater, Err, Option, None, List, [], ◌∷◌, ◌++◌, length, get_or, take, drop, set, map, All, Contains, refl, sym, ap, ◌∙◌, inl, inr, subst, arith}
+use Rattle.std.specs.List.{insert, filter}
 use Rattle.std.specs.List.Sorted.{IsBinarySearchResult, IsNonDecreasingBy}
 use Rattle.std.specs.Ordering.{ordering_index}
-use Rattle.std.proofs.lemmas.Bool.{cases_eq, cases_lt, ltb-true}
+use Rattle.std.proofs.lemmas.Bool.{cases_eq, cases_lt}
 use Rattle.std.proofs.lemmas.Cmp.{ranked}
 use Rattle.std.proofs.lemmas.List.{get_or-map, length-map, append_assoc, append-nil, take-append-le, take_all}
 use Rattle.std.proofs.lemmas.List.Edits.{length-insert, get_or-insert_below, get_or-insert_at, get_or-insert_above, insert_end}
-use Rattle.std.proofs.lemmas.Option.{get_or_from_slice_get}
 use Rattle.lore_base.proofs.ListLaws.{AllPairs-tail}
 use Rattle.graph_changes.specs.Types.{Side, Out, In, ObjectRecord}
 use Rattle.edge_lists.specs.Objects.{object_of, first_of, head_of, AreAscendingObjects, IsLive}
@@ -213,25 +211,6 @@ put-more given last o0 o1 o2 all one = record {
 }
 
 -- ---- searches
--- all are below what the last is below
-pub below-last : (objects : List ObjectRecord) (oid : Oid) (last : ObjectRecord) → AreAscendingObjects objects → slice_get objects (length objects - 1) ≡ Some last
-    → OnTrue (ltb last.oid.0 oid.0) (All (λ o. o.oid.0 < oid.0) objects)
-below-last objects oid last ascend at = at_test (ltb last.oid.0 oid.0) (ltb-true last.oid.0 oid.0)
-  where
-    whole : last.oid.0 < oid.0 → All (λ o. o.oid.0 < oid.0) objects
-    whole lower k d lt =
-        let read : get_or objects (length objects - 1) d ≡ last = get_or_from_slice_get objects (length objects - 1) last d at in
-        elim (cases_lt k (length objects - 1)) [
-          | inl early ↦ omega (arith, ascend k (length objects - 1) d early (omega arith), ap (λ (o : ObjectRecord). o.oid.0) read, lower)
-          | inr late ↦
-              let here : k ≡ length objects - 1 = omega arith in
-              omega (arith, ap (λ n. (get_or objects n d).oid.0) here, ap (λ (o : ObjectRecord). o.oid.0) read, lower)
-        ]
-
-    at_test : (b : Bool) → (b ≡ true → last.oid.0 < oid.0) → OnTrue b (All (λ o. o.oid.0 < oid.0) objects)
-    at_test true lower = whole (lower refl)
-    at_test false lower = tt
-
 -- along ascending objects the comparisons with a number rise
 records_rise : (objects : List ObjectRecord) → AreAscendingObjects objects → (n : ℕ) → IsNonDecreasingBy (λ o. ordering_index (nat_cmp o.oid.0 n)) objects
 records_rise objects ascend n i j d le lt =

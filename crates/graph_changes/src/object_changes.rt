@@ -1,6 +1,5 @@
-ghost use Rattle.std.specs.Prelude.{◌≡◌, ◌<◌, ◌≤◌, ◌+◌, [], ◌∷◌, length, map, All, Contains, IfSome, IfNone};
+ghost use Rattle.std.specs.Prelude.{◌≡◌, ◌<◌, ◌≤◌, ◌+◌, [], ◌∷◌, length, map, Contains, IfSome, IfNone};
 ghost use Rattle.std.specs.Prelude.{vec_len, vec_capacity};
-ghost use Rattle.std.specs.Bool.{OnTrue};
 ghost use Rattle.edge_lists.specs.Objects.{object_of, AreAscendingObjects, IsLive};
 ghost use Rattle.lore_base.specs.Databases as Objects;
 ghost use Rattle.graph_changes.specs.Puts.{with_objects};
@@ -9,7 +8,7 @@ ghost use Rattle.graph_changes.specs.Given.{ArePutIn, AreDropped};
 ghost use Rattle.graph_changes.specs.inside.Gaps.{IsGap};
 
 use crate::dead_oids::is_dead;
-use edge_lists::{ObjectRecord, place_of};
+use edge_lists::{ObjectRecord, are_below, place_of};
 use lore_base::{ObjectList, Oid, Value};
 
 /// Gives objects their values; those that aren't there yet come at their places, without edges. Takes
@@ -68,17 +67,6 @@ fn gap_of(objects: &[ObjectRecord], oid: Oid) -> Option<usize>
     match objects.binary_search_by_key(&oid, |object| object.oid) {
         Ok(_) => None,
         Err(place) => Some(place),
-    }
-}
-
-// Whether all numbers are below this one, told by the last of them.
-fn are_below(objects: &[ObjectRecord], oid: Oid) -> bool
-    requires { AreAscendingObjects objects.now }
-    ensures { OnTrue result (All (λ object. object.oid.0 < oid.0) objects.now) }
-{
-    match objects.last() {
-        Some(last) => last.oid.0 < oid.0,
-        None => true,
     }
 }
 

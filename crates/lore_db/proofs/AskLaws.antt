@@ -15,7 +15,7 @@ use Rattle.lore_db.specs.Types.{Rows, Past, Lines, Refused}
 use Rattle.statements.specs.Types.refusals
 use Rattle.statements.specs.Pasts.{database_over}
 use Rattle.statements.specs.Statements.{Cause, cause_order, Executes}
-use Rattle.lore_db.specs.Changes.{AreChangeLines}
+use Rattle.change_lines.specs.Changes.{AreChangeLines}
 use Rattle.lore_db.specs.States.{State, IsMoment, HasMoment, AreTwoMoments, database_at, AsksNoMoment}
 use Rattle.lore_db.specs.States.{CauseAtMoment, IsRestore, AnswersAt, TellsChanges, PlainCause, StateCause, state_order, WouldBeFullAfter, WouldBeFull, Performs}
 use Rattle.lore_db.specs.States.{CountsNoStep}

@@ -3,8 +3,6 @@ pub mod PerformLaws
 pub mod BoundLaws
 pub mod MomentLaws
 pub mod AskLaws
-pub mod MergeLaws
-pub mod LineLaws
 pub mod BlockedLaws
 pub mod ViewingLaws
 pub mod KeptLaws

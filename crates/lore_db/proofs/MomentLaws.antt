@@ -1,57 +1,17 @@
--- Moments of a history: the last one, and those of numbers.
-use Rattle.std.proofs.Common.{◌≡◌, ℕ, ◌+◌, ◌≤◌, ◌<◌, inl, inr, List, [], ◌∷◌, ◌++◌, ◌⊎◌, length, Option, Some, None, refl, sym, ap, ◌∙◌, subst, arith}
+-- Moments of a history by their numbers, and the refusal of a full one.
+use Rattle.std.proofs.Common.{◌≡◌, ℕ, ◌≤◌, ◌<◌, inl, inr, [], ◌⊎◌, Option, Some, None, refl, ap, arith}
 use Rattle.std.specs.Prelude.{ℤ, pos}
-use Rattle.std.specs.List.{slice_get}
-use Rattle.std.proofs.lemmas.List.{length-append}
-use Rattle.std.proofs.lemmas.List.FromFn.{length-map-range_with_len}
-use Rattle.std.proofs.lemmas.Option.{same_Some, slice_get_within, get_or_from_slice_get}
-use Rattle.list_laws.proofs.PlaceLaws.{slice_get-push}
-use Rattle.lore_base.specs.Databases.{Database, OemGraph, IsOrdered}
-use Rattle.lore_base.specs.Deltas.{IsDelta}
-use Rattle.doem_history.specs.Types.{Delta, Refusal}
+use Rattle.std.proofs.lemmas.Option.{slice_get_within, get_or_from_slice_get}
+use Rattle.doem_history.specs.Types.{Refusal}
 use Rattle.doem_history.specs.Types.refusals
 use Rattle.doem_history.specs.Faults.{refusal_of}
 use Rattle.doem_history.specs.declared.faults.HistoryFault.{HistoryFault}
 use Rattle.doem_history.specs.declared.faults.HistoryFault.TheVariants as faults
-use Rattle.doem_history.specs.Moments.{Moment, moment_of, LeadsTo}
-use Rattle.doem_history.specs.Histories.{KeptHistory, moment_at, last_moment, moments_of, IsSame}
-use Rattle.doem_history.proofs.DeltaLaws.{leads_by_graphs}
+use Rattle.doem_history.specs.Moments.{Moment, moment_of}
+use Rattle.doem_history.specs.Histories.{KeptHistory, moment_at, moments_of}
 use Rattle.doem_history.proofs.ViewLaws.{moment_told}
-use Rattle.lore_db.specs.States.{present, IsMoment, HasMoment, AreTwoMoments, objects_at}
-
--- there is one moment more than the number of the last
-count_moments : (h : KeptHistory) → length (moments_of h) ≡ h.last + 1
-count_moments h = length-map-range_with_len (moment_at h) 0 (h.last + 1)
-
--- the last moment is the one that stands behind all others
-pub last_is : (h : KeptHistory) (earlier : List Moment) (after : Moment) → moments_of h ≡ earlier ++ after ∷ [] → last_moment h ≡ after
-last_is h earlier after is =
-    let count = count_moments h in
-    let long : length (moments_of h) ≡ length earlier + 1 = ap (λ (l : List Moment). length l) is ∙ length-append earlier (after ∷ []) in
-    let place : length earlier ≡ h.last = omega (arith, count, long) in
-    same_Some (last_moment h) after
-    (sym (moment_told h h.last (omega arith)) ∙ ap (λ (l : List Moment). slice_get l h.last) is
-    ∙ ap (λ (n : ℕ). slice_get (earlier ++ after ∷ []) n) (sym place) ∙ slice_get-push earlier after)
-
--- and it is the same where the histories are
-pub same_last : (old new : KeptHistory) → IsSame old new → last_moment new ≡ last_moment old
-same_last old new same =
-    let names = same.names.runs in
-    let objects = same.objects.runs in
-    let edges = same.edges.runs in
-    let last = same.last in
-    λ i. moment_at (record old {
-      names = record old.names { runs = names i };
-      objects = record old.objects { runs = objects i };
-      edges = record old.edges { runs = edges i };
-    }) (last i)
-
--- what a change makes of the graph leads on from the last moment
-pub leads_on : (h : KeptHistory) (before : Database) (after : OemGraph) (delta : Delta) → last_moment h ≡ present before → IsDelta before.graph after delta
-    → IsOrdered after → LeadsTo (last_moment h) (moment_of after.names after.objects after.edges) delta
-leads_on h before after delta last differ ordered =
-    subst (λ (m : Moment). LeadsTo m (moment_of after.names after.objects after.edges) delta) (sym last)
-    (leads_by_graphs before.graph after delta differ ordered)
+use Rattle.kept_history.proofs.MomentLaws.{count_moments}
+use Rattle.lore_db.specs.States.{IsMoment, HasMoment, AreTwoMoments, objects_at}
 
 -- a fault of a history says that it is full, or tells no refusal
 pub full_or_none : (fault : HistoryFault) (told : Option Refusal) (Full : Type 0) → told ≡ refusal_of fault → (fault ≡ faults.Full → Full)

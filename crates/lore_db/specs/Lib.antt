@@ -1,5 +1,4 @@
 pub mod Types
-pub mod Changes
 pub mod States
 pub mod Freshness
 pub mod Codes

@@ -1,4 +1,5 @@
 -- What a session keeps from one statement to the next, and what one statement answers and leaves of it.
+pub use Rattle.kept_history.specs.Kept.{present}
 use Rattle.std.specs.Prelude.{◌≡◌, ◌⊎◌, ℕ, ℤ, pos, ◌≤◌, Bool, true, false, List, [], ◌∷◌, ◌++◌, Option, Some, None}
 use Rattle.std.specs.Prelude.{MatchOption, Contains, length, slice_get, get_or}
 use Rattle.std.specs.Map.{remove_entry}
@@ -22,7 +23,7 @@ use Rattle.statements.specs.Statements as databases
 use Rattle.statements.specs.Bounds.{ReadsWithinEffects, ReadsToReply}
 use Rattle.statements.specs.Uncounted.{ReadsNoEdge, IsPlainSelect}
 use Rattle.view_laws.specs.Freshness.{NamedQuery, query_in}
-use Rattle.lore_db.specs.Changes.{AreChangeLines}
+use Rattle.change_lines.specs.Changes.{AreChangeLines}
 
 -- a database, the moments of its history, where one is kept, and the selects that are kept as views, in the order of
 -- their names
@@ -40,10 +41,6 @@ pub record Kept : Type 0 where
 
 abbrev pub new_state : State
 new_state = record { db = new_database; history = None; views = [] }
-
--- the present moment: the names, objects and edges of the database
-abbrev pub present : Database → Moment
-present db = moment_of db.graph.names db.graph.objects db.graph.edges
 
 -- Moments that are asked for.
 

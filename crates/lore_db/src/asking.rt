@@ -7,8 +7,8 @@ ghost use Rattle.statements.specs.Types.refusals;
 ghost use Rattle.statements.specs.Stops.{told, OnReply};
 ghost use Rattle.lore_db.specs.States.{Performs, StateCause, state_order, CountsNoStep};
 
-use crate::change_lines::change_lines;
 use crate::db::Db;
+use change_lines::change_lines;
 use doem_history::History;
 use lore_base::{Refusal, Steps};
 use lorel_trees::Select;
@@ -18,8 +18,8 @@ use std::sync::ledger::Ledger;
 
 impl Db {
     /// Selects rows over the database as it was at a moment. Refused are a history that isn't kept
-    /// (`NoHistory`), a number of no moment (`MomentRange`), and what a select is refused for. No step
-    /// is counted where there is no such moment.
+    /// (`NoHistory`), a number of no moment (`MomentRange`), and what a select is refused for. No
+    /// step is counted where there is no such moment.
     pub(crate) fn select_at<L: Ledger>(
         &self,
         alloc: Global,
@@ -47,7 +47,8 @@ impl Db {
     }
 
     /// The lines of what differs between two moments. Refused are a history that isn't kept
-    /// (`NoHistory`), and numbers of no two moments, the first not behind the last (`MomentRange`).
+    /// (`NoHistory`), and numbers of no two moments, the first not behind the last
+    /// (`MomentRange`).
     pub(crate) fn changes(&self, alloc: Global, first: i64, last: i64) -> Result<Reply, Stop>
         ensures ok { IfOk result (λ reply.
             Performs self.now.state (differing first last) reply self.now.state) }
@@ -89,7 +90,8 @@ fn number_of(history: &History, given: i64) -> Option<u32>
     Some(number)
 }
 
-// The numbers of two moments; None exactly where there are none such, the first not behind the last.
+// The numbers of two moments; None exactly where there are none such, the first not behind the
+// last.
 fn numbers_of(history: &History, first: i64, last: i64) -> Option<(u32, u32)>
     ensures some { IfSome result (λ two. (first ≡ pos two.0) × (last ≡ pos two.1)
         × (two.0 ≤ two.1) × (two.1 ≤ history.now.last)) }

@@ -1,4 +1,4 @@
-ghost use Rattle.std.specs.Prelude.{◌≡◌, map, IfOk, IfErr, OnErr};
+ghost use Rattle.std.specs.Prelude.{◌≡◌, IfOk, IfErr, OnErr};
 ghost use Rattle.lore_base.specs.Databases.{IsValid};
 ghost use Rattle.lore_base.specs.Verdicts.{IsToldBy};
 ghost use Rattle.lorel_trees.specs.Trees.{select_tree, blocks as asking, blocks_of};
@@ -13,19 +13,19 @@ ghost use Rattle.lore_db.specs.States.{BlocksTellAll, blocked_then};
 ghost use Rattle.lore_db.specs.Freshness.{KeepsFresh};
 
 use crate::db::Db;
-use crate::keeping::oid_at;
 use block_lines::block_lines;
-use lore_base::{NoMemory, OidBuf, Steps};
+use kept_history::live_objects;
+use lore_base::{NoMemory, Steps};
 use lore_store::Store;
 use lorel_trees::Select;
-use oem_graph::Graph;
 use one_index::{BlockPaths, Blocks};
 use statements::{Answer, Reply, Stop, select_by};
 use std::alloc::Global;
 use std::sync::ledger::Ledger;
 
 impl Db {
-    /// The lines of the blocks, which are kept from then on. No step is counted where they are already.
+    /// The lines of the blocks, which are kept from then on. No step is counted where they are
+    /// already.
     pub(crate) fn show_blocks<L: Ledger>(
         &mut self,
         alloc: Global,
@@ -49,8 +49,9 @@ impl Db {
         Ok(Reply::Lines(lines))
     }
 
-    /// Selects rows by what the blocks tell, which are kept from then on. No step is counted where they
-    /// are already, and there is at most one range, no condition, and no cell that shows a word.
+    /// Selects rows by what the blocks tell, which are kept from then on. No step is counted where
+    /// they are already, and there is at most one range, no condition, and no cell that shows a
+    /// word.
     pub(crate) fn select_blocks<L: Ledger>(
         &mut self,
         alloc: Global,
@@ -110,15 +111,4 @@ fn built<L: Ledger>(alloc: Global, store: &Store, steps: &mut Steps<L>) -> Resul
     let graph = store.graph();
     let objects = live_objects(alloc, graph)?;
     Blocks::build(alloc, graph, store.links(), &objects, graph.names(), steps)
-}
-
-// The live objects, in order.
-fn live_objects(alloc: Global, graph: &Graph) -> Result<OidBuf, NoMemory>
-    ensures { IfOk result (λ oids. oids ≡ map (λ object. object.0) graph.now.graph.objects) }
-{
-    let mut oids = OidBuf::with_capacity(alloc, graph.objects() as usize)?;
-    'places: for place in 0..graph.objects() {
-        oids.push(oid_at(graph, place))?;
-    }
-    Ok(oids)
 }

@@ -30,10 +30,10 @@ use std::alloc::Global;
 use std::marker::Model;
 use std::sync::ledger::Ledger;
 
-/// A database that statements are executed on, and the history, the blocks and the views that are kept
-/// of it. Contracts see the state, which is that database, the moments of the history, and the selects
-/// of the views; whether blocks are kept: those that there are are the database's, so that nothing is
-/// lost with them; and which views are fresh.
+/// A database that statements are executed on, and the history, the blocks and the views that are
+/// kept of it. Contracts see the state, which is that database, the moments of the history, and
+/// the selects of the views; whether blocks are kept: those that there are are the database's, so
+/// that nothing is lost with them; and which views are fresh.
 #[derive(Drop)]
 pub struct Db {
     pub(crate) store: Store,
@@ -85,7 +85,8 @@ impl Db {
         &self.store
     }
 
-    /// The history, whose last moment is the present; None exactly where none is kept. Takes no memory.
+    /// The history, whose last moment is the present; None exactly where none is kept. Takes no
+    /// memory.
     pub fn history(&self) -> Option<&History>
         ensures some { IfSome result (λ history.
             self.now.state.history ≡ Some (moments_of history.now)) }
@@ -104,7 +105,8 @@ impl Db {
         self.blocks.as_ref()
     }
 
-    /// The views. Those that are fresh have the rows of what their selects answer now. Takes no memory.
+    /// The views. Those that are fresh have the rows of what their selects answer now. Takes no
+    /// memory.
     pub fn views(&self) -> &Views
         ensures queries { queries_of result.now ≡ self.now.state.views }
         ensures fresh { fresh_of result.now ≡ self.now.fresh }
@@ -124,8 +126,8 @@ impl Db {
         self.store.graph().value_of(oid)
     }
 
-    /// The object's value at a moment; None exactly where there is no such moment, or the object isn't
-    /// live at it. Takes no memory.
+    /// The object's value at a moment; None exactly where there is no such moment, or the object
+    /// isn't live at it. Takes no memory.
     pub fn past_value(&self, moment: u32, oid: Oid) -> Option<&Value>
         ensures found { IfSome result (λ value.
             Contains (objects_at self.now.state.history moment) (oid, value.now)) }
@@ -149,16 +151,16 @@ impl Db {
     }
 
     /// Executes a statement. A refusal, and want of memory, leave the database, its history, its
-    /// blocks and its views as they were. No step is counted for a statement that shows a plan, the
-    /// guide, where a label path leads, what differs between two moments, or a view that is fresh, or
-    /// that sets something, ends the history or takes a view away, for numbers out of range by which
-    /// objects were to be generated, for a moment that isn't kept, for a dump that a history keeps out,
-    /// and for a select for which no edge is read: where the guide tells all and no cell shows a word,
-    /// or no value is found to begin with. Where blocks are kept none is counted for what they tell:
-    /// their lines, and a select of at most one range, without a condition and words. For a load, a name
-    /// that is taken away and generated objects no more is read than four times the work of their
-    /// changes, and nothing where they are refused for any other cause than what the database or its
-    /// history would hold.
+    /// blocks and its views as they were. No step is counted for a statement that shows a plan,
+    /// the guide, where a label path leads, what differs between two moments, or a view that is
+    /// fresh, or that sets something, ends the history or takes a view away, for numbers out of
+    /// range by which objects were to be generated, for a moment that isn't kept, for a dump that
+    /// a history keeps out, and for a select for which no edge is read: where the guide tells all
+    /// and no cell shows a word, or no value is found to begin with. Where blocks are kept none is
+    /// counted for what they tell: their lines, and a select of at most one range, without a
+    /// condition and words. For a load, a name that is taken away and generated objects no more is
+    /// read than four times the work of their changes, and nothing where they are refused for any
+    /// other cause than what the database or its history would hold.
     pub fn execute<L: Ledger>(
         &mut self,
         alloc: Global,

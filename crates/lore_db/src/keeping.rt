@@ -1,13 +1,11 @@
-ghost use Rattle.std.specs.Prelude.{◌≡◌, ◌⊎◌, ◌↔◌, [], ◌∷◌, true, false, Some, None, map, length, slice_get, Contains};
-ghost use Rattle.std.specs.Prelude.{IsTrue, MatchOption, IfOk, IfErr, OnOk, OnErr, ◌<◌};
-ghost use Rattle.lore_base.specs.Databases.{IsLive};
+ghost use Rattle.std.specs.Prelude.{◌≡◌, ◌⊎◌, ◌↔◌, [], ◌∷◌, true, false, Some, None};
+ghost use Rattle.std.specs.Prelude.{IsTrue, MatchOption, IfOk, IfErr, OnOk, OnErr};
 ghost use Rattle.lore_base.specs.Verdicts.{IsToldBy};
 ghost use Rattle.lorel_trees.specs.Trees.{statement_tree, history as keeping};
 ghost use Rattle.lorel_trees.specs.Sound.{IsSound};
 ghost use Rattle.doem_history.specs.Moments.{IsFull};
 ghost use Rattle.doem_history.specs.Histories.{moments_of};
 ghost use Rattle.statements.specs.Types.refusals;
-ghost use Rattle.statements.specs.Types.{Value as TheValue};
 ghost use Rattle.statements.specs.Forms.{IsChanging, IsOfSession, IsOfBlocks};
 ghost use Rattle.statements.specs.Stops.{told, OnReply};
 ghost use Rattle.lore_db.specs.States.{Performs, StateCause, state_order, CountsNoStep};
@@ -17,11 +15,9 @@ ghost use Rattle.lore_db.specs.inside.Kept.{kept_moments, IsRestored};
 
 use crate::db::Db;
 use doem_history::History;
-use index_traits::ValueOf;
-use lore_base::{Fault, NoMemory, ObjectList, Oid, Refusal, Steps, TryCopy, Value};
+use lore_base::{Fault, Refusal, Steps};
 use lore_store::Store;
 use lorel_trees::Statement;
-use oem_graph::Graph;
 use one_index::Blocks;
 use statements::{Reply, Stop, all_edges, counts};
 use std::alloc::Global;
@@ -52,9 +48,9 @@ impl Db {
         }
     }
 
-    // Keeps the present moment alone from then on. Refused is one that weighs more than a history may
-    // (`HistoryFull`): then the history that was kept stays. A step is counted for each object and one
-    // for each edge.
+    // Keeps the present moment alone from then on. Refused is one that weighs more than a history
+    // may (`HistoryFull`): then the history that was kept stays. A step is counted for each object
+    // and one for each edge.
     fn begin<L: Ledger>(&mut self, alloc: Global, steps: &mut Steps<L>) -> Result<Reply, Stop>
         ensures ok { IfOk result (λ reply.
             Performs self.old.state (keeping true) reply self.new.state) }
@@ -64,7 +60,7 @@ impl Db {
         ensures blocked { self.new.blocked ≡ self.old.blocked }
         ensures same { OnErr result (self.new ≡ self.old) }
     {
-        let history = begun(alloc, &self.store, steps)?;
+        let history = history_begun(alloc, &self.store, steps)?;
         self.history = Some(history);
         Ok(counts(&self.store))
     }
@@ -79,9 +75,9 @@ impl Db {
         counts(&self.store)
     }
 
-    /// Executes a statement that lists no changes: the names, objects and edges stay, but where a dump is
-    /// restored. That is done only where no history is kept (`NotFresh`), and blocks are kept no longer
-    /// then.
+    /// Executes a statement that lists no changes: the names, objects and edges stay, but where a
+    /// dump is restored. That is done only where no history is kept (`NotFresh`), and blocks are
+    /// kept no longer then.
     pub(crate) fn execute_still<L: Ledger>(
         &mut self,
         alloc: Global,
@@ -156,53 +152,19 @@ fn leave(blocks: &mut Option<Blocks>, statement: &Statement, reply: &Reply)
 }
 
 // A history of the present moment alone.
-fn begun<L: Ledger>(alloc: Global, store: &Store, steps: &mut Steps<L>) -> Result<History, Stop>
+fn history_begun<L: Ledger>(
+    alloc: Global,
+    store: &Store,
+    steps: &mut Steps<L>,
+) -> Result<History, Stop>
     ensures ok { IfOk result (λ history. moments_of history ≡ present store.now.db ∷ []) }
     ensures light { OnOk result (¬ IsFull (present store.now.db ∷ [])) }
     ensures refused { IfErr result (λ stop. (told stop ≡ None)
         ⊎ ((told stop ≡ Some refusals.HistoryFull) × IsFull (present store.now.db ∷ []))) }
 {
-    let graph = store.graph();
-    let edges = all_edges(alloc, graph, steps)?;
-    let objects = all_objects(alloc, graph)?;
-    match History::start(alloc, graph.names(), &objects, &edges) {
+    let edges = all_edges(alloc, store.graph(), steps)?;
+    match kept_history::begun(alloc, store, &edges) {
         Ok(history) => Ok(history),
         Err(fault) => Err(Stop::by(fault.refusal())),
-    }
-}
-
-// All objects with their values, in order.
-fn all_objects(alloc: Global, graph: &Graph) -> Result<ObjectList, NoMemory>
-    ensures { IfOk result (λ objects. objects ≡ graph.now.graph.objects) }
-{
-    let mut objects = ObjectList::with_capacity(alloc, graph.objects() as usize)?;
-    'places: for place in 0..graph.objects() {
-        let oid = oid_at(graph, place);
-        let value = value_in(graph, oid).try_copy(alloc)?;
-        objects.push((oid, value))?;
-    }
-    Ok(objects)
-}
-
-// The object at this place, counted from 0.
-pub(crate) fn oid_at(graph: &Graph, place: u32) -> Oid
-    requires { place < length graph.now.graph.objects }
-    ensures { slice_get (map (λ object. object.0) graph.now.graph.objects) place ≡ Some result }
-{
-    match graph.object(place) {
-        Some(oid) => oid,
-        None => unreachable!(),
-    }
-}
-
-// The value of the live object.
-fn value_in(graph: &Graph, oid: Oid) -> &Value
-    requires { IsLive graph.now.graph.objects oid }
-    ensures { (value : TheValue) → Contains graph.now.graph.objects (oid, value)
-        → result.now ≡ value }
-{
-    match graph.value_of(oid) {
-        Some(value) => value,
-        None => unreachable!(),
     }
 }

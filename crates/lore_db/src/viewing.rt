@@ -20,8 +20,9 @@ use std::alloc::Global;
 use std::sync::ledger::Ledger;
 
 impl Db {
-    /// Keeps a select with its rows, in place of an older one of this name. Refused is what a select
-    /// is refused for, and a new name where as many views are kept as may be (`TooManyViews`).
+    /// Keeps a select with its rows, in place of an older one of this name. Refused is what a
+    /// select is refused for, and a new name where as many views are kept as may be
+    /// (`TooManyViews`).
     pub(crate) fn watch<L: Ledger>(
         &mut self,
         alloc: Global,
@@ -68,9 +69,9 @@ impl Db {
         Ok(counts(&self.store))
     }
 
-    /// The rows of a view: those that are kept, where it is fresh; else they are found, and kept from
-    /// then on. Refused are a name that no view has (`UnknownView`), and what a select is refused for.
-    /// No step is counted for a fresh view.
+    /// The rows of a view: those that are kept, where it is fresh; else they are found, and kept
+    /// from then on. Refused are a name that no view has (`UnknownView`), and what a select is
+    /// refused for. No step is counted for a fresh view.
     pub(crate) fn show<L: Ledger>(
         &mut self,
         alloc: Global,

@@ -1,4 +1,3 @@
-pub mod DeliveryLaws
 pub mod ReplyLaws
 pub mod LimitLaws
 pub mod RunLaws

@@ -11,11 +11,12 @@ use Rattle.doem_history.specs.Moments.{Moment}
 use Rattle.statements.specs.Statements.{Counts}
 use Rattle.statements.specs.Statements as databases
 use Rattle.dump_text.specs.Dumps.{line_of, name_line, object_line, edge_line, spelled_edge}
-use Rattle.lore_db.specs.Changes.{AreChangeLines, change_line}
+use Rattle.change_lines.specs.Changes.{AreChangeLines, change_line}
 use Rattle.view_laws.specs.Freshness.{query_in}
 use Rattle.lore_db.specs.States.{State, AnswersAt, AnswersNow, TellsChanges, Does, Performs}
 use Rattle.lore_run.specs.Types.{Oid, Value, Cell, Refusal, Syntax, Unfinished, Reply, Changed, Rows, Past, PlanShown, Lines, Refused}
-use Rattle.lore_run.specs.Replies.{row_line, kind_text, given_text, rendered, reply_text, shown_objects}
+use Rattle.reply_texts.specs.Texts.{row_line, kind_text, given_text}
+use Rattle.lore_run.specs.Replies.{rendered, reply_text, shown_objects}
 use Rattle.lore_run.specs.Runs.{ScriptPart, chunk, rest, Yields}
 
 -- whatever the labels and the objects are

@@ -16,7 +16,7 @@ use Rattle.lore_run.specs.Runs.{ScriptPart, chunk, Yields, refusals}
 use Rattle.lore_run.specs.Reads.{PartReads}
 use Rattle.lore_run.specs.declared.status.Status.{Status}
 use Rattle.lore_run.specs.declared.status.Status.TheVariants.{WriteFault}
-use Rattle.lore_run.specs.inside.Deliveries.{AppendsProperFront}
+use Rattle.reply_texts.specs.Deliveries.{AppendsProperFront}
 use Rattle.lore_run.specs.inside.Turns.{Standing, Replied, RepliedInPart, StopsReplying, IsRefusalOf}
 
 pub replied_whole : {T : Type 0} (result : Result T Status) (before after : Standing) (part : ScriptPart) (reply : Reply)

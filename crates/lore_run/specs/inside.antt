@@ -1,4 +1,2 @@
 -- Definitions that no public contract cites.
-pub mod Deliveries
 pub mod Turns
-pub mod Shows

@@ -6,7 +6,7 @@ ghost use Rattle.lore_run.specs.Runs.{chunk, rest, Yields, refusals};
 ghost use Rattle.lore_run.specs.Reads.{PartReads};
 ghost use Rattle.lore_run.specs.Endings.{IsCausedBySink};
 ghost use Rattle.lore_run.specs.Replies.{reply_text};
-ghost use Rattle.lore_run.specs.inside.Deliveries.{AppendsProperFront};
+ghost use Rattle.reply_texts.specs.Deliveries.{AppendsProperFront};
 ghost use Rattle.lore_run.specs.inside.Turns.{standing, IsRefusalOf, Replied, RepliedInPart};
 ghost use Rattle.lore_run.specs.inside.Turns.{StopsReplying};
 

@@ -1,11 +1,12 @@
-ghost use Rattle.std.specs.Prelude.{◌≡◌, ◌+◌, ◌<◌, ◌≤◌, ◌↔◌, ◌^◌, [], false, length, Some, None};
+ghost use Rattle.std.specs.Prelude.{◌≡◌, ◌+◌, ◌<◌, ◌↔◌, ◌^◌, [], false, length, Some};
 ghost use Rattle.std.specs.Prelude.{IfSome};
 ghost use Rattle.lore_base.specs.Causes.{Rose};
+ghost use Rattle.lorel_lex.specs.Progress.{holds};
 ghost use Rattle.lore_db.specs.States.{new_state};
 ghost use Rattle.lore_run.specs.Endings.{KeepsLimits, outside, RunEnds, PrintsAll, IsDone};
 ghost use Rattle.lore_run.specs.Endings.{EndsWell, IsUntouched, IsCausedBySource, IsCausedBySink};
 ghost use Rattle.lore_run.specs.Reads.{HadMemory, ReadsInBounds};
-ghost use Rattle.lore_run.specs.inside.Turns.{standing, IsUnended, Finishes};
+ghost use Rattle.lore_run.specs.inside.Turns.{standing, Finishes};
 ghost use Rattle.lore_run.specs.declared.pieces.TheConstants.{PIECE_BYTES};
 
 use crate::parts::run_rest;
@@ -97,13 +98,25 @@ fn run_script<S: Source, K: Sink, L: Ledger>(
     let Ok(mut piece) = piece_buffer(alloc) else {
         return Tally::new().outcome(Status::NoMemory);
     };
-    run_pieces(alloc, piece.as_mut_slice(), source, sink, session, steps)
+    let mut reader = Chunks::new(alloc);
+    let ended = run_pieces(
+        alloc,
+        piece.as_mut_slice(),
+        &mut reader,
+        source,
+        sink,
+        session,
+        steps,
+    );
+    drop(reader);
+    ended
 }
 
 // Reads one piece after the other and executes each chunk when its `;` has been read.
 fn run_pieces<S: Source, K: Sink, L: Ledger>(
     alloc: Global,
     piece: &mut [u8],
+    reader: &mut Chunks,
     source: &mut S,
     sink: &mut K,
     session: &mut Session,
@@ -111,6 +124,7 @@ fn run_pieces<S: Source, K: Sink, L: Ledger>(
 ) -> Outcome
     requires new { session.old.state ≡ new_state }
     requires room { length piece.old ≡ PIECE_BYTES }
+    requires fresh { reader.old ≡ holds [] }
     ensures ends { RunEnds result session.new.state
         (outside (S.left source.old) (K.written sink.old))
         (outside (S.left source.new) (K.written sink.new)) }
@@ -121,12 +135,11 @@ fn run_pieces<S: Source, K: Sink, L: Ledger>(
     ensures sink_faults { IsCausedBySink result.status (K.faults sink.old) (K.faults sink.new) }
 {
     let mut tally = Tally::new();
-    let mut reader = Chunks::new(alloc);
     let mut taken = 0;
     'pieces: loop {
         let count = match read_piece(source, piece, taken) {
             Ok(0) => {
-                let status = end_script(&mut reader, session, sink, &mut tally);
+                let status = end_script(reader, session, sink, &mut tally);
                 return tally.outcome(status);
             }
             Ok(count) => count,
@@ -138,7 +151,7 @@ fn run_pieces<S: Source, K: Sink, L: Ledger>(
         match run_piece(
             alloc,
             &piece[..count],
-            &mut reader,
+            reader,
             session,
             sink,
             &mut tally,

@@ -108,7 +108,7 @@ fn first_plan<L: Ledger>(
     let nothing = Graph::new(alloc);
     let entries = entry_changes(alloc, links, &nothing, graph, changes, steps)?;
     let EntryChanges { gone, come } = entries;
-    let values_then = values.prepare(&gone, &come)?;
+    let values_then = values.prepare(gone, come)?;
     Ok(IndexPlan {
         links: links_then,
         values: values_then,
@@ -155,7 +155,7 @@ pub(crate) fn planned_indexes<L: Ledger>(
     };
     let entries = entry_changes(alloc, overlay, graph, &then, changes, steps)?;
     let EntryChanges { gone, come } = entries;
-    let values_then = values.prepare(&gone, &come)?;
+    let values_then = values.prepare(gone, come)?;
     Ok(IndexPlan {
         links: links_then,
         values: values_then,

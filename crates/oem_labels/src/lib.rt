@@ -5,10 +5,12 @@
 //! place and cannot fail.
 #![tactic(auto)]
 
+pub use guesses::Guesses;
 pub use label_plan::LabelPlan;
 pub use label_table::LabelTable;
 pub use patterns::fits;
 
+mod guesses;
 mod label_plan;
 mod label_table;
 mod patterns;

@@ -1,11 +1,11 @@
 -- The labels of texts in a table, and the texts that come to it one after another.
-use Rattle.std.proofs.Common.{◌≡◌, ◌≢◌, ℕ, suc, ◌+◌, ◌≤◌, Bool, true≢false, if◌then◌else◌, List, [], ◌∷◌, ◌++◌, length, Some, slice_get, Contains, AllPairs, refl, sym, ap, subst, ◌∙◌, inl, inr, arith, append_assoc, append-nil, length-append}
+use Rattle.std.proofs.Common.{◌≡◌, ◌≢◌, ℕ, suc, ◌+◌, ◌≤◌, Bool, true≢false, if◌then◌else◌, List, [], ◌∷◌, ◌++◌, length, Option, None, Some, IfSome, IfNone, slice_get, Contains, AllPairs, refl, sym, ap, subst, ◌∙◌, inl, inr, arith, append_assoc, append-nil, length-append}
 use Rattle.std.proofs.lemmas.Slice.Eq.{bytes_eq-Decides}
 use Rattle.std.proofs.lemmas.List.Elements.{All-contains, Contains-append_cases}
 use Rattle.std.specs.Str.{bytes_eq}
 use Rattle.std.proofs.lemmas.Bool.{cases_Bool}
 use Rattle.lore_base.proofs.MemberLaws.{Contains-none, Contains-head, Contains-cases}
-use Rattle.list_laws.proofs.PlaceLaws.{Contains-from_place, place_of_member}
+use Rattle.list_laws.proofs.PlaceLaws.{Contains-from_place, place_of_member, slice_get-append_left}
 use Rattle.oem_labels.proofs.PlaceLaws.{label_in-at}
 use Rattle.oem_text.specs.Types.{Label, LABELS}
 use Rattle.oem_labels.specs.Labels.{first_uses, place_in, label_in}
@@ -97,6 +97,23 @@ absent known come text not_known not_come place h =
       | inl left ↦ (let there = place_of_member known text left in not_known (record { 0 = there.0 }) there.1)
       | inr right ↦ (let there = place_of_member come text right in not_come (record { 0 = there.0 }) there.1)
     ]
+
+-- what a look-up in the first of the tables told, told of both
+pub found_known : (found : Option Label) (known come : List (List ℕ)) (text : List ℕ) → IfSome found (λ label. slice_get known label.0 ≡ Some text)
+    → IfSome found (λ label. slice_get (known ++ come) label.0 ≡ Some text)
+found_known None known come text h = tt
+found_known (Some label) known come text h = slice_get-append_left known come label.0 text h
+
+pub none_known : (found : Option Label) (known come : List (List ℕ)) (text : List ℕ) → IfNone found ((label : Label) → slice_get known label.0 ≢ Some text)
+    → ((label : Label) → slice_get come label.0 ≢ Some text) → IfNone found ((place : ℕ) → slice_get (known ++ come) place ≢ Some text)
+none_known None known come text h not_come = absent known come text h not_come
+none_known (Some label) known come text h not_come = tt
+
+-- what a look-up in the second told
+pub none_come : (found : Option Label) (known come : List (List ℕ)) (text : List ℕ) → ((label : Label) → slice_get known label.0 ≢ Some text)
+    → IfNone found ((label : Label) → slice_get come label.0 ≢ Some text) → IfNone found ((place : ℕ) → slice_get (known ++ come) place ≢ Some text)
+none_come None known come text not_known h = absent known come text not_known h
+none_come (Some label) known come text not_known h = tt
 
 pub absent_right : (known come : List (List ℕ)) (text : List ℕ) → ((place : ℕ) → slice_get (known ++ come) place ≢ Some text) → (label : Label) → slice_get come label.0 ≢ Some text
 absent_right known come text nowhere label h = nowhere (length known + label.0) (slice_get-right known come label.0 text h)

@@ -1,7 +1,7 @@
-ghost use Rattle.std.specs.Prelude.{◌≡◌, ◌≢◌, ℕ, ◌≤◌, ◌<◌, [], ◌∷◌, ◌++◌, length, slice_get, Some};
+ghost use Rattle.std.specs.Prelude.{◌≡◌, ◌≢◌, ℕ, ◌≤◌, ◌<◌, [], ◌∷◌, length, slice_get, Some};
 ghost use Rattle.std.specs.Prelude.{IfOk, IfSome, IfNone};
 ghost use Rattle.oem_labels.specs.Labels.{label_in};
-ghost use Rattle.oem_text.specs.Types.{LABELS as THE_LABELS};
+ghost use Rattle.oem_text.specs.Types.{LABELS as THE_LABELS, Label as TheLabel};
 ghost use Rattle.oem_text.specs.Layouts.{table_of, with_texts, count_with};
 
 use lore_base::limits::LABELS;
@@ -77,24 +77,37 @@ impl<'a> LabelNumbers<'a> {
     }
 
     // The label that has this text; None exactly where none has it. The likely one is looked at
-    // first, so that most texts need no look-up.
+    // first, so that most texts need no look-up: in the table where it is one of its labels.
     fn find_at(&self, likely: usize, text: &OemText) -> Option<Label>
         ensures found { IfSome result (λ label.
             slice_get (table_of self.now) label.0 ≡ Some text.now) }
         ensures none { IfNone result ((place : ℕ)
             → slice_get (table_of self.now) place ≢ Some text.now) }
     {
-        let known = self.known.len();
-        if let Some(label) = self
-            .come
-            .find_at(likely.saturating_sub(known as usize), text)
-        {
-            return Some(Label(known + label.0));
+        let known = self.known.len() as usize;
+        if likely < known {
+            if let Some(label) = self.known.find_at(likely, text) {
+                return Some(label);
+            }
+            self.come_at(0, text)
+        } else {
+            if let Some(label) = self.come_at(likely - known, text) {
+                return Some(label);
+            }
+            self.known.find(text)
         }
-        match self.known.find_at(likely, text) {
-            Some(label) => Some(label),
-            None => None,
-        }
+    }
+
+    // The same among the labels that are to come, where the likely one is counted from the first
+    // of them.
+    fn come_at(&self, likely: usize, text: &OemText) -> Option<Label>
+        ensures found { IfSome result (λ label.
+            slice_get (table_of self.now) label.0 ≡ Some text.now) }
+        ensures none { IfNone result ((label : TheLabel)
+            → slice_get self.now.come label.0 ≢ Some text.now) }
+    {
+        let label = self.come.find_at(likely, text)?;
+        Some(Label(self.known.len() + label.0))
     }
 
     /// The texts that are to come, in the order of their labels.

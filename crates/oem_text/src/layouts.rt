@@ -1,14 +1,14 @@
-ghost use Rattle.std.specs.Prelude.{◌≡◌, ◌+◌, ◌≤◌, ◌<◌, ◌^◌, [], ◌∷◌, ◌++◌, length, map, slice_index};
+ghost use Rattle.std.specs.Prelude.{◌≡◌, ◌+◌, ◌≤◌, ◌<◌, ◌^◌, ◌++◌, length};
 ghost use Rattle.std.specs.Prelude.{IfOk, IfErr, OnOk, IfSome, IfNone};
 ghost use Rattle.lore_base.specs.Verdicts.{IsClear, IsToldBy};
 ghost use Rattle.lorel_trees.specs.Trees.{literal_tree};
 ghost use Rattle.oem_text.specs.Types.{LABELS as THE_LABELS};
 ghost use Rattle.oem_text.specs.Literals.{numbered};
-ghost use Rattle.oem_text.specs.Layouts.{layout_of, IsJoined, IsBelow, edge_from, edges_from};
+ghost use Rattle.oem_text.specs.Layouts.{layout_of, IsJoined, edges_from};
 ghost use Rattle.oem_text.specs.Layouts.{texts_of, with_texts, count_with, table_of};
 ghost use Rattle.oem_text.specs.Parts.{LocalCause, local_order};
 ghost use Rattle.oem_text.specs.Faults.{local_refusal};
-ghost use Rattle.oem_text.specs.inside.Views.{body_of, placed_of};
+ghost use Rattle.oem_text.specs.inside.Views.{body_of};
 
 use crate::faults::LocalFault;
 use crate::flat::{Flat, Link, flatten};
@@ -16,6 +16,7 @@ use crate::label_numbers::LabelNumbers;
 use crate::places::{local_of, marked_places, place_links};
 use lore_base::{Edge, EdgeBuf, Label, NoMemory, ObjectList, Oid, TryCopy, Value};
 use lorel_trees::Literal;
+use oem_labels::Guesses;
 use std::alloc::Global;
 use std::marker::Model;
 
@@ -110,13 +111,15 @@ impl<'a> Layout<'a> {
             IfNone found (THE_LABELS < count_with numbers.old (texts_of self.now))) }
     {
         let mut edges = EdgeBuf::with_capacity(alloc, self.links.len())?;
-        // Members that repeat their labels in order have the one behind the last.
-        let mut likely = numbers.len();
+        // Nothing is done: `len` tells that there are at most `LABELS`.
+        let _count = numbers.len();
+        // Members mostly repeat their labels in order.
+        let mut guesses = Guesses::new();
         'links: for link in &self.links {
-            let Some(label) = numbers.number(link.label, likely)? else {
+            let Some(label) = numbers.number(link.label, guesses.next())? else {
                 return Ok(None);
             };
-            likely = label.0 as usize + 1;
+            guesses.note(label);
             edges.push(edge_at(next, link, label))?;
         }
         Ok(Some(edges))

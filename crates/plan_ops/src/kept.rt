@@ -43,8 +43,8 @@ fn nothing(alloc: Global) -> Kept
     }
 }
 
-/// Puts the objects into the slot to which the way leads from this one. Where the step began there
-/// the last time too, it takes what it reached then.
+/// Puts the objects into the slot to which the way leads from this one. The second time in a row
+/// that the step begins there it keeps what it reaches, and takes that from then on.
 pub(crate) fn walked<'r, W: Walks, L: Ledger>(
     alloc: Global,
     walk: &W,
@@ -57,39 +57,28 @@ pub(crate) fn walked<'r, W: Walks, L: Ledger>(
     ensures kept { IsKept (W.leads walk.now) kept.new }
     ensures objects { IfOk result (PutsThose (W.leads walk.now from) slot) }
 {
-    if began_at(kept, from) {
-        walk_once(alloc, walk, kept, steps)?;
+    if has_all(kept, from) {
         return put_copy(alloc, kept.reached.as_slice(), slot);
     }
+    let again = began_at(kept, from);
     walk_anew(alloc, walk, from, kept, steps)?;
-    Ok(give_all(kept, slot))
+    put_reached(alloc, again, slot, kept)
+}
+
+// Whether what the step reached from this object is at hand.
+fn has_all(kept: &Kept, from: Oid) -> bool
+    ensures from { IsTrue result → kept.now.from.0 ≡ from.0 }
+    ensures whole { IsTrue result → IsTrue kept.now.is_whole }
+{
+    if kept.from.0 == from.0 {
+        return kept.is_whole;
+    }
+    false
 }
 
 // Whether the step began at this object.
-fn began_at(kept: &Kept, from: Oid) -> bool
-    ensures { IsTrue result → kept.now.from.0 ≡ from.0 }
-{
+fn began_at(kept: &Kept, from: Oid) -> bool {
     kept.from.0 == from.0
-}
-
-// Walks from where the step began, unless what it reached is at hand: it is given out at the first
-// time, since most steps begin at another object each time.
-fn walk_once<W: Walks, L: Ledger>(
-    alloc: Global,
-    walk: &W,
-    kept: &mut Kept,
-    steps: &mut Steps<L>,
-) -> Result<(), NoMemory>
-    requires { IsKept (W.leads walk.now) kept.old }
-    ensures kept { IsKept (W.leads walk.now) kept.new }
-    ensures objects { OnOk result
-        (ListsInOrder (W.leads walk.now kept.old.from) kept.new.reached) }
-{
-    if kept.is_whole {
-        return Ok(());
-    }
-    let from = kept.from;
-    walk_anew(alloc, walk, from, kept, steps)
 }
 
 // Walks from the object.
@@ -108,6 +97,23 @@ fn walk_anew<W: Walks, L: Ledger>(
     walk.walk(alloc, from, &mut kept.reached, steps)?;
     kept.is_whole = true;
     Ok(())
+}
+
+// Puts the objects that were reached into the slot. They are given out where the step began
+// elsewhere before, since most steps begin at another object each time, and else a copy of them.
+fn put_reached<'r>(
+    alloc: Global,
+    again: bool,
+    slot: u32,
+    kept: &mut Kept,
+) -> Result<Offer<'r>, NoMemory>
+    ensures puts { IfOk result (PutsAll slot kept.old.reached) }
+    ensures kept { IsTrue kept.new.is_whole → kept.new ≡ kept.old }
+{
+    if again {
+        return put_copy(alloc, kept.reached.as_slice(), slot);
+    }
+    Ok(give_all(kept, slot))
 }
 
 // Puts the objects that were reached into the slot. A list of them is given out, and a single one

@@ -5,18 +5,51 @@ use std::alloc::Global;
 /// What all cases print.
 pub(crate) fn answers(alloc: Global, input: &[u8]) -> Result<Vec<u8>, NoMemory> {
     let mut printed = Vec::new(alloc);
+    match print_all(alloc, input, &mut printed) {
+        Ok(()) => Ok(printed),
+        Err(error) => {
+            drop(printed);
+            Err(error)
+        }
+    }
+}
+
+// What is changed in place is lent: that it can be let go is proved of each way out.
+fn print_all(alloc: Global, input: &[u8], printed: &mut Vec<u8>) -> Result<(), NoMemory> {
     let mut text = Vec::new(alloc);
+    let done = print_cases(alloc, input, &mut text, printed);
+    drop(text);
+    done
+}
+
+fn print_cases(
+    alloc: Global,
+    input: &[u8],
+    text: &mut Vec<u8>,
+    printed: &mut Vec<u8>,
+) -> Result<(), NoMemory> {
     for line in input
         .strip_suffix(b"\n")
         .unwrap_or(input)
         .split(|byte| *byte == b'\n')
     {
-        if gather(&mut text, line)? {
-            print_case(alloc, text.as_slice(), &mut printed)?;
-            text.clear();
-        }
+        read_line(alloc, line, text, printed)?;
     }
-    Ok(printed)
+    Ok(())
+}
+
+// Takes a line: one that ends a case has it printed.
+fn read_line(
+    alloc: Global,
+    line: &[u8],
+    text: &mut Vec<u8>,
+    printed: &mut Vec<u8>,
+) -> Result<(), NoMemory> {
+    if gather(text, line)? {
+        print_case(alloc, text.as_slice(), printed)?;
+        text.clear();
+    }
+    Ok(())
 }
 
 // Adds what a line stands for to a text, and whether the text ends there.

@@ -1,9 +1,9 @@
 //! Reads and prints many statements: cases are data.
 //!
-//! Each line of standard input is a statement, and a line answers it: its canonical text, or why it
-//! has none. A line `=== TITLE` is repeated. Where a line ends with a backslash the statement goes
-//! on in the next line. A line `+++ COUNT [TEXT]` stands for the text so many times; what follows
-//! goes on behind it.
+//! Each line of standard input is a statement, and a line answers it: its canonical text, or why
+//! it has none. A line `=== TITLE` is repeated. Where a line ends with a backslash the statement
+//! goes on in the next line. A line `+++ COUNT [TEXT]` stands for the text so many times; what
+//! follows goes on behind it.
 //!
 //! The statement is read from a copy of its tokens. Behind the text of an update stands the select
 //! that gives its rows. A further line says where the text isn't read back as a statement with the

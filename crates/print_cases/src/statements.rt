@@ -48,12 +48,23 @@ fn print_whole(
     printed: &mut Vec<u8>,
 ) -> Result<(), NoMemory> {
     let text = print_statement(alloc, statement)?;
+    let done = print_text(alloc, statement, &text, printed);
+    drop(text);
+    done
+}
+
+fn print_text(
+    alloc: Global,
+    statement: &Statement,
+    text: &OemText,
+    printed: &mut Vec<u8>,
+) -> Result<(), NoMemory> {
     put_line(printed, text.as_bytes())?;
     print_rows(alloc, statement, printed)?;
-    if !is_read_back(alloc, &text)? {
+    if !is_read_back(alloc, text)? {
         put_line(printed, b"it is read back otherwise")?;
     }
-    if !is_copied(alloc, statement, &text)? {
+    if !is_copied(alloc, statement, text)? {
         put_line(printed, b"its copy is printed otherwise")?;
     }
     Ok(())

@@ -18,7 +18,7 @@ use Rattle.doem_history.specs.inside.FactLaws.{name_total, object_total, edge_to
 use Rattle.doem_history.specs.Moments.{Moment}
 use Rattle.statements.specs.Types.{Cell, Refusal}
 use Rattle.lore_db.specs.Types.{Reply, Rows, Past, Lines, Refused}
-use Rattle.lore_db.specs.Changes.{Change, gone, come, Precedes, AreChanges, AreChangeLines, change_line}
+use Rattle.change_lines.specs.Changes.{Change, gone, come, Precedes, AreChanges, AreChangeLines, change_line}
 use Rattle.view_laws.specs.Freshness.{NamedQuery, query_in}
 use Rattle.lore_db.specs.States.{AnswersNow}
 use Rattle.lore_db.specs.States.{State, AnswersAt, TellsChanges, database_at, StateCause, state_order, AppendsMoment, Does}

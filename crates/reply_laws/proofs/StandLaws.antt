@@ -37,7 +37,7 @@ use Rattle.lore_db.proofs.StateLaws.{of_none, of_some, of_kept, plain_never, pla
 use Rattle.lore_db.proofs.ViewingLaws.{show_cause, of_view}
 use Rattle.lore_db.proofs.PerformLaws.{plain_does, one_made, still_present}
 use Rattle.lore_db.proofs.AskLaws.{one_number, at_cause}
-use Rattle.lore_db.proofs.LineLaws.{some_lines}
+use Rattle.change_lines.proofs.LineLaws.{some_lines}
 use Rattle.reply_laws.specs.Laws.{AreKeptOf, CanStand, SomePerformance, PerformsAlways}
 use Rattle.reply_laws.proofs.FullLaws.{full_told}
 use Rattle.reply_laws.proofs.GrowLaws.{Grows, grown, all_later, all_ordered}

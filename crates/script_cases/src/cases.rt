@@ -2,45 +2,88 @@ use crate::runs::{print_modes, print_runs};
 use lore_base::NoMemory;
 use std::alloc::Global;
 
-/// A script, and whether it is run in each mode of plans.
+/// The lines of a script that were read so far, whether one was begun, and whether it is run in
+/// each mode of plans.
 #[derive(Drop)]
 struct Case {
     script: Vec<u8>,
+    is_begun: bool,
     in_modes: bool,
 }
 
 /// What all cases print.
 pub(crate) fn answers(alloc: Global, input: &[u8]) -> Result<Vec<u8>, NoMemory> {
     let mut printed = Vec::new(alloc);
-    let mut case = None;
+    match print_all(alloc, input, &mut printed) {
+        Ok(()) => Ok(printed),
+        Err(error) => {
+            drop(printed);
+            Err(error)
+        }
+    }
+}
+
+// What is changed in place is lent: that it can be let go is proved of each way out.
+fn print_all(alloc: Global, input: &[u8], printed: &mut Vec<u8>) -> Result<(), NoMemory> {
+    let mut case = Case {
+        script: Vec::new(alloc),
+        is_begun: false,
+        in_modes: false,
+    };
+    let done = print_cases(alloc, input, &mut case, printed);
+    drop(case);
+    done
+}
+
+fn print_cases(
+    alloc: Global,
+    input: &[u8],
+    case: &mut Case,
+    printed: &mut Vec<u8>,
+) -> Result<(), NoMemory> {
     for line in input
         .strip_suffix(b"\n")
         .unwrap_or(input)
         .split(|byte| *byte == b'\n')
     {
-        if line.starts_with(b"=== ") {
-            finish(alloc, case, &mut printed)?;
-            put_line(&mut printed, line)?;
-            case = Some(Case {
-                script: Vec::new(alloc),
-                in_modes: line.starts_with(b"=== modes: "),
-            });
-        } else if let Some(case) = &mut case {
-            add(&mut case.script, line)?;
-        }
+        read_line(alloc, line, case, printed)?;
     }
-    finish(alloc, case, &mut printed)?;
-    Ok(printed)
+    finish(alloc, case, printed)
 }
 
-// Runs the script of a case, which has one line end too many.
-fn finish(alloc: Global, case: Option<Case>, printed: &mut Vec<u8>) -> Result<(), NoMemory> {
-    let Some(Case { script, in_modes }) = case else {
+// Takes a line: one that begins a case prints the case before it. Lines ahead of the first case
+// are none.
+fn read_line(
+    alloc: Global,
+    line: &[u8],
+    case: &mut Case,
+    printed: &mut Vec<u8>,
+) -> Result<(), NoMemory> {
+    if line.starts_with(b"=== ") {
+        finish(alloc, case, printed)?;
+        begin(case, line.starts_with(b"=== modes: "));
+        return put_line(printed, line);
+    }
+    if case.is_begun {
+        return add(&mut case.script, line);
+    }
+    Ok(())
+}
+
+fn begin(case: &mut Case, in_modes: bool) {
+    case.script.clear();
+    case.is_begun = true;
+    case.in_modes = in_modes;
+}
+
+// Runs the script of a case, if one was begun: it has one line end too many.
+fn finish(alloc: Global, case: &Case, printed: &mut Vec<u8>) -> Result<(), NoMemory> {
+    if !case.is_begun {
         return Ok(());
-    };
-    let bytes = script.as_slice();
+    }
+    let bytes = case.script.as_slice();
     let script = bytes.strip_suffix(b"\n").unwrap_or(bytes);
-    if in_modes {
+    if case.in_modes {
         print_modes(alloc, script, printed)
     } else {
         print_runs(alloc, script, printed)

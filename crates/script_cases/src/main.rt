@@ -1,5 +1,5 @@
-//! Runs many scripts, each in a new session, and prints what each run writes and how it ends: cases
-//! are data.
+//! Runs many scripts, each in a new session, and prints what each run writes and how it ends:
+//! cases are data.
 //!
 //! Standard input has the scripts. A line `=== NAME` begins one, which ends before the line end
 //! ahead of the next such line. A line `+++ COUNT [TEXT]` stands for the text so many times, with
@@ -9,8 +9,8 @@
 //! differ, a line says so.
 //!
 //! A script whose line is `=== modes: NAME` is run in each mode of plans instead, in new sessions
-//! in which `set plan` stands in front of it. What it writes is printed once; where a mode differs,
-//! a line says so.
+//! in which `set plan` stands in front of it. What it writes is printed once; where a mode
+//! differs, a line says so.
 #![tactic(auto)]
 
 mod cases;

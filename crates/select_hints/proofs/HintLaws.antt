@@ -71,7 +71,7 @@ hints_of : (bound : Bound) (cond more : BoundCond) → bound.cond ≡ Some cond 
     → IsLonger (map range_tree bound.ranges) (bound_cond cond) (bound_cond more) → cond_leaves (bound_cond more) ≤ LEAVES
     → AreHints (bound_tree bound) (bound_cond more)
 hints_of bound cond more is runnable longer few = record {
-  few = subst (λ (n : ℕ). n ≤ LEAVES) (sym (counted (bound_cond more))) few;
+  few_leaves = subst (λ (n : ℕ). n ≤ LEAVES) (sym (counted (bound_cond more))) few;
   within =
       let starts = subst (λ (o : Option BoundCond). All (Within (length (map range_tree bound.ranges))) (paths_in (option_map bound_cond o))) is runnable.condition_within in
       subst (StartsWithin (length (map range_tree bound.ranges))) (sym longer.is)

@@ -7,9 +7,10 @@ use Rattle.lorel_bound.specs.Runnable.{IsBoundWithin}
 use Rattle.lorel_bound.specs.SlotRows.{AreFilled, HoldsOver}
 use Rattle.select_hints.specs.Types.{Oid, Edge, Value, LEAVES}
 
--- few leaves, starts that are there, and it holds of filled slots of which the condition of the select holds
+-- its paths have at most LEAVES leaves together and start at objects or at slots of the select, and where the slots are
+-- filled and the condition of the select holds of them, it holds too
 pub record AreHints (bound : BoundTree) (hints : CondOf BoundPathTree) : Type 0 where
-  pub few : sum_by (λ path. leaves path.rest) (paths_of hints) ≤ LEAVES
+  pub few_leaves : sum_by (λ path. leaves path.rest) (paths_of hints) ≤ LEAVES
   pub within : All (λ path. IsBoundWithin (length bound.ranges) path.start) (paths_of hints)
   pub told : (labels : List (List ℕ)) (edges : List Edge) (objects : List (Oid × Value)) (slots : List Oid)
       → AreFilled labels edges bound.ranges slots

@@ -1,5 +1,6 @@
 -- Steps that read some edge.
-use Rattle.std.proofs.Common.{◌≡◌, ℕ, ◌<◌, inl, inr, List, [], ◌∷◌, length, map, option_map, Some, All, sym, subst, ap, ◌∙◌, arith}
+use Rattle.std.proofs.Common.{◌≡◌, ℕ, ◌<◌, inl, inr, List, [], ◌∷◌, length, map, Option, option_map, Some, None, IfSome, IsTrue, All, true≢false, sym, subst, ap, ◌∙◌, arith}
+use Rattle.std.specs.Option.{is_some}
 use Rattle.std.specs.List.{slice_get}
 use Rattle.std.proofs.lemmas.Option.{slice_get-map}
 use Rattle.std.proofs.lemmas.List.Elements.{All-head, All-contains}
@@ -65,3 +66,13 @@ begun_guided entries steps rest first named path slot is same not_all =
     begun_so entries steps rest first (plan_steps.FromGuide named path slot) is same
     (λ guided. not_all (subst (λ (l : List PlanStep). All IsGuided (map step_tree l)) (sym is)
     (subst (λ (s : PlanStep). All IsGuided (step_tree s ∷ map step_tree rest)) (sym same) guided)))
+
+-- what holds anyhow holds of a value, if there is one
+pub if_any : {X : Type 0} (o : Option X) (P : Type 0) → P → IfSome o (λ x. P)
+if_any None P p = tt
+if_any (Some x) P p = p
+
+-- what is told of a value, where there is one
+pub told_of_some : {X : Type 0} (o : Option X) (P : Type 0) → IfSome o (λ x. P) → IsTrue (is_some o) → P
+told_of_some None P told so = absurd (true≢false (sym so))
+told_of_some (Some x) P told so = told

@@ -29,12 +29,17 @@ use lorel_bound::{Answer, Bound, BoundCond, Plan, PlanStep};
 use oem_labels::LabelTable;
 use plan_ops::Rows;
 use select_hints::{hints_for, late_from};
+use slot_joins::{JoinedTest, Sources, fewest_of, may_be_joined};
 use std::alloc::Global;
 use std::sync::ledger::Ledger;
 
 // From so many objects for the first slot on, what leads to those that fit is found once, and not
 // by a test of each.
 const MANY: usize = 1_024;
+
+// From so many objects for the first slot on, tables are made for what the condition compares of
+// it: to list what enters one object may take longer than fewer rows do.
+const MANY_JOINED: u32 = 256;
 
 /// What rows are found in: a graph, the texts of its labels, the indexes of its links and values,
 /// and what paths reach from its names.
@@ -53,8 +58,8 @@ pub(crate) struct View<'a, G, K, V, P> {
 /// `PATH_LABELS` labels in their words.
 ///
 /// A plan that walks forward alone asks nothing of links, values and paths; else they are the
-/// graph's. No step is counted where the plan reads no edge, and either no cell shows a word or there
-/// is no row.
+/// graph's. No step is counted where the plan reads no edge, and either no cell shows a word or
+/// there is no row.
 pub(crate) fn rows_over<G: Adjacent + ValueOf, K: Links, V: Values, P: Paths, L: Ledger>(
     alloc: Global,
     view: &View<'_, G, K, V, P>,
@@ -154,8 +159,10 @@ fn rows_by<G: Adjacent + ValueOf, K: Links, V: Values, P: Paths, L: Ledger>(
         → steps.new ≡ steps.old) }
 {
     let pace = Pace::new();
-    let test = test_over(alloc, view, bound.cond.as_ref(), plan, &pace, steps)?;
-    answer_by(alloc, view, &test, &test, None, bound, plan, steps)
+    let cond = bound.cond.as_ref();
+    let test = test_over(alloc, view, cond, plan, &pace, steps)?;
+    let joined = joined_over(alloc, view, test, cond, plan, steps)?;
+    answer_by(alloc, view, &joined, &joined, None, bound, plan, steps)
 }
 
 // The same with hints.
@@ -197,8 +204,10 @@ fn rows_hinted<G: Adjacent + ValueOf, K: Links, V: Values, P: Paths, L: Ledger>(
     let test = IndexedTest::new(alloc, cond, graph, labels, links, values, &pace)?;
     // Hints that compare what two paths reach would be tested by all pairs of it.
     let early = IndexedTest::for_hints(alloc, Some(hints), graph, labels, links, values, &pace)?;
+    let whole = JoinedTest::alone(alloc, test, graph);
+    let joined = joined_over(alloc, view, early, Some(hints), plan, steps)?;
     let late = Some(late_from(bound, hints));
-    answer_by(alloc, view, &test, &early, late, bound, plan, steps)
+    answer_by(alloc, view, &whole, &joined, late, bound, plan, steps)
 }
 
 // The rows that pass a test of the condition, with hints, which each of them passes.
@@ -248,6 +257,105 @@ fn answer_by<G: Adjacent + ValueOf, K: Links, V: Values, P: Paths, T: RowTest, L
         Some(answer) => Ok(answer),
         None => Err(Stop::Refused(Refusal::TooManyRows)),
     }
+}
+
+// The test of a condition with tables for what it compares of slots, where many rows may be looked
+// up in them. No step is counted where the plan reads no edge.
+fn joined_over<
+    'a,
+    G: Adjacent + ValueOf,
+    K: Links,
+    V: Values,
+    P: Paths,
+    T: RowTest + Drop,
+    L: Ledger,
+>(
+    alloc: Global,
+    view: &View<'a, G, K, V, P>,
+    test: T,
+    cond: Option<&BoundCond>,
+    plan: &Plan,
+    steps: &mut Steps<L>,
+) -> Result<JoinedTest<'a, T, G>, NoMemory>
+    requires ready { All CanBeReady (steps_of plan.now) }
+    requires indexed { IsTrue view.now.indexed → AreIndexes (G.objects view.now.graph.now)
+        (G.edges view.now.graph.now) (K.edges view.now.links.now) (V.entries view.now.values.now) }
+    requires passes { (row : List TheOid) → T.passes test row → HoldsOver view.now.labels.now
+        (G.edges view.now.graph.now) (G.objects view.now.graph.now) row
+        (option_map bound_cond (option_copied cond)) }
+    ensures test { IfOk result (λ joined. joined ≡ test) }
+    ensures quiet { (ReadsSome (V.entries view.now.values.now) (steps_of plan.now) → ⊥)
+        → steps.new ≡ steps.old }
+{
+    if !view.indexed {
+        return Ok(JoinedTest::alone(alloc, test, view.graph));
+    }
+    let Some(cond) = cond else {
+        return Ok(JoinedTest::alone(alloc, test, view.graph));
+    };
+    let Some(joining) = joining_of(alloc, view, cond, plan)? else {
+        return Ok(JoinedTest::alone(alloc, test, view.graph));
+    };
+    let sources = Sources {
+        graph: view.graph,
+        labels: view.labels,
+        links: view.links,
+        values: view.values,
+    };
+    let slots = joining.slots.as_slice();
+    JoinedTest::joined(alloc, test, &sources, cond, slots, joining.count, steps)
+}
+
+// What tables are made by: the slots in the order in which a plan fills them, and how many objects
+// may stand for the first one.
+#[derive(Drop)]
+struct Joining {
+    slots: Vec<u32>,
+    count: u32,
+}
+
+// The same of a plan; None where no table is to be made.
+fn joining_of<G, K, V: Values, P: Paths>(
+    alloc: Global,
+    view: &View<'_, G, K, V, P>,
+    cond: &BoundCond,
+    plan: &Plan,
+) -> Result<Option<Joining>, NoMemory>
+    requires { All CanBeReady (steps_of plan.now) }
+    ensures { IfOk result (λ found. IfSome found (λ joining.
+        ReadsSome (V.entries view.now.values.now) (steps_of plan.now))) }
+{
+    if !may_be_joined(cond) {
+        return Ok(None);
+    }
+    let steps = plan.steps.as_slice();
+    let least = MANY_JOINED as usize;
+    let Some(first) = many_first(alloc, view.values, view.paths, steps, least)? else {
+        return Ok(None);
+    };
+    let slots = filled_slots(alloc, steps)?;
+    let slot = slots.as_slice().first().copied();
+    let count = fewest_of(view.values, view.labels, cond, slot, first);
+    if count < MANY_JOINED {
+        return Ok(None);
+    }
+    Ok(Some(Joining { slots, count }))
+}
+
+// The slots that the steps fill, in their order.
+fn filled_slots(alloc: Global, steps: &[PlanStep]) -> Result<Vec<u32>, NoMemory> {
+    let mut slots = Vec::with_capacity(alloc, steps.len())?;
+    'steps: for step in steps {
+        match step {
+            PlanStep::Forward { slot, .. } => slots.push(*slot)?,
+            PlanStep::FromGuide { slot, .. } => slots.push(*slot)?,
+            PlanStep::FromValue { slot, .. } => slots.push(*slot)?,
+            PlanStep::Backward { parent, .. } => slots.push(*parent)?,
+            PlanStep::Check { .. } => (),
+            PlanStep::Filter => (),
+        }
+    }
+    Ok(slots)
 }
 
 // The texts of a table of labels are distinct. Nothing is done.
@@ -303,24 +411,27 @@ fn tests_many<G, K, V: Values, P: Paths>(
     if !takes_long_walks(cond) {
         return Ok(false);
     }
-    begins_with_many(alloc, view.values, view.paths, plan.steps.as_slice())
+    let steps = plan.steps.as_slice();
+    let many = many_first(alloc, view.values, view.paths, steps, MANY)?;
+    Ok(many.is_some())
 }
 
-// Whether many rows may be tested: the steps begin with many objects by the guide, or with values
-// that some object has. These may be few, but a plan that begins with few values has few objects
-// listed too. In both cases the steps may read an edge.
-fn begins_with_many<V: Values, P: Paths>(
+// How many objects the steps begin with, where many rows may be tested: there are so many by the
+// guide, or values that some object has. These may be few, but a plan that begins with few values
+// has few objects listed too. In both cases the steps may read an edge.
+fn many_first<V: Values, P: Paths>(
     alloc: Global,
     values: &V,
     paths: &P,
     steps: &[PlanStep],
-) -> Result<bool, NoMemory>
+    least: usize,
+) -> Result<Option<u32>, NoMemory>
     requires { All CanBeReady (map step_tree steps.now) }
-    ensures { IfOk result (λ answer. IsTrue answer
-        → ReadsSome (V.entries values.now) (map step_tree steps.now)) }
+    ensures { IfOk result (λ found. IfSome found (λ count.
+        ReadsSome (V.entries values.now) (map step_tree steps.now))) }
 {
     let Some((first, _)) = steps.split_first() else {
-        return Ok(false);
+        return Ok(None);
     };
     match first {
         PlanStep::FromValue {
@@ -328,15 +439,23 @@ fn begins_with_many<V: Values, P: Paths>(
             op,
             value,
             ..
-        } => Ok(is_found(values, *label, *op, value)),
+        } => Ok(count_found(values, *label, *op, value)),
         PlanStep::FromGuide { named, path, .. } => {
             if !ends_in_test(steps) {
-                return Ok(false);
+                return Ok(None);
             }
-            Ok(paths.count(alloc, path, *named)? >= MANY)
+            Ok(not_fewer(least, paths.count(alloc, path, *named)?))
         }
-        _ => Ok(false),
+        _ => Ok(None),
     }
+}
+
+// So many, where they aren't fewer.
+fn not_fewer(least: usize, count: usize) -> Option<u32> {
+    if count < least {
+        return None;
+    }
+    Some(u32::try_from(count).unwrap_or(u32::MAX))
 }
 
 // Whether the last step tests the condition: then not all steps are told by the guide.
@@ -359,19 +478,19 @@ fn is_test(step: &PlanStep) -> bool
     }
 }
 
-// Whether some object has such a value.
-fn is_found<V: Values>(values: &V, label: Option<Label>, op: Op, value: &Value) -> bool
+// How many objects have such a value, if some have.
+fn count_found<V: Values>(values: &V, label: Option<Label>, op: Op, value: &Value) -> Option<u32>
     requires op { IsProbed op }
     requires value { value.now ≢ Complex }
-    ensures { IsTrue result
-        → ((oid : TheOid) → IsCandidate (V.entries values.now) label op value.now oid → ⊥) → ⊥ }
+    ensures { IfSome result (λ count. ((oid : TheOid)
+        → IsCandidate (V.entries values.now) label op value.now oid → ⊥) → ⊥) }
 {
     let Some(label) = label else {
-        return false;
+        return None;
     };
     let count = values.probe_count(label, op, value);
     if count == 0 {
-        return false;
+        return None;
     }
-    true
+    Some(count)
 }

@@ -1,5 +1,4 @@
 ghost use Rattle.std.specs.Prelude.{◌≡◌, ◌<◌, ◌≤◌, ◌^◌, [], length, All, Contains, IfOk, OnOk};
-ghost use Rattle.lore_base.specs.TargetSets.{ListsInOrder};
 ghost use Rattle.index_traits.specs.Entries.{AreAscendingEntries, IsProbed, IsFound};
 ghost use Rattle.sorted_list.specs.SortedLists.{IsLessWith, AreWithout, AreJoined};
 ghost use Rattle.value_index.specs.Values.{FitsEntries, HasRoom};
@@ -76,16 +75,18 @@ impl ValueIndex {
     /// Sorts the entries that go, which are kept, and those that come, which aren't kept once the
     /// others are gone. What comes has an atomic value, and each object one value then. The index
     /// stays as it is.
-    pub fn prepare(&self, gone: &EntryList, come: &EntryList) -> Result<ValuePlan, NoMemory>
-        requires fits { FitsEntries self.now.entries gone.now come.now }
-        ensures gone { IfOk result (λ plan. plan.gone ≡ gone.now) }
-        ensures come { IfOk result (λ plan. plan.come ≡ come.now) }
+    pub fn prepare(&self, gone: EntryList, come: EntryList) -> Result<ValuePlan, NoMemory>
+        requires fits { FitsEntries self.now.entries gone come }
+        ensures gone { IfOk result (λ plan. plan.gone ≡ gone) }
+        ensures come { IfOk result (λ plan. plan.come ≡ come) }
     {
         // What goes is kept here, so that its values are atomic, and one for each object.
         let _kept = &self.values;
         let alloc = come.allocator();
-        let gone = EntryOrders::of(alloc, gone.as_slice())?;
-        let come = EntryOrders::of(alloc, come.as_slice())?;
+        let mut leaving = gone.into_items();
+        let mut coming = come.into_items();
+        let gone = EntryOrders::of(alloc, leaving.as_mut_slice())?;
+        let come = EntryOrders::of(alloc, coming.as_mut_slice())?;
         Ok(ValuePlan { gone, come })
     }
 

@@ -79,7 +79,7 @@ value_cmp Flags = flag_cmp
 value_cmp Readings = number_cmp
 value_cmp FlagReadings = flag_cmp
 
--- the kind of what a value is; a complex value is of none
+-- the kind of what a value is; a complex value, which has no entry, counts among the texts
 abbrev pub own_kind : Value → Kind
 own_kind (Whole number) = Wholes
 own_kind (Chars text) = Texts

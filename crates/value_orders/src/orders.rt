@@ -44,21 +44,21 @@ impl Model for EntryOrders {
 
 impl EntryOrders {
     /// Puts the entries, which come by ascending label and object and have one atomic value an
-    /// object, into the five orders. Their texts are copied. An error only where memory is
-    /// refused.
-    pub fn of(alloc: Global, entries: &[ValueEntry]) -> Result<EntryOrders, NoMemory>
-        requires ascend { AreAscendingEntries entries.now }
-        requires atomic { All (λ entry. entry.value ≢ Complex) entries.now }
-        requires one_value { HasOneValueIn (Contains entries.now) }
-        ensures { IfOk result (λ orders. in_order orders ≡ entries.now) }
+    /// object, into the five orders. Their values may be moved out of them. An error only where
+    /// memory is refused.
+    pub fn of(alloc: Global, entries: &mut [ValueEntry]) -> Result<EntryOrders, NoMemory>
+        requires ascend { AreAscendingEntries entries.old }
+        requires atomic { All (λ entry. entry.value ≢ Complex) entries.old }
+        requires one_value { HasOneValueIn (Contains entries.old) }
+        ensures { IfOk result (λ orders. in_order orders ≡ entries.old) }
     {
-        let values = held_values(alloc, entries)?;
         let chars = order_of(alloc, entries, Kind::Texts)?;
         let dealt = dealt_to_kinds(alloc, entries)?;
         let wholes = by_rank(alloc, dealt.wholes)?;
         let flags = by_rank(alloc, dealt.flags)?;
         let readings = by_rank(alloc, dealt.readings)?;
         let flag_readings = by_rank(alloc, dealt.flag_readings)?;
+        let values = held_values(alloc, entries)?;
         Ok(EntryOrders {
             values,
             wholes,

@@ -1,5 +1,5 @@
 -- Chains of places: for each slot the edges that fall into it, from the last one on.
-use Rattle.std.specs.Prelude.{◌≡◌, ◌≢◌, ◌↔◌, ℕ, ◌+◌, ◌-◌, ◌%◌, ◌<◌, ◌≤◌, List, length, slice_index_or, All, AllPairs, Contains}
+use Rattle.std.specs.Prelude.{◌≡◌, ◌≢◌, ◌↔◌, ℕ, ◌-◌, ◌%◌, ◌<◌, ◌≤◌, List, length, slice_index_or, All, AllPairs, Contains}
 use Rattle.lore_base.specs.Databases.{AreAscendingEdges}
 use Rattle.edge_layers.specs.Types.{Oid, Edge, In}
 use Rattle.edge_layers.specs.Turned.{turn}

@@ -1,5 +1,5 @@
 -- What an overlay keeps beside the edges that it shows.
-use Rattle.std.specs.Prelude.{ℕ, List}
+use Rattle.std.specs.Prelude.{List}
 use Rattle.slab.specs.Slab.{Slab}
 use Rattle.lore_base.specs.Databases.{AreAscendingEdges}
 use Rattle.edge_layers.specs.Types.{Edge, EdgeRecord, ObjectRecord}

@@ -17,7 +17,7 @@ use Rattle.lore_run.specs.declared.status.Status.{Status}
 use Rattle.lore_run.specs.declared.status.Status.TheVariants.{Done, DoneRefused, WriteFault, StatementTooLong}
 use Rattle.lore_run.specs.declared.status.Status.TheVariants.{NoMemory}
 use Rattle.lore_run.specs.declared.tally.Tally.{Tally}
-use Rattle.lore_run.specs.inside.Deliveries.{AppendsProperFront}
+use Rattle.reply_texts.specs.Deliveries.{AppendsProperFront}
 
 -- where a run stands: the bytes held of the chunk at hand, the counts, the bytes written, where the sink
 -- tells them, the state, and the count of reads

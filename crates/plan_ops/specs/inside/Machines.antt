@@ -21,8 +21,8 @@ pub record IsMachine (over : StepsOver) (steps : List StepTree) (partials : List
   pub apart : AreApart over steps partials
   pub eight : All (λ partial. length partial.row ≡ RANGES) partials
 
--- and the steps are made ready, with what the guide tells at hand, and what they keep, what was told of slots and what is
--- of rows is so
+-- so it is with steps that are made ready with what the guide tells, and true of them is what each keeps of its last walk;
+-- what hints told of slots is true of rows of which they hold, and they hold of each row that is to come and passes
 pub record IsReadyMachine (over : StepsOver) (Hints : List Oid → Type 0) (steps : List StepTree) (ready : List ReadyStep)
     (kept : List Kept) (told : List Told) (partials : List PartialRow) : Type 0 where
   pub ready_are : map ready_tree ready ≡ steps

@@ -79,12 +79,12 @@ HasObjects (One own oid) slot oids = (own ≡ slot) × (oids ≡ oid ∷ [])
 HasObjects Keep slot oids = ⊥
 HasObjects Reject slot oids = ⊥
 
--- or rejects the row where there is none
+-- the offer puts these objects into the slot, and rejects the row where there are none
 abbrev pub PutsAll : ℕ → List Oid → Offer → Type 0
 PutsAll slot [] offer = offer ≡ Reject
 PutsAll slot (oid ∷ oids) offer = HasObjects offer slot (oid ∷ oids)
 
--- and so with those that pass
+-- the same of those that pass, in their order
 abbrev pub PutsThose : (Oid → Type 0) → ℕ → Offer → Type 0
 PutsThose Passes slot offer = (oids : List Oid) × ListsInOrder Passes oids × PutsAll slot oids offer
 

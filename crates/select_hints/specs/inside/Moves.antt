@@ -32,13 +32,13 @@ abbrev pub behind : ℕ → PathTree → BoundPathTree
 behind slot rest = record { start = bound_starts.Slot slot; rest = rest }
 
 -- the other path starts at a slot too, and reaches what this one reaches, where slots are filled
-pub record IsMovedPath (ranges : List RangeTree) (path more : BoundPathTree) : Type 0 where
-  pub within : IsBoundWithin (length ranges) more.start
+pub record IsMovedPath (ranges : List RangeTree) (path moved : BoundPathTree) : Type 0 where
+  pub within : IsBoundWithin (length ranges) moved.start
   pub meets : (labels : List (List ℕ)) (edges : List Edge) (slots : List Oid) → AreFilled labels edges ranges slots
-      → (oid : Oid) → MeetsBy labels edges slots [] path oid → MeetsBy labels edges slots [] more oid
+      → (oid : Oid) → MeetsBy labels edges slots [] path oid → MeetsBy labels edges slots [] moved oid
 
 abbrev pub IsMovedOperand : List RangeTree → OperandOf BoundPathTree → OperandOf BoundPathTree → Type 0
-IsMovedOperand ranges (at path) (at more) = IsMovedPath ranges path more
+IsMovedOperand ranges (at path) (at moved) = IsMovedPath ranges path moved
 IsMovedOperand ranges _ _ = ⊥
 
 -- the condition holds of these slots
@@ -52,15 +52,15 @@ abbrev pub StartsWithin : ℕ → CondOf BoundPathTree → Type 0
 StartsWithin count condition = All (λ path. IsBoundWithin count path.start) (paths_of condition)
 
 -- the other condition starts at slots too, and holds where this one holds of filled slots
-pub record IsMoved (ranges : List RangeTree) (condition more : CondOf BoundPathTree) : Type 0 where
-  pub within : StartsWithin (length ranges) condition → StartsWithin (length ranges) more
+pub record IsMoved (ranges : List RangeTree) (condition moved : CondOf BoundPathTree) : Type 0 where
+  pub within : StartsWithin (length ranges) condition → StartsWithin (length ranges) moved
   pub implied : (labels : List (List ℕ)) (edges : List Edge) (objects : List (Oid × Value)) (slots : List Oid)
       → AreFilled labels edges ranges slots
-      → HoldsOn labels edges objects slots condition → HoldsOn labels edges objects slots more
+      → HoldsOn labels edges objects slots condition → HoldsOn labels edges objects slots moved
 
 -- so it is with one of the list
 abbrev pub IsMovedOf : List RangeTree → List (CondOf BoundPathTree) → CondOf BoundPathTree → Type 0
-IsMovedOf ranges list more = (member : CondOf BoundPathTree) × Contains list member × IsMoved ranges member more
+IsMovedOf ranges list moved = (member : CondOf BoundPathTree) × Contains list member × IsMoved ranges member moved
 
 -- the list begins with the members, and so it is with what is behind them
 pub record Extends (ranges : List RangeTree) (members list : List (CondOf BoundPathTree)) : Type 0 where
@@ -76,9 +76,9 @@ abbrev pub AreMembers : CondOf BoundPathTree → List (CondOf BoundPathTree) →
 AreMembers condition members = (condition ≡ and (conds_from members)) ⊎ (members ≡ condition ∷ [])
 
 -- an `and` of its members and what was put behind them
-pub record IsLonger (ranges : List RangeTree) (condition more : CondOf BoundPathTree) : Type 0 where
+pub record IsLonger (ranges : List RangeTree) (condition moved : CondOf BoundPathTree) : Type 0 where
   pub members : List (CondOf BoundPathTree)
   pub own : AreMembers condition members
   pub list : List (CondOf BoundPathTree)
-  pub is : more ≡ and (conds_from list)
+  pub is : moved ≡ and (conds_from list)
   pub extends : Extends ranges members list

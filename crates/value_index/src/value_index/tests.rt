@@ -116,18 +116,18 @@ fn can_be_first(entries: &[ValueEntry]) -> bool
 }
 
 // The index of entries that may be the first.
-fn index_of(alloc: Global, come: &EntryList) -> Result<ValueIndex, NoMemory>
-    requires fits { FitsEntries [] [] come.now }
+fn index_of(alloc: Global, come: EntryList) -> Result<ValueIndex, NoMemory>
+    requires fits { FitsEntries [] [] come }
 {
     let gone = EntryList::new(alloc);
     let mut index = ValueIndex::new(alloc);
-    change(&mut index, &gone, come)?;
+    change(&mut index, gone, come)?;
     Ok(index)
 }
 
 // Takes out the entries that go and puts in those that come.
-fn change(index: &mut ValueIndex, gone: &EntryList, come: &EntryList) -> Result<(), NoMemory>
-    requires fits { FitsEntries index.old.entries gone.now come.now }
+fn change(index: &mut ValueIndex, gone: EntryList, come: EntryList) -> Result<(), NoMemory>
+    requires fits { FitsEntries index.old.entries gone come }
 {
     let plan = index.prepare(gone, come)?;
     index.reserve(&plan)?;
@@ -140,7 +140,7 @@ fn sample(alloc: Global) -> Result<ValueIndex, Fail> {
     if !can_be_first(come.as_slice()) {
         return Err(Fail::new("the entries are not in order"));
     }
-    Ok(index_of(alloc, &come)?)
+    Ok(index_of(alloc, come)?)
 }
 
 // Whether these are the labels and objects of an order, whose entries are taken apart by all of their

@@ -1,4 +1,4 @@
-use Rattle.std.proofs.Common.{ℕ, ◌+◌, ◌≤◌, List, length}
+use Rattle.std.proofs.Common.{◌+◌, ◌≤◌, List, length}
 use Rattle.edge_layers.specs.Types.{Edge}
 use Rattle.edge_layers.specs.inside.Chains.{label_of, slot_among, AreChains, ArePutFrom}
 use Rattle.edge_layers.proofs.ChainLaws.{ArePutting}

@@ -16,9 +16,9 @@ no_bytes n (x ∷ xs) e = rw e refl
 
 pub pieces-init : goal.pieces-init
 pieces-init g c = record {
-  whole = ap (λ (p : Progress). p.whole) c.new-reader.ensures;
-  failed = ap (λ (p : Progress). p.failed) c.new-reader.ensures;
-  so_far = rw (c.new-reader.ensures, c.new-tally.ensures, c.requires.new) (so_far_start _ _ _);
+  whole = ap (λ (p : Progress). p.whole) c.requires.fresh;
+  failed = ap (λ (p : Progress). p.failed) c.requires.fresh;
+  so_far = rw (c.requires.fresh, c.new-tally.ensures, c.requires.new) (so_far_start _ _ _);
   fewer = rw c.new-tally.ensures (omega arith);
   source_faults = refl;
   sink_faults = refl;

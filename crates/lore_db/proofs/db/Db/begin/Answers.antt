@@ -11,7 +11,7 @@ use Rattle.view_laws.specs.Freshness.{queries_of}
 use Rattle.lore_db.specs.Freshness.{KeepsFresh}
 use Rattle.lore_db.specs.inside.Kept.{kept_of}
 use Rattle.lore_db.proofs.KeptLaws.{same_keeps}
-use Rattle.lore_db.proofs.MomentLaws.{last_is}
+use Rattle.kept_history.proofs.MomentLaws.{last_is}
 use Rattle.lore_db.proofs.PerformLaws.{full_told, begins, begins_full}
 use Rattle.lore_db.proofs.db.Db.begin.Goals as goal
 

@@ -3,7 +3,7 @@ use Rattle.std.specs.Int.{w64}
 use Rattle.std.proofs.lemmas.Int.{to_z-of_z}
 use Rattle.lorel_trees.specs.Trees.{changes}
 use Rattle.doem_history.specs.Histories.{moment_at, moments_of}
-use Rattle.lore_db.specs.Changes.{AreChangeLines}
+use Rattle.change_lines.specs.Changes.{AreChangeLines}
 use Rattle.lore_db.specs.States.{Kept}
 use Rattle.lore_db.proofs.MomentLaws.{no_moments}
 use Rattle.lore_db.proofs.AskLaws.{asked_beyond, tells_between}

@@ -10,4 +10,4 @@ commit-requires-clause-fits c =
     let come_is = c.in_ok-plan.ensures.come in
     subst (λ (l : List ValueEntry). FitsEntries l c.in_ok-plan.plan.gone c.in_ok-plan.plan.come) (sym kept_is)
     (subst (λ (l : List ValueEntry). FitsEntries c.args.index.now.entries l c.in_ok-plan.plan.come) (sym gone_is)
-    (subst (λ (l : List ValueEntry). FitsEntries c.args.index.now.entries c.args.gone.now l) (sym come_is) c.requires.fits))
+    (subst (λ (l : List ValueEntry). FitsEntries c.args.index.now.entries c.args.gone l) (sym come_is) c.requires.fits))

@@ -5,6 +5,6 @@ use Rattle.value_index.proofs.value_index.tests.index_of.Goals as goal
 
 pub change-requires : goal.change-requires
 change-requires c = record {
-  fits = subst (λ (l : List ValueEntry). FitsEntries l c.new-gone.result c.args.come.now) (sym c.new-index.ensures)
-      (subst (λ (l : List ValueEntry). FitsEntries [] l c.args.come.now) (sym c.new-gone.ensures) c.requires.fits);
+  fits = subst (λ (l : List ValueEntry). FitsEntries l c.new-gone.result c.args.come) (sym c.new-index.ensures)
+      (subst (λ (l : List ValueEntry). FitsEntries [] l c.args.come) (sym c.new-gone.ensures) c.requires.fits);
 }

@@ -1,6 +1,0 @@
-use Rattle.std.proofs.Common.{sym}
-use Rattle.graph_changes.proofs.RecordLaws.{below-last}
-use Rattle.graph_changes.proofs.object_changes.are_below.Goals as goal
-
-pub returns-in-Some : goal.returns-in-Some
-returns-in-Some c = below-last c.args.objects.now c.args.oid c.in-Some.last.now c.requires (sym c.in-Some.ensures.value)

@@ -1,0 +1,4 @@
+pub mod NumberLaws
+pub mod LeadingLaws
+pub mod RunLaws
+pub mod TableLaws

@@ -1,5 +1,0 @@
-use Rattle.std.proofs.Common.{◌≡◌, map, take}
-use Rattle.lore_db.proofs.blocking.live_objects.Given as goal
-
-abbrev pub invariant-places : goal.invariant-places
-invariant-places l = l.oids ≡ take l.place (map (λ object. object.0) l.graph.graph.objects)

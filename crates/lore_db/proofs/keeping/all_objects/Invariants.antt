@@ -1,5 +1,0 @@
-use Rattle.std.proofs.Common.{◌≡◌, take}
-use Rattle.lore_db.proofs.keeping.all_objects.Given as goal
-
-abbrev pub invariant-places : goal.invariant-places
-invariant-places l = l.objects ≡ take l.place l.graph.graph.objects
