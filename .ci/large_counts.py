@@ -6,8 +6,10 @@
 Each question of `large_joins.py` is asked of some members and of twice as many, under callgrind of valgrind, and what a run takes
 that only loads is left out. What a question takes grows as the members do, to 2 times, and where they are sorted to some 2.2.
 With a join that tries all pairs, a condition that waits until a row is whole, or a test that walks again from each row it grows to
-4 times; more than 2.6 are refused. Instructions repeat from run to run, whatever else the machine does; the limit on time stops
-only a run that hangs. Each run has to write the replies that are worked out. All of it takes about a minute of a processor.
+4 times; more than 2.6 are refused. An edge that goes between two members takes as much among twice as many, since no list of all of
+them is read or made for it; more than 1.5 times as much is refused. Instructions repeat from run to run, whatever else the machine
+does; the limit on time stops only a run that hangs. Each run has to write the replies that are worked out. All of it takes about a
+minute of a processor.
 
 Statuses: 0 all is as it has to be, 1 a question takes too many or has other replies, 2 the program or valgrind can't be run, or
 the words are wrong.
@@ -25,9 +27,11 @@ import tempfile
 
 sys.dont_write_bytecode = True
 from large import PROGRAM
-from large_joins import QUESTIONS
+from large_joins import QUESTIONS, Asked
+from large_scripts import braces, ok
 
 MOST = 2.6
+MOST_OF_A_CHANGE = 1.5
 SECONDS = 600  # of a processor for one run
 
 
@@ -52,9 +56,17 @@ def spent(program, script, replies):
     return int(found[1])
 
 
-def is_too_much(smaller, larger):
-    """Whether a question that takes so many instructions takes too many with twice the members."""
-    return not 0 < larger <= MOST * smaller
+def edge_gone(each):
+    """Member i has member i // 2 as its boss. Of two edges that enter a member one goes, so all sets of members stay."""
+    members = ["x &1 { k 1 }", *(f"x &{i} {{ k {i}, boss &{i // 2} }}" for i in range(2, each + 1))]
+    edges, nodes = 3 * each - 1, 1 + 2 * each.bit_length()
+    return Asked("an edge that goes", braces("A", members), ok(2 * each + 1, edges, nodes), [
+        ("update X.boss -= Y from A.x X, X.boss Y where X.k = 7;", ok(2 * each + 1, edges - 1, nodes))])
+
+
+def is_too_much(smaller, larger, most=MOST):
+    """Whether what takes so many instructions takes too many with twice the members."""
+    return not 0 < larger <= most * smaller
 
 
 def figures(count, asked):
@@ -63,12 +75,12 @@ def figures(count, asked):
     return [count(asked.load + text, asked.state + replies) - loaded for text, replies in asked.questions]
 
 
-def faults(count, make, few):
+def faults(count, make, few, most=MOST):
     """What is wrong with questions, a line each, by a count of the instructions of a script with its replies."""
     asked, twice = make(few), make(2 * few)
     try:
         for (text, _), smaller, larger in zip(asked.questions, figures(count, asked), figures(count, twice)):
-            if is_too_much(smaller, larger):
+            if is_too_much(smaller, larger, most):
                 yield f"{asked.name}: {text} takes {smaller} instructions with {few} members, and {larger} with twice as many"
     except Fault as fault:
         yield f"{asked.name}: {fault}"
@@ -81,6 +93,7 @@ def main(words):
         return 2
     count = functools.cache(functools.partial(spent, program))
     wrong = [fault for make, few in QUESTIONS for fault in faults(count, make, few)]
+    wrong += faults(count, edge_gone, 2_000, MOST_OF_A_CHANGE)
     print(*wrong, sep="\n", end="\n" if wrong else "")
     return 1 if wrong else 0
 

@@ -100,36 +100,39 @@ OUTSIDE = (
 )
 
 
-def check_outside(tally, program):
-    for name, fault in OUTSIDE:
-        tally.check(name, fault(program))
-
-
-def check_counts(tally, program):
+def counted(tally):
     """What questions take with some members and with twice as many, in instructions."""
     if not shutil.which("valgrind"):
         tally.leave(1, "check of counted instructions (.ci/large_counts.py)", "left since valgrind isn't on this machine")
-        return
-    tally.check("counted instructions", fault_of(sys.executable, TOP / ".ci" / "large_counts.py", program))
+        return []
+    return [("counted instructions", lambda program: fault_of(sys.executable, TOP / ".ci" / "large_counts.py", program))]
 
 
-def check_ours(tally, program):
+def started(program):
+    """What is wrong with the replies of bin/lore."""
+    with open(TOP / "examples" / "restaurants.lore", "rb") as script:
+        ran = subprocess.run([TOP / "bin" / "lore"], stdin=script, stdout=subprocess.PIPE, stderr=subprocess.STDOUT)
+    return differing(ran.stdout, (TOP / "examples" / "restaurants.out").read_bytes())
+
+
+def ours(tally, program):
     """What runs the program that stands in this checkout: bin/lore, and the large scripts."""
     if not OURS.exists() or not os.path.samefile(program, OURS):
         tally.leave(2, "checks of bin/lore and of large scripts", "left to the program that this checkout builds")
-        return
-    with open(TOP / "examples" / "restaurants.lore", "rb") as script:
-        ran = subprocess.run([TOP / "bin" / "lore"], stdin=script, stdout=subprocess.PIPE, stderr=subprocess.STDOUT)
-    tally.check("bin/lore", differing(ran.stdout, (TOP / "examples" / "restaurants.out").read_bytes()))
-    tally.check("large scripts, and scripts at a limit", fault_of(sys.executable, TOP / ".ci" / "large.py", program))
+        return []
+    return [("large scripts, and scripts at a limit", lambda program: fault_of(sys.executable, TOP / ".ci" / "large.py", program)),
+            ("bin/lore", started)]
 
 
 def check_program(tally, program):
+    """All that is checked with a program. What takes long runs side by side; tests of the tools change what programs are found
+    by, so they come when all of that is done."""
     runs = [*small_runs(), *odd_argument_runs(), *script_cases(CRATES / "script_cases")]
-    check_runs(tally, Built(program).faults(runs))
-    check_outside(tally, program)
-    check_counts(tally, program)
-    check_ours(tally, program)
+    with ThreadPoolExecutor() as pool:
+        long = [(name, pool.submit(fault, program)) for name, fault in [*counted(tally), *ours(tally, program), *OUTSIDE]]
+        check_runs(tally, Built(program).faults(runs))
+        for name, fault in long:
+            tally.check(name, fault.result())
     tools.all_of_them(tally, TOP, program)
 
 

@@ -50,7 +50,7 @@ class Counters(unittest.TestCase):
         "use lore_base::{Oid, Steps};",
         "fn read<L: Ledger>(&self, oid: Oid, steps: &mut Steps<L>) -> Option<Oid>",
         "impl<'a, L: Ledger> Space<Steps<L>> for Children<'a> {",
-        "ghost use Rattle.plan_ops.specs.Steps.{steps_over};",
+        "ghost use Rattle.plan_laws.specs.Steps.{steps_over};",
         "pub type PlanSteps = Listing<PlanStep>;",
         "            Rest::Blank",
         "    Blank,",

@@ -50,6 +50,14 @@ class Growth(unittest.TestCase):
             self.assertTrue(large_counts.is_too_much(smaller, larger), (smaller, larger))
         self.assertFalse(large_counts.is_too_much(1_000, 2_600))
 
+    def test_a_change_that_takes_time_by_all_members_is_refused(self):
+        for growth, may in ((lambda each: 200_000 + 10 * each, True), (lambda each: 200_000 + 500 * each, False)):
+            def count(script, replies):
+                each = script.count("x &")
+                return LOAD + (growth(each) if "update" in script else 0)
+            found = list(large_counts.faults(count, large_counts.edge_gone, 2_000, large_counts.MOST_OF_A_CHANGE))
+            self.assertEqual(len(found), 0 if may else 1)
+
 
 class Runs(unittest.TestCase):
     """A stand-in for valgrind that counts what a variable says, and a program that writes what it is given."""
@@ -78,7 +86,7 @@ class Runs(unittest.TestCase):
         loader.exec_module(checks)
         tally = Tally()
         with mock.patch.dict(os.environ, {"PATH": ""}):
-            checks.check_counts(tally, "/bin/cat")
+            self.assertEqual(checks.counted(tally), [])
         self.assertEqual((tally.passed, tally.failed, len(tally.left)), (0, 0, 1))
 
 

@@ -2,7 +2,7 @@
 use Rattle.std.proofs.Common.{◌≡◌, ℕ, zero, suc, ◌+◌, ◌<◌, ◌≤◌, List, [], ◌∷◌, length, map, get_or, All, sum_by, subst, sym, ap, ◌∙◌, arith}
 use Rattle.std.proofs.lemmas.List.{get_or-map, length-map}
 use Rattle.std.proofs.lemmas.List.Sums.{get_or-le-sum_by}
-use Rattle.plan_ops.proofs.DescribeLawsRows.{within_more}
+use Rattle.plan_laws.proofs.DescribeLawsRows.{within_more}
 use Rattle.lore_base.specs.Paths.{path_tree, leaves}
 use Rattle.lorel_bound.specs.declared.bound.Start.TheVariants as starts
 use Rattle.lorel_bound.specs.declared.bound.Range.{Range}

@@ -9,7 +9,7 @@ use Rattle.lorel_bound.specs.declared.bound.Bound.{Bound}
 use Rattle.lorel_bound.specs.Bound.{bound_tree}
 use Rattle.lorel_bound.specs.SlotRows.{ShowsObjects}
 use Rattle.lorel_bound.specs.Plans.{StepTree, steps_of}
-use Rattle.plan_ops.specs.Steps.{StepsOver, steps_over}
+use Rattle.plan_laws.specs.Steps.{StepsOver, steps_over}
 use Rattle.plan_ops.specs.Rows.{RowsLeft, HasTheSamePlan, IsToCome, ReadNothing, Gives, AnswersNext}
 use Rattle.answers.specs.Types.{Oid, Edge, ValueEntry, Cell}
 use Rattle.answers.specs.Asked.{ShowsRow, AreTooMany}

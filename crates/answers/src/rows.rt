@@ -5,7 +5,7 @@ ghost use Rattle.lorel_bound.specs.Bound.{bound_tree};
 ghost use Rattle.lorel_bound.specs.Runnable.{IsRunnable};
 ghost use Rattle.lorel_bound.specs.Plans.{steps_of};
 ghost use Rattle.lorel_bound.specs.SlotRows.{ShowsObjects};
-ghost use Rattle.plan_ops.specs.Steps.{steps_over};
+ghost use Rattle.plan_laws.specs.Steps.{steps_over};
 ghost use Rattle.plan_ops.specs.Rows.{IsToCome, ReadNothing};
 
 use crate::shown_rows::ShownRows;

@@ -33,7 +33,7 @@ impl<'a, A: Adjacent> Model for SlotWords<'a, A> {
     ghost use Rattle.std.specs.Coded.{codes};
     ghost use Rattle.lore_base.specs.Paths.{path_tree};
     ghost use Rattle.lore_base.specs.contracts.paths.Path as path_contract;
-    ghost use Rattle.path_expr.specs.Machines.{StandsFor};
+    ghost use Rattle.path_expr.specs.Machines.{Recognises};
     ghost use Rattle.lorel_bound.specs.Runnable.{IsWithin};
     ghost use Rattle.answers.specs.Types.{RANGES};
     ghost use Rattle.answers.specs.inside.Words.{WordsOver, AreWordsFrom};
@@ -52,7 +52,7 @@ impl<'a, A: Adjacent> Model for SlotWords<'a, A> {
     ghost invariant = { λ words.
         let path = path_tree words.range.now.path in
         (words.slot < RANGES) × IsWithin RANGES words.range.now.start
-        × StandsFor words.automaton path
+        × Recognises words.automaton path
         × IfSome words.kept (λ kept.
         AreWordsFrom words.labels.now (A.edges words.graph.now) path kept.0 kept.1) };
 }

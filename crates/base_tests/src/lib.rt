@@ -12,4 +12,6 @@ mod names;
 #[cfg(test)]
 mod orders;
 #[cfg(test)]
+mod passing;
+#[cfg(test)]
 mod values;

@@ -1,12 +1,14 @@
-ghost use Rattle.std.specs.Prelude.{◌≡◌, ◌≢◌, IsTrue, All, AllPairs};
+ghost use Rattle.std.specs.Prelude.{◌≡◌, ◌≢◌, ◌+◌, ◌≤◌, IsTrue, All, AllPairs, length};
+ghost use Rattle.std.specs.Prelude.{vec_len, vec_capacity};
 ghost use Rattle.std.specs.declared.cmp.Ordering.TheVariants.{Less};
 ghost use Rattle.index_traits.specs.Types.{Complex};
 ghost use Rattle.index_traits.specs.Entries.{AreAscendingEntries, entry_cmp};
 ghost use Rattle.value_orders.specs.Held.{AscendByObject, object_cmp};
 
-use crate::values::value_of;
-use index_traits::{EntryList, ValueEntry};
-use lore_base::{Label, NoMemory, Oid, Value};
+use crate::passing::pass;
+use crate::values::{EntryRow, entries_of, value_of};
+use index_traits::ValueEntry;
+use lore_base::{NoMemory, Oid, Value};
 use sorted_list::Order;
 use std::alloc::Global;
 use std::cmp::Ordering;
@@ -17,7 +19,7 @@ use value_orders::{
 };
 
 // Labels, objects and what writes their values, in order.
-const ENTRIES: [(u32, u32, &str); 8] = [
+const ENTRIES: [EntryRow; 8] = [
     (1, 1, "9"),
     (1, 2, "-4"),
     (1, 3, "'10"),
@@ -27,18 +29,6 @@ const ENTRIES: [(u32, u32, &str); 8] = [
     (2, 7, "'x"),
     (2, 8, "9"),
 ];
-
-fn entries(alloc: Global) -> Result<EntryList, NoMemory> {
-    let mut list = EntryList::new(alloc);
-    for (label, object, word) in ENTRIES {
-        list.push(ValueEntry {
-            label: Label(label),
-            value: value_of(alloc, word)?,
-            object: Oid(object),
-        })?;
-    }
-    Ok(list)
-}
 
 fn is_atomic(value: &Value) -> bool
     ensures { IsTrue result → value.now ≢ Complex }
@@ -91,41 +81,47 @@ fn orders_of(alloc: Global, entries: &mut [ValueEntry]) -> Result<Option<EntryOr
     Ok(Some(EntryOrders::of(alloc, entries)?))
 }
 
-fn sample(alloc: Global) -> Result<EntryOrders, Fail> {
-    let mut given = entries(alloc)?.into_items();
-    match orders_of(alloc, given.as_mut_slice())? {
+fn in_order(orders: Result<Option<EntryOrders>, NoMemory>) -> Result<EntryOrders, Fail> {
+    match orders? {
         Some(orders) => Ok(orders),
         None => Err(Fail::new("the entries are not in order")),
     }
 }
 
-fn objects_in(alloc: Global, order: &[Entry]) -> Result<Vec<u32>, NoMemory> {
-    let mut objects = Vec::new(alloc);
-    for entry in order {
-        objects.push(entry.object.0)?;
-    }
-    Ok(objects)
+fn sample(alloc: Global) -> Result<EntryOrders, Fail> {
+    let mut given = entries_of(alloc, &ENTRIES)?.into_items();
+    let orders = orders_of(alloc, given.as_mut_slice());
+    drop(given);
+    in_order(orders)
 }
 
-// The kinds, and the objects whose entries stand in their orders.
-const ORDERS: [(Kind, &[u32]); 5] = [
-    (Kind::Wholes, &[2, 1, 8]),
-    (Kind::Texts, &[3, 4, 6, 7]),
-    (Kind::Flags, &[5]),
-    (Kind::Readings, &[4, 3]),
-    (Kind::FlagReadings, &[6]),
+// The numbers of the objects as digits.
+fn digits(order: &[Entry]) -> u64 {
+    let mut digits = 0_u64;
+    for entry in order {
+        digits = digits
+            .wrapping_mul(10)
+            .wrapping_add(u64::from(entry.object.0));
+    }
+    digits
+}
+
+// The kinds, and the objects whose entries stand in their orders, as digits.
+const ORDERS: [(Kind, u64); 5] = [
+    (Kind::Wholes, 218),
+    (Kind::Texts, 3_467),
+    (Kind::Flags, 5),
+    (Kind::Readings, 43),
+    (Kind::FlagReadings, 6),
 ];
 
-#[test]
-fn entries_stand_in_the_order_of_their_kinds(rt: HostRuntime) -> Result<(), Fail> {
-    let orders = sample(rt.alloc())?;
-    for (kind, wanted) in ORDERS {
-        assert_eq!(rt;
-            objects_in(rt.alloc(), orders.order(kind))?.as_slice(),
-            wanted
-        );
+fn stand_so(orders: &EntryOrders, table: &[(Kind, u64)]) -> bool {
+    for (kind, wanted) in table {
+        if digits(orders.order(*kind)) != *wanted {
+            return false;
+        }
     }
-    Ok(())
+    true
 }
 
 fn is_below_all(first: &(Oid, Value), others: &[(Oid, Value)]) -> bool
@@ -165,17 +161,28 @@ fn stands(values: &[(Oid, Value)], object: u32, number: i64) -> Ordering {
     compare_to(values, Kind::Wholes, Oid(object), &Value::Whole(number))
 }
 
-#[test]
-fn values_compare_by_their_objects(rt: HostRuntime) -> Result<(), Fail> {
-    let orders = sample(rt.alloc())?;
-    for (kind, _wanted) in ORDERS {
-        assert!(rt; ascends(orders.values.as_slice(), kind, orders.order(kind)));
+fn each_ascends(orders: &EntryOrders, table: &[(Kind, u64)]) -> bool {
+    for (kind, _wanted) in table {
+        if !ascends(orders.values.as_slice(), *kind, orders.order(*kind)) {
+            return false;
+        }
     }
+    true
+}
+
+fn compare_so(values: &[(Oid, Value)]) -> bool {
+    stands(values, 1, 7) == Ordering::Greater
+        && stands(values, 4, 10) == Ordering::Less
+        && stands(values, 99, -5) == Ordering::Less
+}
+
+// Entries stand in the order of their kinds, and values compare by their objects.
+fn check_orders(orders: EntryOrders) -> Result<(), Fail> {
+    let are_so = stand_so(&orders, &ORDERS) && each_ascends(&orders, &ORDERS);
     let values = orders.into_values();
-    assert!(rt; stands(values.as_slice(), 1, 7) == Ordering::Greater);
-    assert!(rt; stands(values.as_slice(), 4, 10) == Ordering::Less);
-    assert!(rt; stands(values.as_slice(), 99, -5) == Ordering::Less);
-    Ok(())
+    let is_so = are_so && compare_so(values.as_slice());
+    drop(values);
+    pass(Ok(is_so), "entries stand or compare otherwise")
 }
 
 fn kinds_of(value: &Value) -> [bool; 5] {
@@ -199,7 +206,9 @@ fn kinds_sought(value: &Value) -> [bool; 5] {
 }
 
 // What writes a value, of which kinds it is, and with values of which kinds it is compared.
-const KINDS: [(&str, [bool; 5], [bool; 5]); 5] = [
+type Kinds = (&'static str, [bool; 5], [bool; 5]);
+
+const KINDS: [Kinds; 5] = [
     (
         "9",
         [true, false, false, false, false],
@@ -227,17 +236,35 @@ const KINDS: [(&str, [bool; 5], [bool; 5]); 5] = [
     ),
 ];
 
-#[test]
-fn values_are_of_kinds_and_are_sought_in_kinds(rt: HostRuntime) -> Result<(), Fail> {
-    for (word, of, sought) in KINDS {
-        let value = value_of(rt.alloc(), word)?;
-        assert_eq!(rt; kinds_of(&value), of);
-        assert_eq!(rt; kinds_sought(&value), sought);
+fn is_of_kinds(alloc: Global, (word, of, sought): Kinds) -> Result<bool, NoMemory> {
+    let value = value_of(alloc, word)?;
+    let is_so = kinds_of(&value) == of && kinds_sought(&value) == sought;
+    drop(value);
+    Ok(is_so)
+}
+
+fn check_kinds(alloc: Global, table: &[Kinds]) -> Result<(), Fail> {
+    for kinds in table {
+        pass(is_of_kinds(alloc, *kinds), kinds.0)?;
     }
     Ok(())
 }
 
-// So many objects with the number, each so far behind the one before it.
+// Appends so many objects with the number, each so far behind the one before it.
+fn put_numbered(
+    objects: &mut Vec<(Oid, Value)>,
+    step: u32,
+    count: u32,
+    number: i64,
+) -> Result<(), NoMemory> {
+    let mut object = 0_u32;
+    for _ in 0..count {
+        object = object.saturating_add(step);
+        objects.push((Oid(object), Value::Whole(number)))?;
+    }
+    Ok(())
+}
+
 fn numbered(
     alloc: Global,
     step: u32,
@@ -245,20 +272,31 @@ fn numbered(
     number: i64,
 ) -> Result<Vec<(Oid, Value)>, NoMemory> {
     let mut objects = Vec::new(alloc);
-    let mut object = 0_u32;
-    for _ in 0..count {
-        object = object.saturating_add(step);
-        objects.push((Oid(object), Value::Whole(number)))?;
-    }
+    put_numbered(&mut objects, step, count, number)?;
     Ok(objects)
 }
 
-fn put(values: &mut Vec<(Oid, Value)>, given: Vec<(Oid, Value)>) -> Result<(), NoMemory> {
-    values.reserve(given.len())?;
+fn put_ready(values: &mut Vec<(Oid, Value)>, given: Vec<(Oid, Value)>)
+    requires { vec_len values.old + length given.items ≤ vec_capacity values.old }
+{
     if objects_ascend(values.as_slice()) && objects_ascend(given.as_slice()) {
         put_values(values, given);
+    } else {
+        drop(given);
     }
-    Ok(())
+}
+
+fn put(values: &mut Vec<(Oid, Value)>, given: Vec<(Oid, Value)>) -> Result<(), NoMemory> {
+    match values.reserve(given.len()) {
+        Ok(()) => {
+            put_ready(values, given);
+            Ok(())
+        }
+        Err(_) => {
+            drop(given);
+            Err(NoMemory)
+        }
+    }
 }
 
 fn leave(values: &mut Vec<(Oid, Value)>, leaving: &[(Oid, Value)]) {
@@ -267,18 +305,24 @@ fn leave(values: &mut Vec<(Oid, Value)>, leaving: &[(Oid, Value)]) {
     }
 }
 
-// Every second object up to 40 has the number 1. Of every fourth object so many leave, and so many
+// Every second object up to 40 gets the number 1. Of every fourth object so many leave, and so many
 // of every third get the number 2.
-fn changed(alloc: Global, leaving: u32, given: u32) -> Result<Vec<(Oid, Value)>, NoMemory> {
-    let mut values = numbered(alloc, 2, 20, 1)?;
-    leave(&mut values, numbered(alloc, 4, leaving, 0)?.as_slice());
-    put(&mut values, numbered(alloc, 3, given, 2)?)?;
-    Ok(values)
+fn change(
+    alloc: Global,
+    values: &mut Vec<(Oid, Value)>,
+    (leaving, given): (u32, u32),
+) -> Result<(), NoMemory> {
+    put_numbered(values, 2, 20, 1)?;
+    let left = numbered(alloc, 4, leaving, 0)?;
+    leave(values, left.as_slice());
+    drop(left);
+    put(values, numbered(alloc, 3, given, 2)?)
 }
 
 // Whether the number is one of so many multiples of the step.
 fn is_step(number: u32, step: u32, count: u32) -> bool {
-    (1..count.saturating_add(1)).any(|place| place.wrapping_mul(step) == number)
+    let is_among = number > 0 && number <= step.saturating_mul(count);
+    is_among && number.checked_rem(step) == Some(0)
 }
 
 // What the object has then; 0 is nothing.
@@ -308,7 +352,7 @@ fn number_in(value: &Value) -> i64 {
 }
 
 // Whether each object has what it is to have.
-fn are_wanted(values: &[(Oid, Value)], leaving: u32, given: u32) -> bool {
+fn are_wanted(values: &[(Oid, Value)], (leaving, given): (u32, u32)) -> bool {
     if !objects_ascend(values) {
         return false;
     }
@@ -325,11 +369,27 @@ fn are_wanted(values: &[(Oid, Value)], leaving: u32, given: u32) -> bool {
 // A few objects and more than a few, that leave and that come.
 const CHANGES: [(u32, u32); 5] = [(0, 0), (3, 5), (18, 5), (3, 18), (18, 18)];
 
-#[test]
-fn objects_leave_and_get_values(rt: HostRuntime) -> Result<(), Fail> {
-    for (leaving, given) in CHANGES {
-        let values = changed(rt.alloc(), leaving, given)?;
-        assert!(rt; are_wanted(values.as_slice(), leaving, given));
+fn is_changed(alloc: Global, counts: (u32, u32)) -> Result<bool, NoMemory> {
+    let mut values = Vec::new(alloc);
+    let changed = change(alloc, &mut values, counts);
+    let are_wanted = are_wanted(values.as_slice(), counts);
+    drop(values);
+    changed?;
+    Ok(are_wanted)
+}
+
+fn check_changes(alloc: Global, table: &[(u32, u32)]) -> Result<(), Fail> {
+    for counts in table {
+        pass(is_changed(alloc, *counts), "an object has another value")?;
     }
     Ok(())
+}
+
+// Entries are put in order, values are of kinds and are sought in kinds, and objects leave and get
+// values.
+#[test]
+fn values_have_orders(rt: HostRuntime) -> Result<(), Fail> {
+    check_orders(sample(rt.alloc())?)?;
+    check_kinds(rt.alloc(), &KINDS)?;
+    check_changes(rt.alloc(), &CHANGES)
 }

@@ -3,6 +3,7 @@ ghost use Rattle.std.specs.declared.cmp.Ordering.TheVariants.{Less};
 ghost use Rattle.index_traits.specs.Types.{Complex};
 ghost use Rattle.index_traits.specs.Entries.{AreAscendingEntries, IsProbed, entry_cmp};
 
+use crate::passing::pass;
 use index_traits::{EntryList, ValueEntry, Values};
 use lore_base::{Label, NoMemory, OemText, Oid, OidBuf, Op, TryCopy, Value, read_whole};
 use std::alloc::Global;
@@ -30,9 +31,40 @@ pub(crate) fn value_of(alloc: Global, word: &str) -> Result<Value, NoMemory>
     }
 }
 
+/// A label, an object, and what writes its value.
+pub(crate) type EntryRow = (u32, u32, &'static str);
+
+fn put_entry(
+    alloc: Global,
+    (label, object, word): EntryRow,
+    list: &mut EntryList,
+) -> Result<(), NoMemory> {
+    let value = value_of(alloc, word)?;
+    list.push(ValueEntry {
+        label: Label(label),
+        value,
+        object: Oid(object),
+    })?;
+    Ok(())
+}
+
+fn put_entries(alloc: Global, rows: &[EntryRow], list: &mut EntryList) -> Result<(), NoMemory> {
+    for row in rows {
+        put_entry(alloc, *row, list)?;
+    }
+    Ok(())
+}
+
+/// The entries of these rows.
+pub(crate) fn entries_of(alloc: Global, rows: &[EntryRow]) -> Result<EntryList, NoMemory> {
+    let mut list = EntryList::new(alloc);
+    put_entries(alloc, rows, &mut list)?;
+    Ok(list)
+}
+
 // Numbers and texts under one label, of which some texts read as numbers; objects with a second
 // label; a label with an empty text; and one with flags, texts that read as flags, and others.
-const PRICES: [(u32, u32, &str); 17] = [
+const PRICES: [EntryRow; 17] = [
     (0, 2, "12"),
     (0, 3, "'9"),
     (0, 5, "'cheap"),
@@ -51,18 +83,6 @@ const PRICES: [(u32, u32, &str); 17] = [
     (4, 6, "1"),
     (4, 7, "'truer"),
 ];
-
-fn prices(alloc: Global) -> Result<EntryList, NoMemory> {
-    let mut list = EntryList::new(alloc);
-    for (label, object, word) in PRICES {
-        list.push(ValueEntry {
-            label: Label(label),
-            value: value_of(alloc, word)?,
-            object: Oid(object),
-        })?;
-    }
-    Ok(list)
-}
 
 fn is_before(a: &ValueEntry, b: &ValueEntry) -> bool
     ensures { IsTrue result → entry_cmp a.now b.now ≡ Less }
@@ -85,13 +105,22 @@ fn ascend(entries: &[ValueEntry]) -> bool
     }
 }
 
-// The plain list of a copy of them.
+// A copy of them.
+fn prices(alloc: Global) -> Result<EntryList, NoMemory> {
+    let given = entries_of(alloc, &PRICES)?;
+    let copy = given.try_copy(alloc);
+    drop(given);
+    copy
+}
+
+// Their plain list.
 fn values(alloc: Global) -> Result<NaiveValues, Fail> {
-    let entries = prices(alloc)?.try_copy(alloc)?;
-    if !ascend(entries.as_slice()) || entries.len() > 17 {
-        return Err(Fail::new("the prices are not in order"));
+    let entries = prices(alloc)?;
+    if ascend(entries.as_slice()) && entries.len() <= 17 {
+        return Ok(NaiveValues::new(entries));
     }
-    Ok(NaiveValues::new(entries))
+    drop(entries);
+    Err(Fail::new("the prices are not in order"))
 }
 
 // The operator that is written so; any other word is `>=`.
@@ -107,7 +136,41 @@ fn op_of(sign: &str) -> Op
     }
 }
 
+// Appends the objects that a probe finds to a 1.
+fn put_found(
+    values: &NaiveValues,
+    label: Label,
+    op: Op,
+    value: &Value,
+    oids: &mut OidBuf,
+) -> Result<(), NoMemory>
+    requires op { IsProbed op }
+    requires value { value.now ≢ Complex }
+{
+    oids.push(Oid(1))?;
+    values.probe(label, op, value, oids)
+}
+
 // The objects that a probe finds, as digits behind a 1 that was there, and how many it counts.
+fn found_by(
+    alloc: Global,
+    values: &NaiveValues,
+    label: Label,
+    op: Op,
+    value: &Value,
+) -> Result<(u64, u32), NoMemory>
+    requires op { IsProbed op }
+    requires value { value.now ≢ Complex }
+{
+    let mut oids = OidBuf::new(alloc);
+    let put = put_found(values, label, op, value, &mut oids);
+    let digits = digits(&oids);
+    drop(oids);
+    put?;
+    Ok((digits, values.probe_count(label, op, value)))
+}
+
+// The same of what is asked, an operator with a value.
 fn found(
     alloc: Global,
     values: &NaiveValues,
@@ -116,11 +179,9 @@ fn found(
 ) -> Result<(u64, u32), NoMemory> {
     let (sign, word) = asked.split_once(' ').unwrap_or((asked, ""));
     let value = value_of(alloc, word)?;
-    let op = op_of(sign);
-    let mut oids = OidBuf::new(alloc);
-    oids.push(Oid(1))?;
-    values.probe(Label(label), op, &value, &mut oids)?;
-    Ok((digits(&oids), values.probe_count(Label(label), op, &value)))
+    let found = found_by(alloc, values, Label(label), op_of(sign), &value);
+    drop(value);
+    found
 }
 
 // The numbers of the objects as digits.
@@ -133,7 +194,9 @@ fn digits(oids: &OidBuf) -> u64 {
 }
 
 // A label, an operator with a value, and the objects and the count.
-const PROBES: [(u32, &str, u64, u32); 26] = [
+type Probe = (u32, &'static str, u64, u32);
+
+const PROBES: [Probe; 26] = [
     (0, "= 7", 189, 2),
     (0, "< 10", 13_689, 4),
     (0, "< 9", 1_689, 3),
@@ -162,11 +225,22 @@ const PROBES: [(u32, &str, u64, u32); 26] = [
     (4, "<= 1", 16, 1),
 ];
 
+fn finds(alloc: Global, values: &NaiveValues, probe: Probe) -> Result<bool, NoMemory> {
+    let (label, asked, wanted, count) = probe;
+    Ok(found(alloc, values, label, asked)? == (wanted, count))
+}
+
+fn check_probes(alloc: Global, values: &NaiveValues, table: &[Probe]) -> Result<(), Fail> {
+    for probe in table {
+        pass(finds(alloc, values, *probe), probe.1)?;
+    }
+    Ok(())
+}
+
 #[test]
 fn probes_find_what_compares_so(rt: HostRuntime) -> Result<(), Fail> {
     let values = values(rt.alloc())?;
-    for (label, asked, wanted, count) in PROBES {
-        assert_eq!(rt; found(rt.alloc(), &values, label, asked)?, (wanted, count));
-    }
-    Ok(())
+    let checked = check_probes(rt.alloc(), &values, &PROBES);
+    drop(values);
+    checked
 }

@@ -12,11 +12,11 @@ use Rattle.lorel_bind.specs.Types.bound_starts
 use Rattle.lorel_ranges.specs.Places.{Place, CellPlace, object, word, cells_of}
 use Rattle.lorel_bound.specs.Conditions.{OperandOf, constant, at, CondOf, or, and, not, exists, for_all, compare, same, CondsOf, no_cond, cond, operand_paths, paths_of, paths_of_all, paths_in}
 use Rattle.lorel_ranges.specs.Conditions.{cond_of, cond_places}
-use Rattle.lorel_ranges.specs.Ranges.{Range, places, AreFused, IsUsed}
+use Rattle.lorel_ranges.specs.Ranges.{PlacedRange, places, AreFused, IsUsed}
 use Rattle.lorel_ranges.specs.Texts.{ranged_identifiers}
 use Rattle.lorel_bind.specs.Refusals.{StartsNowhere}
 use Rattle.lorel_bound.specs.Bound.{RangeTree, BoundPathTree}
-use Rattle.lorel_bind.specs.Bindings.{StandsFor, StandsForAny, IsBoundRange, IsBoundCell, IsBoundPath, CorrespondOperands, Correspond, CorrespondEach, CorrespondIf}
+use Rattle.lorel_bind.specs.Bindings.{IsStartOfPlace, IsBoundStart, IsBoundRange, IsBoundCell, IsBoundPath, CorrespondOperands, Correspond, CorrespondEach, CorrespondIf}
 use Rattle.bind_laws.specs.Laws.{HasOneBinding, HasSomeBinding}
 use Rattle.lorel_ranges.specs.inside.Orders.{IsOpen, AreOrdered}
 use Rattle.lorel_bind.specs.inside.Slots.{CanStart, CanShow, CanBind}
@@ -151,15 +151,15 @@ module _ {P Q : Type 0} (R : P → Q → Type 0) where
 
 -- ---- one start stands for a place
 -- a later range has another place than the first
-not_later : (earlier : List Place) (range : Range) (ranges : List Range) → AreOrdered earlier (range ∷ ranges) → (slot : ℕ) (place : Place)
+not_later : (earlier : List Place) (range : PlacedRange) (ranges : List PlacedRange) → AreOrdered earlier (range ∷ ranges) → (slot : ℕ) (place : Place)
     → range.place ≡ place → slice_get (places ranges) slot ≡ Some place → ⊥
 not_later earlier range ranges ordered slot place is later =
     All-contains (λ p. p ≢ range.place) (places ranges) place
-    (All-map (λ p. p ≢ range.place) (λ (r : Range). r.place) ranges (other_places earlier range ranges ordered))
+    (All-map (λ p. p ≢ range.place) (λ (r : PlacedRange). r.place) ranges (other_places earlier range ranges ordered))
     (Contains-from_place (places ranges) slot place later) (sym is)
 
 -- no place stands twice
-one_slot : (earlier : List Place) (ranges : List Range) → AreOrdered earlier ranges → (a b : ℕ) (place : Place)
+one_slot : (earlier : List Place) (ranges : List PlacedRange) → AreOrdered earlier ranges → (a b : ℕ) (place : Place)
     → slice_get (places ranges) a ≡ Some place → slice_get (places ranges) b ≡ Some place → a ≡ b
 one_slot earlier [] ordered a b place first second = absurd cc
 one_slot earlier (range ∷ ranges) ordered zero zero place first second = refl
@@ -170,14 +170,14 @@ one_slot earlier (range ∷ ranges) ordered (suc a) zero place first second =
 one_slot earlier (range ∷ ranges) ordered (suc a) (suc b) place first second =
     ap suc (one_slot (earlier ++ range.place ∷ []) ranges ordered.1 a b place first second)
 
-module _ (names : List (List ℕ × Oid)) (fused : List Range) (ordered : AreOrdered [] fused) where
+module _ (names : List (List ℕ × Oid)) (fused : List PlacedRange) (ordered : AreOrdered [] fused) where
   -- a slot's place is that of no name, and starts at no quantifier
   open_slot : (slot : ℕ) (place : Place) → slice_get (places fused) slot ≡ Some place → IsOpen place
   open_slot slot place is =
-      All-contains IsOpen (places fused) place (All-map IsOpen (λ (r : Range). r.place) fused (open_places [] fused ordered))
+      All-contains IsOpen (places fused) place (All-map IsOpen (λ (r : PlacedRange). r.place) fused (open_places [] fused ordered))
       (Contains-from_place (places fused) slot place is)
 
-  one_start : (place : Place) (a b : Start) → StandsFor names fused place a → StandsFor names fused place b → a ≡ b
+  one_start : (place : Place) (a b : Start) → IsStartOfPlace names fused place a → IsStartOfPlace names fused place b → a ≡ b
   one_start place (starts.Named a) (starts.Named b) first second =
       let root = ap (λ (p : Place). p.root) (sym first.1 ∙ second.1) in
       let name : first.0 ≡ second.0 = cc in
@@ -191,7 +191,7 @@ module _ (names : List (List ℕ × Oid)) (fused : List Range) (ordered : AreOrd
   any_of (starts.Named oid) = bound_starts.Named oid
   any_of (starts.Slot slot) = bound_starts.Slot slot
 
-  one_bound_start : (place : Place) (a b : BoundStart) → StandsForAny names fused place a → StandsForAny names fused place b → a ≡ b
+  one_bound_start : (place : Place) (a b : BoundStart) → IsBoundStart names fused place a → IsBoundStart names fused place b → a ≡ b
   one_bound_start place (bound_starts.Named a) (bound_starts.Named b) first second =
       ap any_of (one_start place (starts.Named a) (starts.Named b) first second)
   one_bound_start place (bound_starts.Named a) (bound_starts.Slot b) first second =
@@ -213,7 +213,7 @@ module _ (names : List (List ℕ × Oid)) (fused : List Range) (ordered : AreOrd
       let depth : a ≡ b = cc in
       ap bound_starts.Quantified depth
 
-  one_range : (range : Range) (a b : RangeTree) → IsBoundRange names fused range a → IsBoundRange names fused range b → a ≡ b
+  one_range : (range : PlacedRange) (a b : RangeTree) → IsBoundRange names fused range a → IsBoundRange names fused range b → a ≡ b
   one_range range a b first second =
       let start = one_start range.start a.start b.start first.start second.start in
       let path = first.path ∙ sym second.path in
@@ -227,11 +227,11 @@ module _ (names : List (List ℕ × Oid)) (fused : List Range) (ordered : AreOrd
   one_cell (object place) (shown.PathOf a) b first second = absurd first
   one_cell (word place) (shown.Object a) b first second = absurd first
 
-  one_path : (plain : List Range) (path : Place) (a b : BoundPathTree) → IsBoundPath names plain fused path a
+  one_path : (plain : List PlacedRange) (path : Place) (a b : BoundPathTree) → IsBoundPath names plain fused path a
       → IsBoundPath names plain fused path b → a ≡ b
   one_path plain path a b first second =
       let same = one_fixed plain path first.fixed second.fixed first.rest second.rest first.is_fixed second.is_fixed in
-      let start = one_bound_start second.fixed a.start b.start (subst (λ (p : Place). StandsForAny names fused p a.start) same.0 first.begins)
+      let start = one_bound_start second.fixed a.start b.start (subst (λ (p : Place). IsBoundStart names fused p a.start) same.0 first.begins)
       second.begins in
       let rest = first.goes_on ∙ ap (λ (parts : List PathTree). seq (trees_of parts)) same.1 ∙ sym second.goes_on in
       λ i. record { start = start i; rest = rest i }
@@ -240,17 +240,17 @@ module _ (names : List (List ℕ × Oid)) (fused : List Range) (ordered : AreOrd
 pub has_one_binding : HasOneBinding
 has_one_binding names query bound other first second =
     let plain = has_one_plain query second.plain first.plain second.made first.made in
-    let fuses = subst (λ (rs : List Range). AreFused (IsUsed query rs) rs second.fused) plain second.fuses in
+    let fuses = subst (λ (rs : List PlacedRange). AreFused (IsUsed query rs) rs second.fused) plain second.fuses in
     let fused = has_one_fused query first.plain second.fused first.fused first.made fuses first.fuses in
     let ordered = fused_ordered (IsUsed query first.plain) first.plain first.fused (plain_ordered query first.plain first.made) first.fuses in
     let ranges = one_pairs (IsBoundRange names first.fused) (one_range names first.fused ordered) first.fused bound.ranges other.ranges first.ranges
-    (subst (λ (rs : List Range). AllZip (IsBoundRange names rs) rs other.ranges) fused second.ranges) in
+    (subst (λ (rs : List PlacedRange). AllZip (IsBoundRange names rs) rs other.ranges) fused second.ranges) in
     let cells = one_pairs (IsBoundCell names first.fused) (one_cell names first.fused ordered) (cells_of query) bound.cells other.cells first.cells
-    (subst (λ (rs : List Range). AllZip (IsBoundCell names rs) (cells_of query) other.cells) fused second.cells) in
+    (subst (λ (rs : List PlacedRange). AllZip (IsBoundCell names rs) (cells_of query) other.cells) fused second.cells) in
     let condition = one_option (IsBoundPath names first.plain first.fused) (one_path names first.fused ordered first.plain) (cond_of query) bound.cond
     other.cond first.condition
-    (subst (λ (rs : List Range). CorrespondIf (IsBoundPath names rs first.fused) (cond_of query) other.cond) plain
-    (subst (λ (rs : List Range). CorrespondIf (IsBoundPath names second.plain rs) (cond_of query) other.cond) fused second.condition)) in
+    (subst (λ (rs : List PlacedRange). CorrespondIf (IsBoundPath names rs first.fused) (cond_of query) other.cond) plain
+    (subst (λ (rs : List PlacedRange). CorrespondIf (IsBoundPath names second.plain rs) (cond_of query) other.cond) fused second.condition)) in
     λ i. record { ranges = ranges i; cells = cells i; cond = condition i }
 
 -- ---- a select that is accepted has a binding
@@ -282,16 +282,16 @@ has_some_binding names query accepted =
       | inr absent ↦ accepted.0 (start, nowhere, absent)
     ]
 
-    bound_range : (fused : List Range) (range : Range) → CanStart names fused range.start → (bound : RangeTree) × IsBoundRange names fused range bound
+    bound_range : (fused : List PlacedRange) (range : PlacedRange) → CanStart names fused range.start → (bound : RangeTree) × IsBoundRange names fused range bound
     bound_range fused range can =
         (record { start = can.0; path = seq (trees_of range.parts) }, record { start = can.1; path = refl })
 
-    bound_cell : (fused : List Range) (cell : CellPlace) → CanShow names fused cell → (bound : CellOf) × IsBoundCell names fused cell bound
+    bound_cell : (fused : List PlacedRange) (cell : CellPlace) → CanShow names fused cell → (bound : CellOf) × IsBoundCell names fused cell bound
     bound_cell fused (object place) can = (shown.Object can.0, can.1)
     bound_cell fused (word place) there =
         (shown.PathOf there.0, slice_get-get_or (places fused) there.0 place there.1 ∙ ap (λ (p : Place). Some p) there.2)
 
-    bound_path : (plain fused : List Range) (path : Place) → CanBind names fused plain path
+    bound_path : (plain fused : List PlacedRange) (path : Place) → CanBind names fused plain path
         → (bound : BoundPathTree) × IsBoundPath names plain fused path bound
     bound_path plain fused path can =
         let fixed = some_fixed plain path in

@@ -11,7 +11,7 @@ use Rattle.lorel_trees.specs.Trees.{SelectTree}
 use Rattle.lorel_bind.specs.Types.{Oid, Label, Cell}
 use Rattle.lorel_bind.specs.Types.cells
 use Rattle.lorel_ranges.specs.Places.{Place, CellPlace, object, word, cells_of}
-use Rattle.lorel_ranges.specs.Ranges.{Range, places, ArePlain}
+use Rattle.lorel_ranges.specs.Ranges.{PlacedRange, places, ArePlain}
 use Rattle.lorel_bind.specs.Answers.{IsWordAt, ShowsCell}
 use Rattle.lorel_ranges.specs.Texts.{text_places}
 use Rattle.lorel_ranges.specs.inside.Orders.{IsFound, AreOrdered}
@@ -26,19 +26,19 @@ use Rattle.bind_laws.proofs.RowLaws.{Agree}
 use Rattle.bind_laws.proofs.FusedRowLaws.{AgreeOn}
 
 -- ---- what cells show
-module _ (db : Database) (ranges : List Range) (at : Place → Oid) where
+module _ (db : Database) (ranges : List PlacedRange) (at : Place → Oid) where
   -- the words of a place
   listed_word : (place : Place) → IsListed (IsWordAt db ranges at place)
   listed_word place =
       listed_same
-      (λ labels. (range : Range) × (Contains ranges range × (range.place ≡ place))
+      (λ labels. (range : PlacedRange) × (Contains ranges range × (range.place ≡ place))
       × IsLeast (IsSpelledWalk db.labels db.graph.edges (seq (trees_of range.parts)) (at range.start) (at place)) labels)
       (IsWordAt db ranges at place)
       (λ labels. (
         λ h. record { range = h.0; there = h.1.0; is = h.1.1; least = h.2 },
         λ h. (h.range, (h.there, h.is), h.least),
       ))
-      (listed_over (λ (range : Range). Contains ranges range × (range.place ≡ place))
+      (listed_over (λ (range : PlacedRange). Contains ranges range × (range.place ≡ place))
       (λ range labels. IsLeast (IsSpelledWalk db.labels db.graph.edges (seq (trees_of range.parts)) (at range.start) (at place)) labels)
       (listed_where (Contains ranges) (λ range. range.place ≡ place) (listed_members ranges) (λ range. told_place range.place place))
       (λ range. listed_least db.labels db.graph.edges (seq (trees_of range.parts)) (at range.start) (at place)))
@@ -73,22 +73,22 @@ module _ (db : Database) (ranges : List Range) (at : Place → Oid) where
 
 -- ---- where two valuations agree
 -- a range starts at a name, or at the place of another one
-ordered_start : (earlier : List Place) (ranges : List Range) → AreOrdered earlier ranges → (range : Range) → Contains ranges range
+ordered_start : (earlier : List Place) (ranges : List PlacedRange) → AreOrdered earlier ranges → (range : PlacedRange) → Contains ranges range
     → IsFound (earlier ++ places ranges) range.start
 ordered_start earlier [] ordered range there = absurd (Contains-none range there)
 ordered_start earlier (first ∷ others) ordered range there =
     let all = places (first ∷ others) in
     elim (Contains-cases first others range there) [
-      | inl same ↦ subst (λ (r : Range). IsFound (earlier ++ all) r.start) same
+      | inl same ↦ subst (λ (r : PlacedRange). IsFound (earlier ++ all) r.start) same
           (IsFound-wider earlier (earlier ++ all) first.start (λ place before. Contains-append_left earlier all place before) ordered.0.found)
       | inr later ↦ subst (λ (found : List Place). IsFound found range.start) (append_assoc earlier (first.place ∷ []) (places others))
           (ordered_start (earlier ++ first.place ∷ []) others ordered.1 range later)
     ]
 
-module _ (names : List (List ℕ × Oid)) (query : SelectTree) (plain : List Range) (gathered : ArePlain query plain)
+module _ (names : List (List ℕ × Oid)) (query : SelectTree) (plain : List PlacedRange) (gathered : ArePlain query plain)
     (bound : All (λ place. IsBoundName names place.root) (text_places query)) where
   -- a plain range starts at what is known
-  start_known : (range : Range) → Contains plain range → IsKnown names (places plain) range.start
+  start_known : (range : PlacedRange) → Contains plain range → IsKnown names (places plain) range.start
   start_known range there =
       known_found names (places plain) range.start (ordered_start [] plain (plain_ordered query plain gathered) range there)
       (All-contains (λ r. IsBoundName names r.start.root) plain range (plain_roots (IsBoundName names) query plain gathered bound) there)
@@ -100,5 +100,5 @@ module _ (names : List (List ℕ × Oid)) (query : SelectTree) (plain : List Ran
   cells_agree at other agree (word place) there = λ range found is. (
     found,
     agree range.start (start_known range found),
-    agree place (inr (subst (Contains (places plain)) is (Contains-map (λ (r : Range). r.place) plain range found))),
+    agree place (inr (subst (Contains (places plain)) is (Contains-map (λ (r : PlacedRange). r.place) plain range found))),
   )

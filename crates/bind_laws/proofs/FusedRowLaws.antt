@@ -13,7 +13,7 @@ use Rattle.lorel_bind.specs.Types.{Oid, Label, Cell}
 use Rattle.lorel_bind.specs.Types.cells
 use Rattle.lorel_ranges.specs.Places.{named, Place, at_root, CellPlace, object, word, cells_of}
 use Rattle.lorel_ranges.specs.Conditions.{cond_of}
-use Rattle.lorel_ranges.specs.Ranges.{Range, IsFixed, IsUsed, joined, Fuses, FusesTimes}
+use Rattle.lorel_ranges.specs.Ranges.{PlacedRange, IsFixed, IsUsed, joined_range, Fuses, FusesTimes}
 use Rattle.lorel_bind.specs.Answers.{Leads, IsValuation, HoldsAt, IsWordAt, ShowsCell, IsRowOver}
 use Rattle.bind_laws.specs.Laws.{FusingKeepsRows}
 use Rattle.lorel_ranges.specs.inside.Orders.{AreOrdered}
@@ -28,12 +28,12 @@ use Rattle.bind_laws.proofs.ValuationLaws.{HoldsAt-same, moved, moved_there, mov
 
 -- ---- cells
 -- a cell shows the same of two valuations where they agree on its object, or its range stays with its start
-abbrev pub AgreeOn : List Range → List Range → (Place → Oid) → (Place → Oid) → CellPlace → Type 0
+abbrev pub AgreeOn : List PlacedRange → List PlacedRange → (Place → Oid) → (Place → Oid) → CellPlace → Type 0
 AgreeOn ranges more at other (object place) = at place ≡ other place
-AgreeOn ranges more at other (word place) = (range : Range) → Contains ranges range → range.place ≡ place
+AgreeOn ranges more at other (word place) = (range : PlacedRange) → Contains ranges range → range.place ≡ place
     → Contains more range × (at range.start ≡ other range.start) × (at place ≡ other place)
 
-module _ (db : Database) (ranges more : List Range) (at other : Place → Oid) where
+module _ (db : Database) (ranges more : List PlacedRange) (at other : Place → Oid) where
   IsWordAt-same : (place : Place) (labels : List Label) → AgreeOn ranges more at other (word place)
       → IsWordAt db ranges at place labels → IsWordAt db more other place labels
   IsWordAt-same place labels agree h =
@@ -64,7 +64,7 @@ module _ (db : Database) (ranges more : List Range) (at other : Place → Oid) w
   )
 
 -- a row is the same where the valuation changes at a place that isn't used
-IsRowOver-same : (db : Database) (query : SelectTree) (plain ranges more : List Range) (row : List Cell) (at other : Place → Oid) (gone : Place)
+IsRowOver-same : (db : Database) (query : SelectTree) (plain ranges more : List PlacedRange) (row : List Cell) (at other : Place → Oid) (gone : Place)
     → (IsUsed query plain gone → ⊥) → ((place : Place) → place ≢ gone → at place ≡ other place)
     → All (AgreeOn ranges more at other) (cells_of query)
     → HoldsAt db plain at (cond_of query) → AllZip (ShowsCell db ranges at) (cells_of query) row → IsValuation db more other
@@ -79,34 +79,34 @@ IsRowOver-same db query plain ranges more row at other gone unused agree on_cell
 
 -- ---- ranges of words
 -- the ranges of the words that cells show are plain ones
-abbrev HasPlainWords : SelectTree → List Range → List Range → Type 0
+abbrev HasPlainWords : SelectTree → List PlacedRange → List PlacedRange → Type 0
 HasPlainWords query plain ranges =
-    (range : Range) → Contains (cells_of query) (word range.place) → Contains ranges range → Contains plain range
+    (range : PlacedRange) → Contains (cells_of query) (word range.place) → Contains ranges range → Contains plain range
 
-module _ (query : SelectTree) (plain old new : List Range) (f : Fuses (IsUsed query plain) old new) (words : HasPlainWords query plain old) where
+module _ (query : SelectTree) (plain old new : List PlacedRange) (f : Fuses (IsUsed query plain) old new) (words : HasPlainWords query plain old) where
   -- such a range doesn't go, and doesn't start at the one that goes
-  place_stays : (range : Range) → Contains (cells_of query) (word range.place) → Contains old range → range.place ≢ f.range.place
+  place_stays : (range : PlacedRange) → Contains (cells_of query) (word range.place) → Contains old range → range.place ≢ f.range.place
   place_stays range shown there same =
       f.fusable.unused (subst (IsUsed query plain) same (inr (inl (range, words range shown there, shown, inl refl))))
 
-  start_stays : (range : Range) → Contains (cells_of query) (word range.place) → Contains old range → range.start ≢ f.range.place
+  start_stays : (range : PlacedRange) → Contains (cells_of query) (word range.place) → Contains old range → range.start ≢ f.range.place
   start_stays range shown there same =
       f.fusable.unused (subst (IsUsed query plain) same (inr (inl (range, words range shown there, shown, inr refl))))
 
   -- so it stands where it stood
-  word_stays : (range : Range) → Contains (cells_of query) (word range.place) → Contains old range → Contains new range
+  word_stays : (range : PlacedRange) → Contains (cells_of query) (word range.place) → Contains old range → Contains new range
   word_stays range shown there =
       let rest = f.middle ++ f.other ∷ f.back in
-      let both = joined f.range f.other in
-      subst (λ (rs : List Range). Contains rs range) (sym f.is)
-      (elim (Contains-append_cases f.front (f.range ∷ rest) range (subst (λ (rs : List Range). Contains rs range) f.was there)) [
+      let both = joined_range f.range f.other in
+      subst (λ (rs : List PlacedRange). Contains rs range) (sym f.is)
+      (elim (Contains-append_cases f.front (f.range ∷ rest) range (subst (λ (rs : List PlacedRange). Contains rs range) f.was there)) [
         | inl before ↦ Contains-append_left f.front (f.middle ++ both ∷ f.back) range before
         | inr behind ↦ Contains-append_right f.front (f.middle ++ both ∷ f.back) range (elim (Contains-cases f.range rest range behind) [
-          | inl same ↦ absurd (place_stays range shown there (ap (λ (r : Range). r.place) (sym same)))
+          | inl same ↦ absurd (place_stays range shown there (ap (λ (r : PlacedRange). r.place) (sym same)))
           | inr later ↦ elim (Contains-append_cases f.middle (f.other ∷ f.back) range later) [
             | inl between ↦ Contains-append_left f.middle (both ∷ f.back) range between
             | inr last ↦ Contains-append_right f.middle (both ∷ f.back) range (elim (Contains-cases f.other f.back range last) [
-              | inl same ↦ absurd (start_stays range shown there (ap (λ (r : Range). r.start) (sym same) ∙ f.starts))
+              | inl same ↦ absurd (start_stays range shown there (ap (λ (r : PlacedRange). r.start) (sym same) ∙ f.starts))
               | inr after ↦ Contains-tail both f.back range after
             ])
           ]
@@ -114,19 +114,19 @@ module _ (query : SelectTree) (plain old new : List Range) (f : Fuses (IsUsed qu
       ])
 
   -- and no other comes to be
-  word_stood : (range : Range) → Contains (cells_of query) (word range.place) → Contains new range → Contains old range
+  word_stood : (range : PlacedRange) → Contains (cells_of query) (word range.place) → Contains new range → Contains old range
   word_stood range shown there =
       let rest = f.middle ++ f.other ∷ f.back in
-      let both = joined f.range f.other in
-      let within = λ (r : Range) (later : Contains rest r). subst (λ (rs : List Range). Contains rs r) (sym f.was)
+      let both = joined_range f.range f.other in
+      let within = λ (r : PlacedRange) (later : Contains rest r). subst (λ (rs : List PlacedRange). Contains rs r) (sym f.was)
       (Contains-append_right f.front (f.range ∷ rest) r (Contains-tail f.range rest r later)) in
-      elim (Contains-append_cases f.front (f.middle ++ both ∷ f.back) range (subst (λ (rs : List Range). Contains rs range) f.is there)) [
-        | inl before ↦ subst (λ (rs : List Range). Contains rs range) (sym f.was) (Contains-append_left f.front (f.range ∷ rest) range before)
+      elim (Contains-append_cases f.front (f.middle ++ both ∷ f.back) range (subst (λ (rs : List PlacedRange). Contains rs range) f.is there)) [
+        | inl before ↦ subst (λ (rs : List PlacedRange). Contains rs range) (sym f.was) (Contains-append_left f.front (f.range ∷ rest) range before)
         | inr behind ↦ elim (Contains-append_cases f.middle (both ∷ f.back) range behind) [
           | inl between ↦ within range (Contains-append_left f.middle (f.other ∷ f.back) range between)
           | inr last ↦ elim (Contains-cases both f.back range last) [
             | inl same ↦
-                let other_shown = subst (λ (p : Place). Contains (cells_of query) (word p)) (ap (λ (r : Range). r.place) (sym same)) shown in
+                let other_shown = subst (λ (p : Place). Contains (cells_of query) (word p)) (ap (λ (r : PlacedRange). r.place) (sym same)) shown in
                 absurd (start_stays f.other other_shown (within f.other (Contains-between f.middle f.other f.back)) f.starts)
             | inr after ↦ within range (Contains-append_right f.middle (f.other ∷ f.back) range (Contains-tail f.other f.back range after))
           ]
@@ -159,35 +159,35 @@ module _ (query : SelectTree) (plain old new : List Range) (f : Fuses (IsUsed qu
       )
 
 -- ---- one fusing
-abbrev Meets : Database → (Place → Oid) → Range → Type 0
+abbrev Meets : Database → (Place → Oid) → PlacedRange → Type 0
 Meets db at range = Leads db range.parts (at range.start) (at range.place)
 
-Meets-same : (db : Database) (at other : Place → Oid) (range : Range) → at range.start ≡ other range.start → at range.place ≡ other range.place
+Meets-same : (db : Database) (at other : Place → Oid) (range : PlacedRange) → at range.start ≡ other range.start → at range.place ≡ other range.place
     → Meets db at range → Meets db other range
 Meets-same db at other range start place h =
     subst (λ (oid : Oid). Leads db range.parts (other range.start) oid) place
     (subst (λ (oid : Oid). Leads db range.parts oid (at range.place)) start h)
 
-module _ (db : Database) (query : SelectTree) (plain old new : List Range) (f : Fuses (IsUsed query plain) old new)
+module _ (db : Database) (query : SelectTree) (plain old new : List PlacedRange) (f : Fuses (IsUsed query plain) old new)
     (words : HasPlainWords query plain old) (row : List Cell) where
   row_behind : IsRowOver db query plain old row → IsRowOver db query plain new row
   row_behind h =
-      let all = subst (λ (rs : List Range). All (Meets db h.at) rs) f.was h.valuation.reached in
+      let all = subst (λ (rs : List PlacedRange). All (Meets db h.at) rs) f.was h.valuation.reached in
       let fronts = All-parts (Meets db h.at) f.front (f.range ∷ (f.middle ++ f.other ∷ f.back)) all in
       let first : Meets db h.at f.range = All-head (Meets db h.at) f.range (f.middle ++ f.other ∷ f.back) fronts.1 in
       let behind = All-parts (Meets db h.at) f.middle (f.other ∷ f.back) (All-tail (Meets db h.at) f.range (f.middle ++ f.other ∷ f.back) fronts.1) in
       let second : Meets db h.at f.other = All-head (Meets db h.at) f.other f.back behind.1 in
-      let both : Meets db h.at (joined f.range f.other) =
+      let both : Meets db h.at (joined_range f.range f.other) =
       Reaches-join db.labels db.graph.edges f.range.parts f.other.parts (h.at f.range.start) (h.at f.other.place) (h.at f.range.place) first
       (subst (λ (oid : Oid). Leads db f.other.parts oid (h.at f.other.place)) (ap h.at f.starts) second) in
-      let last = All-cons (Meets db h.at) (joined f.range f.other) f.back both (All-tail (Meets db h.at) f.other f.back behind.1) in
+      let last = All-cons (Meets db h.at) (joined_range f.range f.other) f.back both (All-tail (Meets db h.at) f.other f.back behind.1) in
       record {
         at = h.at;
         valuation = record {
           named = h.valuation.named;
-          reached = subst (λ (rs : List Range). All (Meets db h.at) rs) (sym f.is)
-              (All-append (Meets db h.at) f.front (f.middle ++ joined f.range f.other ∷ f.back) fronts.0
-              (All-append (Meets db h.at) f.middle (joined f.range f.other ∷ f.back) behind.0 last));
+          reached = subst (λ (rs : List PlacedRange). All (Meets db h.at) rs) (sym f.is)
+              (All-append (Meets db h.at) f.front (f.middle ++ joined_range f.range f.other ∷ f.back) fronts.0
+              (All-append (Meets db h.at) f.middle (joined_range f.range f.other ∷ f.back) behind.0 last));
         };
         holds = h.holds;
         shown = cells_same db old new h.at h.at (cells_of query) row
@@ -197,17 +197,17 @@ module _ (db : Database) (query : SelectTree) (plain old new : List Range) (f : 
   row_before : AreOrdered [] old → IsRowOver db query plain new row → IsRowOver db query plain old row
   row_before sorted h =
       let gone = f.range.place in
-      let ordered = subst (λ (rs : List Range). AreOrdered [] rs) f.was sorted in
+      let ordered = subst (λ (rs : List PlacedRange). AreOrdered [] rs) f.was sorted in
       let rest = f.middle ++ f.other ∷ f.back in
       let once = placed_once [] f.front f.range rest ordered in
       let once_behind = All-parts (λ r. r.place ≢ gone) f.middle (f.other ∷ f.back) once.1 in
       let starts = only_joined (IsUsed query plain) old new f in
       let start_front = (All-parts (λ r. r.start ≢ gone) f.front (f.range ∷ f.middle) starts.0).0 in
-      let all = subst (λ (rs : List Range). All (Meets db h.at) rs) f.is h.valuation.reached in
-      let fronts = All-parts (Meets db h.at) f.front (f.middle ++ joined f.range f.other ∷ f.back) all in
-      let behind = All-parts (Meets db h.at) f.middle (joined f.range f.other ∷ f.back) fronts.1 in
+      let all = subst (λ (rs : List PlacedRange). All (Meets db h.at) rs) f.is h.valuation.reached in
+      let fronts = All-parts (Meets db h.at) f.front (f.middle ++ joined_range f.range f.other ∷ f.back) all in
+      let behind = All-parts (Meets db h.at) f.middle (joined_range f.range f.other ∷ f.back) fronts.1 in
       let split = Reaches-split db.labels db.graph.edges f.range.parts f.other.parts (h.at f.range.start) (h.at f.other.place)
-      (All-head (Meets db h.at) (joined f.range f.other) f.back behind.1) in
+      (All-head (Meets db h.at) (joined_range f.range f.other) f.back behind.1) in
       let other = moved h.at gone split.0 in
       let elsewhere = moved_elsewhere h.at gone split.0 in
       let own = own_start [] f.front f.range rest ordered in
@@ -219,7 +219,7 @@ module _ (db : Database) (query : SelectTree) (plain old new : List Range) (f : 
       subst (λ (oid : Oid). Leads db f.other.parts (other f.other.start) oid) (elsewhere f.other.place apart)
       (subst (λ (oid : Oid). Leads db f.other.parts oid (h.at f.other.place)) (sym (moved_there h.at gone split.0 f.other.start f.starts)) split.2) in
       let last = All-cons (Meets db other) f.other f.back second
-      (still other elsewhere f.back (All-tail (Meets db h.at) (joined f.range f.other) f.back behind.1) starts.1
+      (still other elsewhere f.back (All-tail (Meets db h.at) (joined_range f.range f.other) f.back behind.1) starts.1
       (All-tail (λ r. r.place ≢ gone) f.other f.back once_behind.1)) in
       let middle = still other elsewhere f.middle behind.0 (only_middle (IsUsed query plain) old new f) once_behind.0 in
       let reached = All-append (Meets db other) f.front (f.range ∷ rest) (still other elsewhere f.front fronts.0 start_front once.0)
@@ -229,10 +229,10 @@ module _ (db : Database) (query : SelectTree) (plain old new : List Range) (f : 
       h.holds h.shown (record {
         named = λ name oid is. sym (elsewhere (at_root (named name))
             (λ same. (open_at [] f.front f.range rest ordered).unnamed (name, sym same))) ∙ h.valuation.named name oid is;
-        reached = subst (λ (rs : List Range). All (Meets db other) rs) (sym f.was) reached;
+        reached = subst (λ (rs : List PlacedRange). All (Meets db other) rs) (sym f.was) reached;
       })
     where
-      still : (other : Place → Oid) → ((place : Place) → place ≢ f.range.place → h.at place ≡ other place) → (ranges : List Range)
+      still : (other : Place → Oid) → ((place : Place) → place ≢ f.range.place → h.at place ≡ other place) → (ranges : List PlacedRange)
           → All (Meets db h.at) ranges → All (λ r. r.start ≢ f.range.place) ranges → All (λ r. r.place ≢ f.range.place) ranges
           → All (Meets db other) ranges
       still other elsewhere ranges reached starts places k d lt =
@@ -240,11 +240,11 @@ module _ (db : Database) (query : SelectTree) (plain old new : List Range) (f : 
           Meets-same db h.at other range (elsewhere range.start (starts k d lt)) (elsewhere range.place (places k d lt)) (reached k d lt)
 
 -- ---- fusing as often as it goes
-rows_fused : (db : Database) (query : SelectTree) (plain : List Range) (row : List Cell) (times : ℕ) (old new : List Range)
+rows_fused : (db : Database) (query : SelectTree) (plain : List PlacedRange) (row : List Cell) (times : ℕ) (old new : List PlacedRange)
     → FusesTimes (IsUsed query plain) times old new → HasPlainWords query plain old → AreOrdered [] old
     → IsRowOver db query plain old row ↔ IsRowOver db query plain new row
 rows_fused db query plain row zero old new steps words ordered =
-    (subst (λ (rs : List Range). IsRowOver db query plain rs row) steps, subst (λ (rs : List Range). IsRowOver db query plain rs row) (sym steps))
+    (subst (λ (rs : List PlacedRange). IsRowOver db query plain rs row) steps, subst (λ (rs : List PlacedRange). IsRowOver db query plain rs row) (sym steps))
 rows_fused db query plain row (suc times) old new steps words ordered =
     let later = rows_fused db query plain row times steps.0 new steps.2 (words_behind query plain old steps.0 steps.1 words)
     (Fuses-ordered (IsUsed query plain) old steps.0 steps.1 ordered) in (
@@ -255,6 +255,6 @@ rows_fused db query plain row (suc times) old new steps words ordered =
 pub fusing_keeps_rows : FusingKeepsRows
 fusing_keeps_rows db query plain fused gathered are row =
     let same = rows_fused db query plain row are.times plain fused are.steps (λ range shown there. there) (plain_ordered query plain gathered) in (
-      λ h. same.0 (subst (λ (rs : List Range). IsRowOver db query rs rs row) (has_one_plain query h.0 plain h.1 gathered) h.2),
+      λ h. same.0 (subst (λ (rs : List PlacedRange). IsRowOver db query rs rs row) (has_one_plain query h.0 plain h.1 gathered) h.2),
       λ h. (plain, gathered, same.1 h),
     )

@@ -10,9 +10,9 @@ use Rattle.lorel_trees.specs.Trees as t
 use Rattle.lorel_bind.specs.Types.{Oid, Refusal, RANGES, ITEMS, LEAVES}
 use Rattle.lorel_bind.specs.Types.refusals
 use Rattle.lorel_ranges.specs.Places.{Root, named, ranged, quantified, Place, path_variables, word_place}
-use Rattle.lorel_ranges.specs.Ranges.{Range, AreFused, IsUsed}
+use Rattle.lorel_ranges.specs.Ranges.{PlacedRange, AreFused, IsUsed}
 use Rattle.lorel_ranges.specs.Texts.{text_places, ranged_identifiers}
-use Rattle.lorel_bind.specs.Refusals.{StartsNowhere, HasUnknownPathVariable, HasManyRanges, leaves_in, Cause, order, IsFirst, IsClear}
+use Rattle.lorel_bind.specs.Refusals.{StartsNowhere, HasUnknownPathVariable, HasManyRanges, leaves_in, BindCause, bind_order, IsFirst, IsClear}
 use Rattle.bind_laws.specs.Laws.{HasSomeVerdict, HasOneVerdict}
 use Rattle.lore_base.proofs.ToldLaws.{IsTold, told_same, told_not, told_either, told_member, told_bytes, told_below}
 use Rattle.list_laws.proofs.PairLaws.{AllPairs-nil}
@@ -90,12 +90,12 @@ told_many_ranges query =
     told_same (λ many. (plain.0, fused.0, plain.1, fused.1, many))
     (λ h.
     let same = has_one_plain query h.0 plain.0 h.2 plain.1 in
-    let fused_here = subst (λ (ranges : List Range). AreFused (IsUsed query ranges) ranges h.1) same h.3 in
-    subst (λ (ranges : List Range). RANGES < length ranges) (has_one_fused query plain.0 h.1 fused.0 plain.1 fused_here fused.1) h.4)
+    let fused_here = subst (λ (ranges : List PlacedRange). AreFused (IsUsed query ranges) ranges h.1) same h.3 in
+    subst (λ (ranges : List PlacedRange). RANGES < length ranges) (has_one_fused query plain.0 h.1 fused.0 plain.1 fused_here fused.1) h.4)
     (told_below RANGES (length fused.0))
 
 -- ---- all causes
-told_cause : (names : List (List ℕ × Oid)) (query : SelectTree) (refusal : Refusal) → IsTold (Cause names query refusal)
+told_cause : (names : List (List ℕ × Oid)) (query : SelectTree) (refusal : Refusal) → IsTold (BindCause names query refusal)
 told_cause names query refusals.UnknownName =
     told_some (StartsNowhere names query) (λ start. Contains (ranged_identifiers query) start → ⊥) (listed_nowhere names query)
     (λ start. told_not (told_member told_bytes (ranged_identifiers query) start))
@@ -111,10 +111,10 @@ told_cause names query refusals.TooManyRanges =
 told_cause names query _ = inr (λ h. h)
 
 pub has_some_verdict : HasSomeVerdict
-has_some_verdict names query = told_first (Cause names query) (told_cause names query) order
+has_some_verdict names query = told_first (BindCause names query) (told_cause names query) bind_order
 
 pub has_one_verdict : HasOneVerdict
 has_one_verdict names query refusal first = (
-  λ accepted. first_unclear (Cause names query) order refusal first accepted,
-  λ other second. one_first (Cause names query) order refusal other first second,
+  λ accepted. first_unclear (BindCause names query) bind_order refusal first accepted,
+  λ other second. one_first (BindCause names query) bind_order refusal other first second,
 )

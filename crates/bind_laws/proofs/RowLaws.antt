@@ -5,7 +5,7 @@ use Rattle.lore_base.specs.Paths.{PathTree}
 use Rattle.lore_base.proofs.MemberLaws.{Contains-same}
 use Rattle.lorel_bind.specs.Types.{Oid}
 use Rattle.lorel_ranges.specs.Places.{Place}
-use Rattle.lorel_ranges.specs.Ranges.{Range, places}
+use Rattle.lorel_ranges.specs.Ranges.{PlacedRange, places}
 use Rattle.lorel_ranges.specs.inside.Orders.{IsPlaced, AreOrdered}
 use Rattle.lorel_bound.proofs.ListedLaws.{IsListed, listed_same, listed_over}
 use Rattle.bind_laws.proofs.ValuationLaws.{moved, moved_there, moved_elsewhere}
@@ -18,11 +18,11 @@ module _ (names : List (List ℕ × Oid)) where
   Agree earlier at other = (place : Place) → IsKnown names earlier place → at place ≡ other place
 
   -- a range gives an object to a place that isn't known yet
-  unknown : (earlier : List Place) (range : Range) → IsPlaced earlier range → (place : Place) → IsKnown names earlier place → place ≢ range.place
+  unknown : (earlier : List Place) (range : PlacedRange) → IsPlaced earlier range → (place : Place) → IsKnown names earlier place → place ≢ range.place
   unknown earlier range placed place (inl named) same = placed.is_open.unnamed (named.0, sym same ∙ named.2)
   unknown earlier range placed place (inr there) same = placed.is_new (Contains-same earlier place range.place same there)
 
-  module _ (earlier : List Place) (range : Range) (placed : IsPlaced earlier range) (at : Place → Oid) (oid : Oid) (other : Place → Oid) where
+  module _ (earlier : List Place) (range : PlacedRange) (placed : IsPlaced earlier range) (at : Place → Oid) (oid : Oid) (other : Place → Oid) where
     agree_before : Agree (earlier ++ range.place ∷ []) (moved at range.place oid) other → Agree earlier at other
     agree_before agree place (inl named) =
         moved_elsewhere at range.place oid place (unknown earlier range placed place (inl named)) ∙ agree place (inl named)
@@ -45,15 +45,15 @@ module _ (names : List (List ℕ × Oid)) where
 -- ---- what valuations show
 module _ (names : List (List ℕ × Oid)) {Row : Type 0} (Leads : List PathTree → Oid → Oid → Type 0) (Shows : (Place → Oid) → Row → Type 0) where
   -- a range has an object that its path leads to
-  abbrev Meets : (Place → Oid) → Range → Type 0
+  abbrev Meets : (Place → Oid) → PlacedRange → Type 0
   Meets at range = Leads range.parts (at range.start) (at range.place)
 
   -- what a valuation of the ranges shows that agrees with one of the earlier places
-  abbrev pub ShowsBehind : List Place → List Range → (Place → Oid) → Row → Type 0
+  abbrev pub ShowsBehind : List Place → List PlacedRange → (Place → Oid) → Row → Type 0
   ShowsBehind earlier ranges at row = (other : Place → Oid) × Agree names earlier at other × All (Meets other) ranges × Shows other row
 
   -- an object for the first range, and then the others
-  shown_next : (earlier : List Place) (range : Range) (ranges : List Range) → IsPlaced earlier range → IsBoundName names range.start.root
+  shown_next : (earlier : List Place) (range : PlacedRange) (ranges : List PlacedRange) → IsPlaced earlier range → IsBoundName names range.start.root
       → (at : Place → Oid) (row : Row)
       → ((oid : Oid) × Leads range.parts (at range.start) oid × ShowsBehind (earlier ++ range.place ∷ []) ranges (moved at range.place oid) row)
       ↔ ShowsBehind earlier (range ∷ ranges) at row
@@ -75,7 +75,7 @@ module _ (names : List (List ℕ × Oid)) {Row : Type 0} (Leads : List PathTree 
 
   -- what the valuations show is a finite list, where what is shown hangs on known places alone
   pub listed_rows : ((parts : List PathTree) (start : Oid) → IsListed (Leads parts start)) → ((at : Place → Oid) → IsListed (Shows at))
-      → (ranges : List Range) (earlier : List Place)
+      → (ranges : List PlacedRange) (earlier : List Place)
       → ((at other : Place → Oid) → Agree names (earlier ++ places ranges) at other → (row : Row) → Shows other row → Shows at row)
       → AreOrdered earlier ranges → All (λ range. IsBoundName names range.start.root) ranges
       → (at : Place → Oid) → IsListed (ShowsBehind earlier ranges at)

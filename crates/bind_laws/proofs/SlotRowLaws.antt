@@ -23,10 +23,10 @@ use Rattle.lorel_bind.specs.Types.bound_starts
 use Rattle.lorel_ranges.specs.Places.{Root, named, ranged, quantified, Place, at_root, CellPlace, object, word, cells_of}
 use Rattle.lorel_bound.specs.Conditions.{OperandOf, constant, at, CondOf, or, and, not, exists, for_all, compare, same, CondsOf, no_cond, cond as conds}
 use Rattle.lorel_ranges.specs.Conditions.{cond_of}
-use Rattle.lorel_ranges.specs.Ranges.{Range, places, IsUsed}
+use Rattle.lorel_ranges.specs.Ranges.{PlacedRange, places, IsUsed}
 use Rattle.lorel_bind.specs.Answers.{Leads, IsObjectOf, HasObject, IsReachedBy, HasValue, HoldsAt, IsWordAt, ShowsCell, IsRowOver}
 use Rattle.lorel_bound.specs.Bound.{RangeTree, BoundPathTree, BoundTree}
-use Rattle.lorel_bind.specs.Bindings.{StandsFor, StandsForAny, IsBoundRange, IsBoundCell, IsBoundPath, CorrespondOperands, Correspond, CorrespondEach, CorrespondIf, IsBinding}
+use Rattle.lorel_bind.specs.Bindings.{IsStartOfPlace, IsBoundStart, IsBoundRange, IsBoundCell, IsBoundPath, CorrespondOperands, Correspond, CorrespondEach, CorrespondIf, IsBinding}
 use Rattle.lorel_bound.specs.SlotRows.{StartsAt, BoundStartsAt, MeetsBy, HoldsOver, IsSlotWord, ShowsSlot, IsSlotRow}
 use Rattle.bind_laws.specs.Laws.{BindingKeepsRows}
 use Rattle.lorel_ranges.specs.inside.Equality.{same_place}
@@ -65,8 +65,8 @@ module _ {P Q : Type 0} (R S : P → Q → Type 0) (weaker : (p : P) (q : Q) →
 
 -- ---- what stands at a slot
 -- the range that has the place of a slot stands at that slot
-placed_at : (ranges : List Range) (slot : ℕ) (place : Place) → slice_get (places ranges) slot ≡ Some place
-    → (range : Range) × (slice_get ranges slot ≡ Some range) × (range.place ≡ place)
+placed_at : (ranges : List PlacedRange) (slot : ℕ) (place : Place) → slice_get (places ranges) slot ≡ Some place
+    → (range : PlacedRange) × (slice_get ranges slot ≡ Some range) × (range.place ≡ place)
 placed_at [] slot place is = absurd (none-some place is)
 placed_at (range ∷ ranges) zero place is = (range, refl, same_Some range.place place is)
 placed_at (range ∷ ranges) (suc slot) place is = placed_at ranges slot place is
@@ -86,19 +86,19 @@ pairs_alike A B C alike (x ∷ xs) (y ∷ ys) (z ∷ zs) pairs =
     (λ h. (first.0 h.0, others.0 h.1), λ h. (first.1 h.0, others.1 h.1))
 
 -- no two ranges have one place
-one_at_place : (earlier : List Place) (ranges : List Range) → AreOrdered earlier ranges → (a b : Range) → Contains ranges a → Contains ranges b
+one_at_place : (earlier : List Place) (ranges : List PlacedRange) → AreOrdered earlier ranges → (a b : PlacedRange) → Contains ranges a → Contains ranges b
     → a.place ≡ b.place → a ≡ b
 one_at_place earlier [] ordered a b first second alike = absurd (Contains-none a first)
 one_at_place earlier (range ∷ ranges) ordered a b first second alike =
     let apart = other_places earlier range ranges ordered in
-    let later = λ (c : Range) (there : Contains ranges c). All-contains (λ r. r.place ≢ range.place) ranges c apart there in
+    let later = λ (c : PlacedRange) (there : Contains ranges c). All-contains (λ r. r.place ≢ range.place) ranges c apart there in
     elim (Contains-cases range ranges a first) [
       | inl here ↦ elim (Contains-cases range ranges b second) [
         | inl there ↦ sym here ∙ there
-        | inr behind ↦ absurd (later b behind (sym alike ∙ ap (λ (r : Range). r.place) (sym here)))
+        | inr behind ↦ absurd (later b behind (sym alike ∙ ap (λ (r : PlacedRange). r.place) (sym here)))
       ]
       | inr behind ↦ elim (Contains-cases range ranges b second) [
-        | inl there ↦ absurd (later a behind (alike ∙ ap (λ (r : Range). r.place) (sym there)))
+        | inl there ↦ absurd (later a behind (alike ∙ ap (λ (r : PlacedRange). r.place) (sym there)))
         | inr further ↦ one_at_place (earlier ++ range.place ∷ []) ranges ordered.1 a b behind further alike
       ]
     ]
@@ -113,18 +113,18 @@ walk_same db path other start first oid last labels paths starts ends least =
     (subst (λ (p : PathTree). IsLeast (IsSpelledWalk db.labels db.graph.edges p start oid) labels) paths least))
 
 -- ---- slots that hold the objects of a valuation
-module _ (db : Database) (fused : List Range) (valued : Place → Oid) (slots : List Oid)
+module _ (db : Database) (fused : List PlacedRange) (valued : Place → Oid) (slots : List Oid)
     (named_objects : (name : List ℕ) (oid : Oid) → object_of db.graph.names name ≡ Some oid → valued (at_root (named name)) ≡ oid)
     (held : slots ≡ map valued (places fused)) where
   slot_object : (slot : ℕ) (place : Place) → slice_get (places fused) slot ≡ Some place → slice_get slots slot ≡ Some (valued place)
   slot_object slot place is =
       ap (λ (os : List Oid). slice_get os slot) held ∙ slice_get-map valued (places fused) slot ∙ ap (option_map valued) is
 
-  starts_at : (place : Place) (start : Start) → StandsFor db.graph.names fused place start → StartsAt slots start (valued place)
+  starts_at : (place : Place) (start : Start) → IsStartOfPlace db.graph.names fused place start → StartsAt slots start (valued place)
   starts_at place (starts.Named own) stands = sym (ap valued stands.1 ∙ named_objects stands.0 own stands.2)
   starts_at place (starts.Slot slot) stands = slot_object slot place stands
 
-  started_at : (place : Place) (start : Start) (oid : Oid) → StandsFor db.graph.names fused place start → StartsAt slots start oid → oid ≡ valued place
+  started_at : (place : Place) (start : Start) (oid : Oid) → IsStartOfPlace db.graph.names fused place start → StartsAt slots start oid → oid ≡ valued place
   started_at place (starts.Named own) oid stands begins = sym begins ∙ starts_at place (starts.Named own) stands
   started_at place (starts.Slot slot) oid stands begins = same_Some oid (valued place) (sym begins ∙ slot_object slot place stands)
 
@@ -132,10 +132,10 @@ module _ (db : Database) (fused : List Range) (valued : Place → Oid) (slots : 
   abbrev Holding : RangeTree → Oid → Type 0
   Holding range oid = (start : Oid) × StartsAt slots range.start start × Reaches db.labels db.graph.edges range.path start oid
 
-  abbrev Meets : Range → Type 0
+  abbrev Meets : PlacedRange → Type 0
   Meets range = Leads db range.parts (valued range.start) (valued range.place)
 
-  filled_from : (ranges : List Range) (bound : List RangeTree) → AllZip (IsBoundRange db.graph.names fused) ranges bound → All Meets ranges
+  filled_from : (ranges : List PlacedRange) (bound : List RangeTree) → AllZip (IsBoundRange db.graph.names fused) ranges bound → All Meets ranges
       → AllZip Holding bound (map valued (places ranges))
   filled_from [] [] stands meets = tt
   filled_from [] (b ∷ bound) stands meets = absurd stands
@@ -150,7 +150,7 @@ module _ (db : Database) (fused : List Range) (valued : Place → Oid) (slots : 
     filled_from ranges bound stands.1 (All-tail Meets range ranges meets),
   )
 
-  meets_from : (ranges : List Range) (bound : List RangeTree) → AllZip (IsBoundRange db.graph.names fused) ranges bound
+  meets_from : (ranges : List PlacedRange) (bound : List RangeTree) → AllZip (IsBoundRange db.graph.names fused) ranges bound
       → AllZip Holding bound (map valued (places ranges)) → All Meets ranges
   meets_from [] [] stands filled = All-nil Meets
   meets_from [] (b ∷ bound) stands filled = absurd stands
@@ -170,12 +170,12 @@ module _ (db : Database) (fused : List Range) (valued : Place → Oid) (slots : 
       let own = placed_at fused slot place is in
       let same : own.0 ≡ h.range = one_at_place [] fused ordered own.0 h.range (Contains-from_place fused slot own.0 own.1) h.there (own.2 ∙ sym h.is) in
       let pair = AllZip-place (IsBoundRange db.graph.names fused) fused bound slot own.0 stands own.1 in
-      let path : pair.0.path ≡ seq (trees_of h.range.parts) = pair.2.path ∙ ap (λ (r : Range). seq (trees_of r.parts)) same in
+      let path : pair.0.path ≡ seq (trees_of h.range.parts) = pair.2.path ∙ ap (λ (r : PlacedRange). seq (trees_of r.parts)) same in
       record {
         range = pair.0;
         there = pair.1;
         start = valued h.range.start;
-        begins = subst (λ (r : Range). StartsAt slots pair.0.start (valued r.start)) same (starts_at own.0.start pair.0.start pair.2.start);
+        begins = subst (λ (r : PlacedRange). StartsAt slots pair.0.start (valued r.start)) same (starts_at own.0.start pair.0.start pair.2.start);
         oid = valued place;
         ends = slot_object slot place is;
         least = subst (λ (p : PathTree). IsLeast (IsSpelledWalk db.labels db.graph.edges p (valued h.range.start) (valued place)) labels)
@@ -222,7 +222,7 @@ module _ (db : Database) (fused : List Range) (valued : Place → Oid) (slots : 
   open_object objects (quantified depth) place oid unquantified = absurd (unquantified depth refl)
 
   any_starts_at : ((place : Place) → Contains (places fused) place → IsOpen place) → (objects : List Oid) (place : Place) (start : BoundStart) (oid : Oid)
-      → StandsForAny db.graph.names fused place start → HasObject valued objects place oid ↔ BoundStartsAt slots objects start oid
+      → IsBoundStart db.graph.names fused place start → HasObject valued objects place oid ↔ BoundStartsAt slots objects start oid
   any_starts_at opens objects place (bound_starts.Named own) oid stands =
       let object = starts_at place (starts.Named own) (stands.0, stands.1, stands.2) in
       let same = open_object objects place.root (valued place) oid (λ depth is. (let root = ap (λ (p : Place). p.root) stands.1 in cc)) in
@@ -234,7 +234,7 @@ module _ (db : Database) (fused : List Range) (valued : Place → Oid) (slots : 
   any_starts_at opens objects place (bound_starts.Quantified depth) oid stands =
       (subst (λ (p : Place). HasObject valued objects p oid) stands, subst (λ (p : Place). HasObject valued objects p oid) (sym stands))
 
-  paths_alike : (plain : List Range) → ((place : Place) → Contains (places fused) place → IsOpen place) → (path : Place) (bound : BoundPathTree)
+  paths_alike : (plain : List PlacedRange) → ((place : Place) → Contains (places fused) place → IsOpen place) → (path : Place) (bound : BoundPathTree)
       → IsBoundPath db.graph.names plain fused path bound
       → ReachAlike (IsReachedBy db plain valued) (MeetsBy db.labels db.graph.edges slots) path bound
   paths_alike plain opens path bound is objects oid = (
@@ -256,7 +256,7 @@ module _ (db : Database) (fused : List Range) (valued : Place → Oid) (slots : 
     },
   )
 
-  holds_alike : (plain : List Range) → ((place : Place) → Contains (places fused) place → IsOpen place)
+  holds_alike : (plain : List PlacedRange) → ((place : Place) → Contains (places fused) place → IsOpen place)
       → (text : Option (CondOf Place)) (bound : Option (CondOf BoundPathTree)) → CorrespondIf (IsBoundPath db.graph.names plain fused) text bound
       → HoldsAt db plain valued text ↔ HoldsOver db.labels db.graph.edges db.graph.objects slots bound
   holds_alike plain opens None None like = (λ h. h, λ h. h)
@@ -299,7 +299,7 @@ unfolding value_at
 value_open names all slots place is_open = object_open names all slots place.root place.parts is_open
 
 -- each slot's place has its object, where no place stands twice
-slots_read : (earlier : List Place) (ranges : List Range) (slots : List Oid) → AreOrdered earlier ranges → length slots ≡ length ranges
+slots_read : (earlier : List Place) (ranges : List PlacedRange) (slots : List Oid) → AreOrdered earlier ranges → length slots ≡ length ranges
     → map (slot_of (places ranges) slots) (places ranges) ≡ slots
 unfolding slot_of
 slots_read earlier [] [] ordered long = refl
@@ -310,7 +310,7 @@ slots_read earlier (range ∷ ranges) (oid ∷ slots) ordered long =
     cond-true (same_place range.place range.place) oid (slot_of (places ranges) slots range.place) ((same_place-Decides range.place range.place).1 refl) in
     let behind : map (slot_of (range.place ∷ places ranges) (oid ∷ slots)) (places ranges) ≡ map (slot_of (places ranges) slots) (places ranges) =
     map-same (slot_of (range.place ∷ places ranges) (oid ∷ slots)) (slot_of (places ranges) slots) (places ranges)
-    (All-map (λ place. slot_of (range.place ∷ places ranges) (oid ∷ slots) place ≡ slot_of (places ranges) slots place) (λ (r : Range). r.place) ranges
+    (All-map (λ place. slot_of (range.place ∷ places ranges) (oid ∷ slots) place ≡ slot_of (places ranges) slots place) (λ (r : PlacedRange). r.place) ranges
     (All-weaker (λ r. r.place ≢ range.place) (λ r. slot_of (range.place ∷ places ranges) (oid ∷ slots) r.place ≡ slot_of (places ranges) slots r.place)
     (λ r apart. cond-false (same_place r.place range.place) oid (slot_of (places ranges) slots r.place)
     (false_from_ne_true (same_place r.place range.place) (λ same. apart ((same_place-Decides r.place range.place).0 same))))
@@ -318,11 +318,11 @@ slots_read earlier (range ∷ ranges) (oid ∷ slots) ordered long =
     let others = slots_read (earlier ++ range.place ∷ []) ranges slots ordered.1 (omega arith) in
     cc
 
-values_read : (names : List (List ℕ × Oid)) (ranges : List Range) (slots : List Oid) → AreOrdered [] ranges → length slots ≡ length ranges
+values_read : (names : List (List ℕ × Oid)) (ranges : List PlacedRange) (slots : List Oid) → AreOrdered [] ranges → length slots ≡ length ranges
     → slots ≡ map (value_at names (places ranges) slots) (places ranges)
 values_read names ranges slots ordered long =
     sym (map-same (value_at names (places ranges) slots) (slot_of (places ranges) slots) (places ranges)
-    (All-map (λ place. value_at names (places ranges) slots place ≡ slot_of (places ranges) slots place) (λ (r : Range). r.place) ranges
+    (All-map (λ place. value_at names (places ranges) slots place ≡ slot_of (places ranges) slots place) (λ (r : PlacedRange). r.place) ranges
     (All-weaker (λ r. IsOpen r.place) (λ r. value_at names (places ranges) slots r.place ≡ slot_of (places ranges) slots r.place)
     (λ r is_open. value_open names (places ranges) slots r.place is_open) ranges (open_places [] ranges ordered)))
     ∙ slots_read [] ranges slots ordered long)
@@ -334,7 +334,7 @@ module _ (db : Database) (query : SelectTree) (bound : BoundTree) (b : IsBinding
 
   all_open : (place : Place) → Contains (places b.fused) place → IsOpen place
   all_open place there =
-      All-contains IsOpen (places b.fused) place (All-map IsOpen (λ (r : Range). r.place) b.fused (open_places [] b.fused in_order)) there
+      All-contains IsOpen (places b.fused) place (All-map IsOpen (λ (r : PlacedRange). r.place) b.fused (open_places [] b.fused in_order)) there
 
   -- the row shows cells of the text where it shows those of the slots
   cells_shown : (valued : Place → Oid) (slots : List Oid)

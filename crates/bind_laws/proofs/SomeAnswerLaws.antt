@@ -10,7 +10,7 @@ use Rattle.lorel_bind.specs.Types.{Oid, Value, Cell}
 use Rattle.lorel_ranges.specs.Places.{Root, named, ranged, quantified, Place, at_root, cells_of}
 use Rattle.lorel_bound.specs.Conditions.{CondOf}
 use Rattle.lorel_ranges.specs.Conditions.{cond_of}
-use Rattle.lorel_ranges.specs.Ranges.{Range, places, ArePlain, IsFixed}
+use Rattle.lorel_ranges.specs.Ranges.{PlacedRange, places, ArePlain, IsFixed}
 use Rattle.lorel_bind.specs.Answers.{Leads, IsObjectOf, HasObject, IsReachedBy, HasValue, HoldsAt, ShowsCell, IsRowOver, IsRow}
 use Rattle.lorel_bound.specs.CellOrder.{row_cmp, rows_total, tied_rows}
 use Rattle.lorel_bind.specs.Refusals.{StartsNowhere}
@@ -51,7 +51,7 @@ listed_objects valued objects (named name) = listed_one valued
 listed_objects valued objects (ranged variable) = listed_one valued
 listed_objects valued objects (quantified depth) = listed_option (slice_get objects depth)
 
-module _ (db : Database) (ranges : List Range) (at : Place → Oid) where
+module _ (db : Database) (ranges : List PlacedRange) (at : Place → Oid) where
   listed_led : (parts : List PathTree) (start : Oid) → IsListed (Leads db parts start)
   listed_led parts start = listed_reached db.labels db.graph.edges (seq (trees_of parts)) start
 
@@ -73,7 +73,7 @@ module _ (db : Database) (ranges : List Range) (at : Place → Oid) where
   told_held (Some condition) = told_holds (IsReachedBy db ranges at) (HasValue db) listed_met (listed_values db) condition []
 
 -- where a path of the condition is fixed, valuations that agree on what is known give the same object
-fixed_agree : (db : Database) (plain : List Range) (at other : Place → Oid) → Agree db.graph.names (places plain) at other
+fixed_agree : (db : Database) (plain : List PlacedRange) (at other : Place → Oid) → Agree db.graph.names (places plain) at other
     → (path fixed : Place) (rest : List PathTree) → IsFixed plain path fixed rest
     → ((depth : ℕ) × (path.root ≡ quantified depth)) ⊎ IsKnown db.graph.names (places plain) (at_root path.root) → AgreeAt at other fixed
 fixed_agree db plain at other agree path fixed rest is_fixed known = elim is_fixed.stands [
@@ -93,7 +93,7 @@ name_object : List (List ℕ × Oid) → Root → Oid
 name_object names (named name) = unwrap_or (object_of names name) nobody
 name_object names root = nobody
 
-module _ (db : Database) (query : SelectTree) (plain : List Range) where
+module _ (db : Database) (query : SelectTree) (plain : List PlacedRange) where
   -- a valuation that holds shows this row
   abbrev Shows : (Place → Oid) → List Cell → Type 0
   Shows at row = HoldsAt db plain at (cond_of query) × AllZip (ShowsCell db plain at) (cells_of query) row
@@ -153,7 +153,7 @@ listed_answer db query somewhere =
     listed_same (IsRowOver db query plain.0 plain.0) (IsRow db query)
     (λ row. (
       λ h. (plain.0, plain.1, h),
-      λ h. subst (λ (ranges : List Range). IsRowOver db query ranges ranges row) (has_one_plain query h.0 plain.0 h.1 plain.1) h.2,
+      λ h. subst (λ (ranges : List PlacedRange). IsRowOver db query ranges ranges row) (has_one_plain query h.0 plain.0 h.1 plain.1) h.2,
     ))
     (listed_over_plain db query plain.0 plain.1 somewhere)
 

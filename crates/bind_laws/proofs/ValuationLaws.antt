@@ -8,7 +8,7 @@ use Rattle.lore_base.specs.Comparisons.{Compares}
 use Rattle.lorel_bind.specs.Types.{Oid}
 use Rattle.lorel_ranges.specs.Places.{Root, named, ranged, quantified, Place}
 use Rattle.lorel_bound.specs.Conditions.{CondOf, paths_in}
-use Rattle.lorel_ranges.specs.Ranges.{Range, IsFixed}
+use Rattle.lorel_ranges.specs.Ranges.{PlacedRange, IsFixed}
 use Rattle.lorel_bind.specs.Answers.{IsObjectOf, IsReachedBy, HasValue, HoldsAt}
 use Rattle.lorel_ranges.specs.inside.Equality.{same_place}
 use Rattle.lorel_ranges.proofs.PlaceLaws.{same_place-Decides}
@@ -31,7 +31,7 @@ IsObjectOf-same valued other objects (named name) oid (inr same) is = sym same �
 IsObjectOf-same valued other objects (ranged variable) oid (inl h) is = let same : ranged variable ≡ quantified h.0 = h.1 in cc
 IsObjectOf-same valued other objects (ranged variable) oid (inr same) is = sym same ∙ is
 
-IsReachedBy-same : (db : Database) (plain : List Range) (at other : Place → Oid) (objects : List Oid) (path : Place) (oid : Oid)
+IsReachedBy-same : (db : Database) (plain : List PlacedRange) (at other : Place → Oid) (objects : List Oid) (path : Place) (oid : Oid)
     → ((fixed : Place) (rest : List PathTree) → IsFixed plain path fixed rest → AgreeAt at other fixed)
     → IsReachedBy db plain at objects path oid → IsReachedBy db plain other objects path oid
 IsReachedBy-same db plain at other objects path oid agree h = record {
@@ -44,7 +44,7 @@ IsReachedBy-same db plain at other objects path oid agree h = record {
 }
 
 -- a condition holds of both where they agree at each place that a path of it is fixed at
-pub HoldsAt-same : (db : Database) (plain : List Range) (at other : Place → Oid) (condition : Option (CondOf Place))
+pub HoldsAt-same : (db : Database) (plain : List PlacedRange) (at other : Place → Oid) (condition : Option (CondOf Place))
     → ((path fixed : Place) (rest : List PathTree) → Contains (paths_in condition) path → IsFixed plain path fixed rest → AgreeAt at other fixed)
     → HoldsAt db plain at condition → HoldsAt db plain other condition
 HoldsAt-same db plain at other None agree holds = holds

@@ -4,16 +4,16 @@ use Rattle.std.specs.Prelude.{◌≡◌, ◌⊎◌, ◌↔◌, ℕ, List}
 use Rattle.lorel_bind.specs.Types.{Oid, Refusal, Cell}
 use Rattle.lore_base.specs.Databases.{Database}
 use Rattle.lorel_trees.specs.Trees.{SelectTree}
-use Rattle.lorel_ranges.specs.Ranges.{Range, ArePlain, AreFused, IsUsed}
+use Rattle.lorel_ranges.specs.Ranges.{PlacedRange, ArePlain, AreFused, IsUsed}
 use Rattle.lorel_bind.specs.Answers.{IsRow, IsRowOver, IsAnswer}
-use Rattle.lorel_bind.specs.Refusals.{StartsNowhere, Cause, order, IsFirst, IsAccepted}
+use Rattle.lorel_bind.specs.Refusals.{StartsNowhere, BindCause, bind_order, IsFirst, IsAccepted}
 use Rattle.lorel_bound.specs.Bound.{BoundTree}
 use Rattle.lorel_bind.specs.Bindings.{IsBinding}
 use Rattle.lorel_bound.specs.SlotRows.{IsSlotRow}
 
 -- the valuations of the fused ranges that hold give the rows of the select
 abbrev pub FusingKeepsRows : Type 0
-FusingKeepsRows = (db : Database) (query : SelectTree) (plain fused : List Range) → ArePlain query plain
+FusingKeepsRows = (db : Database) (query : SelectTree) (plain fused : List PlacedRange) → ArePlain query plain
     → AreFused (IsUsed query plain) plain fused
     → (row : List Cell) → IsRow db query row ↔ IsRowOver db query plain fused row
 
@@ -46,10 +46,10 @@ HasSomeAnswer = (db : Database) (query : SelectTree)
 -- each select is accepted, or has a first cause of refusal
 abbrev pub HasSomeVerdict : Type 0
 HasSomeVerdict = (names : List (List ℕ × Oid)) (query : SelectTree)
-    → IsAccepted names query ⊎ ((refusal : Refusal) × IsFirst (Cause names query) order refusal)
+    → IsAccepted names query ⊎ ((refusal : Refusal) × IsFirst (BindCause names query) bind_order refusal)
 
 -- and not both, nor two of these
 abbrev pub HasOneVerdict : Type 0
 HasOneVerdict = (names : List (List ℕ × Oid)) (query : SelectTree) (refusal : Refusal)
-    → IsFirst (Cause names query) order refusal
-    → (IsAccepted names query → ⊥) × ((other : Refusal) → IsFirst (Cause names query) order other → refusal ≡ other)
+    → IsFirst (BindCause names query) bind_order refusal
+    → (IsAccepted names query → ⊥) × ((other : Refusal) → IsFirst (BindCause names query) bind_order other → refusal ≡ other)

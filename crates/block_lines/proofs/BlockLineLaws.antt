@@ -3,11 +3,11 @@ use Rattle.std.proofs.Common.{ℕ, List, [], ◌∷◌, ◌++◌, length, map, r
 use Rattle.one_index.specs.declared.blocks.Block.{Block}
 use Rattle.one_index.proofs.OneBlocks.{one_list}
 use Rattle.one_index.proofs.SomeBlocks.{blocks_exist}
-use Rattle.block_lines.specs.BlockLines.{block_line, count_line}
+use Rattle.block_lines.specs.BlockLines.{block_line, block_count_line}
 use Rattle.block_lines.specs.LineLaws.{HasOneListOfLines, LinesExist}
 
 abbrev all_lines : List Block → List (List ℕ)
-all_lines blocks = map block_line blocks ++ count_line (length blocks) ∷ []
+all_lines blocks = map block_line blocks ++ block_count_line (length blocks) ∷ []
 
 pub one_list_of_lines : HasOneListOfLines
 one_list_of_lines graph lines others first second =

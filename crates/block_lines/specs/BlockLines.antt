@@ -14,11 +14,11 @@ abbrev pub block_line : Block → List ℕ
 block_line block =
     codes "block &" ++ decimal (first_in block.members).0 ++ codes " " ++ decimal (length block.members)
 
-abbrev pub count_line : ℕ → List ℕ
-count_line count = codes "blocks " ++ decimal count
+abbrev pub block_count_line : ℕ → List ℕ
+block_count_line count = codes "blocks " ++ decimal count
 
 -- a line for each block of the graph, in the order of their numbers, and then their number
 pub record AreBlockLines (graph : NamedGraph) (lines : List (List ℕ)) : Type 0 where
   pub blocks : List Block
   pub of_graph : AreBlocksOf graph blocks
-  pub are : lines ≡ map block_line blocks ++ count_line (length blocks) ∷ []
+  pub are : lines ≡ map block_line blocks ++ block_count_line (length blocks) ∷ []

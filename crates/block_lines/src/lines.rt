@@ -1,7 +1,8 @@
 ghost use Rattle.std.specs.Prelude.{◌≡◌, ◌<◌, length, map, Some, slice_get, IfOk};
 ghost use Rattle.one_index.specs.Blocks.{NamedGraph, AreBlocksOf};
 ghost use Rattle.one_index.specs.declared.blocks.Block.{Block as TheBlock};
-ghost use Rattle.block_lines.specs.BlockLines.{AreBlockLines, block_line, count_line, first_in};
+ghost use Rattle.block_lines.specs.BlockLines.{AreBlockLines, first_in};
+ghost use Rattle.block_lines.specs.BlockLines.{block_line, block_count_line};
 
 use itoa::Buffer;
 use lore_base::{NoMemory, OemText, Oid, TextList};
@@ -66,7 +67,7 @@ fn first_of(oids: &[Oid]) -> Oid
 
 // The line with the number of blocks.
 fn last_line(alloc: Global, count: u32) -> Result<OemText, NoMemory>
-    ensures { IfOk result (λ line. line ≡ count_line count) }
+    ensures { IfOk result (λ line. line ≡ block_count_line count) }
 {
     let mut line = Vec::from_slice(alloc, b"blocks ")?;
     line.extend_from_slice(Buffer::new().format(count).as_bytes())?;

@@ -7,7 +7,7 @@ ghost use Rattle.lore_base.specs.Walks.{edge_cmp};
 ghost use Rattle.lore_base.specs.Printed.{label_text};
 ghost use Rattle.lore_base.specs.Deltas.{IsDelta};
 ghost use Rattle.dump_text.specs.Dumps.{line_of, oid_text, name_line, object_line, edge_line};
-ghost use Rattle.dump_text.specs.Dumps.{spelled_edge, text_of};
+ghost use Rattle.dump_text.specs.Dumps.{spelled_edge, table_text};
 ghost use Rattle.doem_history.specs.Facts.{name_order, object_order};
 ghost use Rattle.doem_history.specs.inside.FactLaws.{name_total, object_total, edge_total};
 ghost use Rattle.doem_history.specs.Moments.{Moment, graph_of};
@@ -163,7 +163,7 @@ fn put_oid(oid: Oid, out: &mut OemText) -> Result<(), NoMemory>
 
 // Puts a label; one that isn't in the table has the empty text.
 fn put_label(label: Label, labels: &LabelTable, out: &mut OemText) -> Result<(), NoMemory>
-    ensures { OnOk result (out.new ≡ out.old ++ label_text (text_of labels.now label)) }
+    ensures { OnOk result (out.new ≡ out.old ++ label_text (table_text labels.now label)) }
 {
     match labels.text(label) {
         Some(text) => print_label(text.as_bytes(), out),

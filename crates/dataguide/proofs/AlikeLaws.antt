@@ -6,7 +6,7 @@ use Rattle.dataguide.specs.Types.{Oid, Label, Edge, Node, GuideNode}
 use Rattle.lore_base.specs.TargetSets.{IsStep}
 use Rattle.dataguide.specs.Guides.{GuideGraph, StandsFor, HasEdge}
 use Rattle.set_explorer.specs.Nodes.{sets_of, HasSet, HasItsSteps, IsEntry}
-use Rattle.dataguide.specs.GuideLaws.{GoesOn, BeginsAt, HasAlikeGuides}
+use Rattle.dataguide.specs.GuideLaws.{HasSetEdge, BeginsAt, HasAlikeGuides}
 use Rattle.set_steps.proofs.PlaceLaws.{at-map, at-unmap, zip-left, zip-right}
 
 module _ (names : List (List ℕ × Oid)) (edges : List Edge) (guide other : GuideGraph)
@@ -39,8 +39,8 @@ module _ (names : List (List ℕ × Oid)) (edges : List Edge) (guide other : Gui
       subst (λ (s : List Oid). IsStep edges s label next) set_is
       (subst (λ (s : List Oid). IsStep edges edge.0.set label s) next_is step.2)
 
-  goes-within : (set : List Oid) (label : Label) (next : List Oid) → GoesOn guide set label next
-      → GoesOn other set label next
+  goes-within : (set : List Oid) (label : Label) (next : List Oid) → HasSetEdge guide set label next
+      → HasSetEdge other set label next
   goes-within set label next goes =
       let step = is-step goes.0 goes.1 set label next goes.2 goes.3 goes.4 in
       let node = node-there goes.0 set goes.2 in

@@ -1,14 +1,13 @@
 -- A guide before a change: the guide without nodes, what a change makes dirty, and that all is read from there.
-use Rattle.std.proofs.Common.{◌≡◌, ◌↔◌, ℕ, ◌+◌, inl, inr, List, [], ◌∷◌, AllPairs, Contains, refl, ap, ◌∙◌, arith}
+use Rattle.std.proofs.Common.{◌≡◌, ◌↔◌, ℕ, ◌+◌, inl, inr, List, [], ◌∷◌, AllPairs, Contains, refl, ap, ◌∙◌, subst, arith}
 use Rattle.std.specs.List.{sum_by, AllZip}
 use Rattle.std.proofs.lemmas.List.Elements.{All-weaker}
 use Rattle.lore_base.specs.Databases.{AreAscendingEdges}
 use Rattle.lore_base.specs.Deltas.{IsOnlyIn}
 use Rattle.lore_base.specs.TargetSets.{ListsInOrder}
 use Rattle.lore_base.proofs.MemberLaws.{Contains-none}
-use Rattle.lore_base.proofs.ToldLaws.{told_member, told_edge}
 use Rattle.list_laws.proofs.SumLaws.{sum_by-within}
-use Rattle.list_laws.proofs.MemberLaws.{All-from_members, Contains-map}
+use Rattle.list_laws.proofs.MemberLaws.{All-from_members}
 use Rattle.dataguide.specs.Types.{Oid, Edge, Node, GuideNode}
 use Rattle.dataguide.specs.ReadCosts.{ReadsAtMost}
 use Rattle.set_steps.specs.SetSteps.{reads_of}
@@ -16,7 +15,7 @@ use Rattle.set_steps.proofs.PlaceLaws.{AllZip-weaker}
 use Rattle.dataguide.specs.Guides.{GuideGraph, StandsFor}
 use Rattle.set_explorer.specs.Touched.{IsTouched, IsExtended, IsRead, ReadsTouched, ReadsSome, parents_of}
 use Rattle.dataguide.specs.Deltas.{StoodFor}
-use Rattle.set_explorer.specs.Changes.{IsChange}
+use Rattle.set_explorer.specs.Changes.{IsToldChange, TellsEntering}
 
 -- the guide of no name
 pub nothing-stands : (nodes : List GuideNode) (entries : List (List ℕ × Node)) (edges : List Edge) → nodes ≡ []
@@ -48,22 +47,34 @@ stood-new guide edges nodes entries = record {
     none-only : (edge : Edge) → Contains [] edge ↔ IsOnlyIn edges edges edge
     none-only edge = (λ there. absurd (Contains-none edge there), λ only. absurd (only.1 only.0))
 
--- a change, told by the lost and the fresh edges, with the objects that they leave
-pub stood-change : (guide : GuideGraph) (lost fresh after : List Edge) (dirty grown : List Oid)
-    → StoodFor guide lost fresh after → AreAscendingEdges fresh → ListsInOrder (Contains (parents_of lost)) dirty
-    → ListsInOrder (Contains (parents_of fresh)) grown → IsChange guide.nodes dirty grown fresh after
-stood-change guide lost fresh after dirty grown stood ascend dirty_are grown_are = record {
-  names = stood.names;
-  before = stood.before;
-  stands = record { nodes = stood.stands.nodes; steps = stood.stands.steps };
-  stay = λ edge was clean. (elim (told_member told_edge after edge) [
-    | inl there ↦ there
-    | inr gone ↦ absurd (clean ((dirty_are.exact edge.parent).1
-        (Contains-map (λ (e : Edge). e.parent) lost edge ((stood.differ.lost_are edge).1 (was, gone)))))
-  ]);
-  come = stood.differ.fresh_are;
-  ascend = ascend;
-  grown_are = grown_are.exact;
+-- a change, told by the lost and the fresh edges and by what enters some objects, with the objects that they leave
+pub told-change : (guide : GuideGraph) (lost fresh after : List Edge) (told : List Oid) (entering : List Edge)
+    (dirty grown back : List Oid) → StoodFor guide lost fresh after → AreAscendingEdges lost → AreAscendingEdges fresh
+    → TellsEntering after told entering → ListsInOrder (Contains (parents_of lost)) dirty
+    → ListsInOrder (Contains (parents_of fresh)) grown → ListsInOrder (Contains (parents_of entering)) back
+    → IsToldChange guide.nodes lost fresh after told entering dirty grown back
+told-change guide lost fresh after told entering dirty grown back stood lost_ascend ascend tells dirty_are grown_are back_are =
+    record {
+      names = stood.names;
+      before = stood.before;
+      stands = record { nodes = stood.stands.nodes; steps = stood.stands.steps };
+      differ = stood.differ;
+      lost_ascend = lost_ascend;
+      fresh_ascend = ascend;
+      tells = tells;
+      dirty_are = dirty_are.exact;
+      grown_are = grown_are.exact;
+      back_are = back_are.exact;
+    }
+
+-- of no object nothing is told
+pub tells-nothing : (edges : List Edge) (told : List Oid) → told ≡ [] → TellsEntering edges told []
+tells-nothing edges told bare = record {
+  ascend = λ i j d less within. absurd (omega (arith, within));
+  exact = λ edge. (
+    λ at. absurd (Contains-none edge at),
+    λ both. absurd (Contains-none edge.child (subst (λ (l : List Oid). Contains l edge.child) bare both.1)),
+  );
 }
 
 -- lists with the same objects touch the same sets, of which the same is read
@@ -83,7 +94,8 @@ module _ (kept : List (List Oid)) (dirty other : List Oid) (same : (oid : Oid) �
 
   read-same : (set read : List Oid) → IsRead kept dirty grown set read → IsRead kept other new set read
   read-same set read (inl whole) = inl whole
-  read-same set read (inr from) =
+  read-same set read (inr (inr told)) = inr (inr told)
+  read-same set read (inr (inl from)) =
       let is = from.1.2 in
       let more : IsExtended other new from.1.0 read set = record {
         clean = λ meets. is.clean (meets.0, meets.1, (same meets.0).1 meets.2);
@@ -91,7 +103,7 @@ module _ (kept : List (List Oid)) (dirty other : List Oid) (same : (oid : Oid) �
         part = is.part;
         others = is.others;
       } in
-      inr (from.0, (from.1.0, from.1.1, more))
+      inr (inl (from.0, (from.1.0, from.1.1, more)))
 
   pub reads-same : (edges : List Edge) (sets : List (List Oid)) (before now : ℕ)
       → ReadsTouched kept dirty grown edges sets before now → ReadsTouched kept other new edges sets before now
@@ -132,7 +144,10 @@ whole-reads dirty grown (set ∷ sets) [] each = absurd each
 whole-reads dirty grown (set ∷ sets) (first ∷ read) each =
     let same : first ≡ set = elim each.0 [
       | inl whole ↦ whole
-      | inr from ↦ absurd (Contains-none from.1.0 from.1.1)
+      | inr other ↦ elim other [
+        | inl from ↦ absurd (Contains-none from.1.0 from.1.1)
+        | inr told ↦ absurd (Contains-none set told.0)
+      ]
     ] in
     ap (λ (one : List Oid). one ∷ read) same ∙ ap (λ (l : List (List Oid)). set ∷ l)
     (whole-reads dirty grown sets read each.1)

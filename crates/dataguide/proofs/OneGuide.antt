@@ -12,7 +12,7 @@ use Rattle.lore_base.specs.TargetSets.{LabelPath, IsStep, AreTargetSets}
 use Rattle.lore_base.specs.PathOrder.{IsLeastPath, AreInPathOrder, ComesBefore}
 use Rattle.set_explorer.specs.Nodes.{sets_of, HasItsSteps, IsEntry}
 use Rattle.dataguide.specs.GuideLaws.{HasOneOrderedGuide}
-use Rattle.set_explorer.specs.inside.Trails.{Stop}
+use Rattle.set_explorer.specs.inside.Trails.{TrailStop}
 use Rattle.set_explorer.proofs.PathOrder.{before-not_back}
 use Rattle.set_steps.proofs.PlaceLaws.{one-place}
 use Rattle.set_explorer.proofs.TrailLaws.{set_of}
@@ -25,12 +25,12 @@ AllPairs-unmap f R xs pairs i j d less within =
     (pairs i j (f d) less there)
 
 -- paths with the sets at the same places
-abbrev stops_of : List LabelPath → List (List Oid) → List Stop
+abbrev stops_of : List LabelPath → List (List Oid) → List TrailStop
 stops_of [] sets = []
 stops_of (path ∷ paths) [] = []
 stops_of (path ∷ paths) (set ∷ sets) = record { path = path; set = set } ∷ stops_of paths sets
 
-abbrev path_of : Stop → LabelPath
+abbrev path_of : TrailStop → LabelPath
 path_of stop = stop.path
 
 module _ (R : LabelPath → List Oid → Type 0) where
@@ -55,7 +55,7 @@ module _ (R : LabelPath → List Oid → Type 0) where
   all-stops [] (set ∷ sets) zip = absurd zip
   all-stops (path ∷ paths) [] zip = absurd zip
   all-stops (path ∷ paths) (set ∷ sets) zip =
-      All-cons (λ (stop : Stop). R stop.path stop.set) (record { path = path; set = set }) (stops_of paths sets) zip.0
+      All-cons (λ (stop : TrailStop). R stop.path stop.set) (record { path = path; set = set }) (stops_of paths sets) zip.0
       (all-stops paths sets zip.1)
 
 module _ (names : List (List ℕ × Oid)) (edges : List Edge) where
@@ -73,9 +73,9 @@ module _ (names : List (List ℕ × Oid)) (edges : List Edge) where
   module _ (sets others : List (List Oid)) (first : AreTargetSets names edges sets)
       (second : AreTargetSets names edges others)
       (order : AreInPathOrder names edges sets) (next : AreInPathOrder names edges others) where
-    stop-within : (stop : Stop) → Contains (stops_of order.paths sets) stop → Contains (stops_of next.paths others) stop
+    stop-within : (stop : TrailStop) → Contains (stops_of order.paths sets) stop → Contains (stops_of next.paths others) stop
     stop-within stop there =
-        let least = All-contains (λ (s : Stop). IsLeastPath names edges s.path s.set) (stops_of order.paths sets) stop
+        let least = All-contains (λ (s : TrailStop). IsLeastPath names edges s.path s.set) (stops_of order.paths sets) stop
         (all-stops (IsLeastPath names edges) order.paths sets order.least) there in
         let in_others = (second.exact stop.set).1 (stop.path, least.leads) in
         let in_stops =
@@ -83,14 +83,14 @@ module _ (names : List (List ℕ × Oid)) (edges : List Edge) where
         (sym (sets-of_stops (IsLeastPath names edges) next.paths others next.least)) in_others in
         let from = Contains-from_map set_of (stops_of next.paths others) stop.set in_stops in
         let least_there =
-        All-contains (λ (s : Stop). IsLeastPath names edges s.path s.set) (stops_of next.paths others) from.0
+        All-contains (λ (s : TrailStop). IsLeastPath names edges s.path s.set) (stops_of next.paths others) from.0
         (all-stops (IsLeastPath names edges) next.paths others next.least) from.1 in
         let path : from.0.path ≡ stop.path =
         one-least from.0.path stop.path stop.set (subst (λ (s : List Oid). IsLeastPath names edges from.0.path s)
         from.2 least_there) least in
         let set : from.0.set ≡ stop.set = from.2 in
         let same : from.0 ≡ stop = λ i. record { path = path i; set = set i } in
-        subst (λ (s : Stop). Contains (stops_of next.paths others) s) same from.1
+        subst (λ (s : TrailStop). Contains (stops_of next.paths others) s) same from.1
 
   stops-ascend : (sets : List (List Oid)) (order : AreInPathOrder names edges sets)
       → AllPairs (λ a b. ComesBefore a.path b.path) (stops_of order.paths sets)
@@ -103,7 +103,7 @@ module _ (names : List (List ℕ × Oid)) (edges : List Edge) where
       → AreInPathOrder names edges sets → AreInPathOrder names edges others → sets ≡ others
   one-list sets others first second order next =
       let stops : stops_of order.paths sets ≡ stops_of next.paths others =
-      AllPairs-unique (λ (a b : Stop). ComesBefore a.path b.path)
+      AllPairs-unique (λ (a b : TrailStop). ComesBefore a.path b.path)
       (λ a b before back. before-not_back a.path b.path before back)
       (stops_of order.paths sets) (stops_of next.paths others) (stops-ascend sets order) (stops-ascend others next)
       (λ stop. (

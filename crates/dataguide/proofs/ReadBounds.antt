@@ -1,5 +1,5 @@
 -- What is read is within the reads of the touched sets.
-use Rattle.std.proofs.Common.{◌≤◌, inl, inr, List, [], ◌∷◌, Contains, ap, arith}
+use Rattle.std.proofs.Common.{◌≡◌, ◌≤◌, inl, inr, List, [], ◌∷◌, Contains, ap, arith}
 use Rattle.std.specs.List.{sum_by, AllZip}
 use Rattle.std.proofs.lemmas.List.Elements.{All-contains}
 use Rattle.std.proofs.lemmas.List.Sums.{sum_by-cons}
@@ -15,7 +15,10 @@ use Rattle.dataguide.specs.GuideLaws.{ReadsAreWithin, SomeReadsAreWithin}
 read-within : (kept : List (List Oid)) (dirty grown : List Oid) (edges : List Edge) (set read : List Oid)
     → IsRead kept dirty grown set read → reads_of edges read ≤ reads_of edges set
 read-within kept dirty grown edges set read (inl whole) = omega (arith, ap (reads_of edges) whole)
-read-within kept dirty grown edges set read (inr from) =
+read-within kept dirty grown edges set read (inr (inr told)) =
+    let nothing : reads_of edges read ≡ 0 = ap (reads_of edges) told.1 in
+    omega (arith, nothing)
+read-within kept dirty grown edges set read (inr (inl from)) =
     let is = from.1.2 in
     sum_by-within _ read set (λ i j d less within same. omega (arith, is.others.ascending i j d less within, ap (λ (o : Oid). o.0) same))
     (All-from_members (Contains set) read (λ oid there. ((is.others.exact oid).0 there).0))

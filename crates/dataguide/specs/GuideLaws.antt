@@ -25,8 +25,8 @@ HasOneOrderedGuide =
     → IsOrderedGuide guide names edges → IsOrderedGuide other names edges → guide ≡ other
 
 -- the node with the set has an edge with the label to the node with the next set
-abbrev pub GoesOn : GuideGraph → List Oid → Label → List Oid → Type 0
-GoesOn guide set label next =
+abbrev pub HasSetEdge : GuideGraph → List Oid → Label → List Oid → Type 0
+HasSetEdge guide set label next =
     (node : Node) × (there : Node) × HasSet guide.nodes node set × HasSet guide.nodes there next
     × HasEdge guide.nodes node label there
 
@@ -39,7 +39,7 @@ BeginsAt guide name set = (node : Node) × Contains guide.entries (name, node) �
 pub record AreAlike (guide other : GuideGraph) : Type 0 where
   pub sets : (set : List Oid) → Contains (sets_of guide.nodes) set ↔ Contains (sets_of other.nodes) set
   pub edges : (set : List Oid) (label : Label) (next : List Oid)
-      → GoesOn guide set label next ↔ GoesOn other set label next
+      → HasSetEdge guide set label next ↔ HasSetEdge other set label next
   pub entries : (name : List ℕ) (set : List Oid) → BeginsAt guide name set ↔ BeginsAt other name set
 
 -- all guides of a database are alike

@@ -1,5 +1,6 @@
 pub mod Types
 pub use Rattle.set_explorer.specs.Touched
+pub use Rattle.set_explorer.specs.Changes
 pub use Rattle.set_explorer.specs.GuideCauses
 pub mod ReadCosts
 pub mod Guides

@@ -6,6 +6,7 @@ ghost use Rattle.dataguide.specs.Types.faults;
 ghost use Rattle.dataguide.specs.ReadCosts.{ReadsAtMost};
 ghost use Rattle.set_steps.specs.SetSteps.{reads_of};
 ghost use Rattle.set_explorer.specs.Touched.{ReadsTouched, ReadsSome, parents_of as the_parents};
+ghost use Rattle.set_explorer.specs.Changes.{TellsEntering};
 ghost use Rattle.dataguide.specs.Guides.{StandsFor};
 ghost use Rattle.set_explorer.specs.Nodes.{sets_of};
 ghost use Rattle.dataguide.specs.Deltas.{guide_then, IsReady, StoodFor};
@@ -16,8 +17,9 @@ use crate::data_guide::Guide;
 use crate::delta::GuideDelta;
 use crate::entries::Entries;
 use index_traits::Adjacent;
-use lore_base::{Edge, Names, Steps};
-use set_explorer::{Change, Explored, GuideFault, explore_sets, parents_of};
+use lore_base::{Edge, Names, OidBuf, Steps};
+use oem_set::OidSet;
+use set_explorer::{Change, Entered, Explored, GuideFault, explore_sets, parents_of};
 use std::alloc::Global;
 use std::sync::ledger::Ledger;
 
@@ -47,27 +49,37 @@ impl Guide {
             → ReadsAtMost limit names.now (A.edges graph.now) steps.old steps.new) }
     {
         let mut guide = Guide::new(alloc);
-        let delta = guide.plan(graph, &[], &[], names, limit, steps)?;
+        let none = OidSet::from_ascending(OidBuf::new(alloc));
+        let entered = Entered {
+            oids: &none,
+            edges: &[],
+        };
+        let delta = guide.plan(graph, &[], &[], &entered, names, limit, steps)?;
         guide.commit(delta);
         Ok(guide)
     }
 
     /// Plans the guide of the graph after a change, where this one stood before it, and these edges,
-    /// each list in ascending order, were lost and are fresh. It is found as `build` finds it, and
-    /// refused as there. A set is read once, where it is no node's or a lost edge leaves a member:
-    /// all of it, or, where the node noted for it lost no edge, gained none and has a part of it, the
-    /// other members. Another set has the steps of its node, and what the fresh edges add to them.
+    /// each list in ascending order, were lost and are fresh. Of some objects it is told which edges
+    /// enter them afterwards. It is found as `build` finds it, and refused as there. A set is read
+    /// once, where it is no node's or a lost edge leaves a member: all of it, or, where the node noted
+    /// for it lost no edge, gained none and has a part of it, the other members, or, where it is a
+    /// node's and it is told of the children of its lost edges, nothing. A set that isn't read has the
+    /// steps of its node, without what lost edges take from them and with what the fresh ones add.
     pub fn plan<A: Adjacent, L: Ledger>(
         &self,
         after: &A,
         lost: &[Edge],
         fresh: &[Edge],
+        entered: &Entered,
         names: &Names,
         limit: u32,
         steps: &mut Steps<L>,
     ) -> Result<GuideDelta, GuideFault>
         requires stood { StoodFor self.now lost.now fresh.now (A.edges after.now) }
         requires ascend { AreAscendingEdges fresh.now }
+        requires lost_ascend { AreAscendingEdges lost.now }
+        requires tells { TellsEntering (A.edges after.now) entered.now.oids.now entered.now.edges.now }
         ensures guide { IfOk result (λ delta.
             StandsFor (guide_then self.now.nodes delta) names.now (A.edges after.now)) }
         ensures order { IfOk result (λ delta. AreInPathOrder names.now (A.edges after.now)
@@ -86,12 +98,17 @@ impl Guide {
         let alloc = self.allocator();
         let dirty = parents_of(alloc, lost)?;
         let grown = parents_of(alloc, fresh)?;
+        let back = parents_of(alloc, entered.edges)?;
         let guide = self.table();
         let change = Change {
             guide,
+            lost,
             dirty: &dirty,
-            grown: &grown,
             fresh,
+            grown: &grown,
+            told: entered.oids,
+            entering: entered.edges,
+            back: &back,
             after,
         };
         let explored = explore_sets(alloc, &change, names, limit, steps)?;

@@ -8,7 +8,7 @@
 
 pub use data_guide::Guide;
 pub use delta::GuideDelta;
-pub use set_explorer::{DeltaNode, EdgeList, GuideFault, GuideNode, Node, Origin};
+pub use set_explorer::{DeltaNode, EdgeList, Entered, GuideFault, GuideNode, Node, Origin};
 
 mod data_guide;
 mod delta;

@@ -9,7 +9,7 @@ use Rattle.dump_laws.specs.Types.{Oid, Edge, Value, Complex}
 use Rattle.lore_base.specs.Names.{IsLabel}
 use Rattle.lore_base.specs.Databases.{Database, OemGraph, IsLive, IsLinked, IsWellFormed}
 use Rattle.lorel_trees.specs.Formed.{IsLocalNumber, IsFormedEdge, IsFormedDump}
-use Rattle.dump_text.specs.Dumps.{text_of, spelled_edge, dump_tree}
+use Rattle.dump_text.specs.Dumps.{table_text, spelled_edge, dump_tree}
 use Rattle.lore_base.specs.Databases.{IsRestorable}
 
 fits : (number : ℕ) → number ≤ 4294967296 → FitsSigned w64 (pos number)
@@ -22,7 +22,7 @@ live_local graph well oid live =
     omega (arith, numbered.1, well.ordered.next_numbered.1)
 
 -- a text of the table
-pub text_among : (labels : List (List ℕ)) (Is : List ℕ → Type 0) → All Is labels → (edge : Edge) → edge.label.0 < length labels → Is (text_of labels edge.label)
+pub text_among : (labels : List (List ℕ)) (Is : List ℕ → Type 0) → All Is labels → (edge : Edge) → edge.label.0 < length labels → Is (table_text labels edge.label)
 text_among labels Is are edge low =
     subst (λ (found : Option (List ℕ)). Is (unwrap_or found [])) (sym (slice_get-get_or labels edge.label.0 [] low)) (All-get_or Is labels edge.label.0 [] low are)
 

@@ -16,7 +16,7 @@ use Rattle.lorel_trees.specs.Repetitions.{spell_each}
 use Rattle.lorel_trees.specs.Literals.{spell_value}
 use Rattle.lorel_trees.specs.Statements.{spell_mode, spell_oid, spell_dump_object, spell_dump_objects}
 use Rattle.lorel_ast.specs.Printing.{label_token, print_label, print_dump_labels, print_dump_name, print_dump_names, print_dump_edge, print_dump_edges, print_dump}
-use Rattle.dump_text.specs.Dumps.{line_of, oid_text, mode_text, label_line, name_line, object_line, edge_line, dump_lines, lines_text}
+use Rattle.dump_text.specs.Dumps.{line_of, oid_text, mode_text, label_line, name_line, object_line, edge_line, dump_lines, ended_lines}
 
 -- a blank byte before written tokens
 pub blank_before : (blank : ℕ) (kinds : List Kind) (bytes : List ℕ) → is_blank blank ≡ true → AreWritten kinds bytes → AreWritten kinds (blank ∷ bytes)
@@ -89,20 +89,20 @@ edge_line_written entry =
     (behind (spell_oid entry.0) (λ more. print_label entry.1 (spell_oid entry.2 more)) (oid_text entry.0) (line_of (label_text entry.1) to) (oid_written entry.0) labelled)
 
 -- a line before others
-line_before : (put : List Kind → List Kind) (line : List ℕ) (lines : List (List ℕ)) (more : List Kind) → Writes put line → AreWritten more (lines_text lines)
-    → AreWritten (put more) (lines_text (line ∷ lines))
+line_before : (put : List Kind → List Kind) (line : List ℕ) (lines : List (List ℕ)) (more : List Kind) → Writes put line → AreWritten more (ended_lines lines)
+    → AreWritten (put more) (ended_lines (line ∷ lines))
 line_before put line lines more first written =
-    subst (AreWritten (put more)) (sym (append_assoc line (codes "\n") (lines_text lines)))
-    (first (10 ∷ lines_text lines) more refl (blank_before 10 more (lines_text lines) refl written))
+    subst (AreWritten (put more)) (sym (append_assoc line (codes "\n") (ended_lines lines)))
+    (first (10 ∷ ended_lines lines) more refl (blank_before 10 more (ended_lines lines) refl written))
 
 lines_before : {T : Type 0} (kind : Kind) (print : T → List Kind → List Kind) (line : T → List ℕ) → ((one : T) → Writes (λ more. kind ∷ print one more) (line one))
-    → (all : List T) (lines : List (List ℕ)) (more : List Kind) → AreWritten more (lines_text lines) → AreWritten (spell_each kind print all more) (lines_text (map line all ++ lines))
+    → (all : List T) (lines : List (List ℕ)) (more : List Kind) → AreWritten more (ended_lines lines) → AreWritten (spell_each kind print all more) (ended_lines (map line all ++ lines))
 lines_before kind print line each [] lines more written = written
 lines_before kind print line each (first ∷ others) lines more written =
     line_before (λ kinds. kind ∷ print first kinds) (line first) (map line others ++ lines) (spell_each kind print others more) (each first)
     (lines_before kind print line each others lines more written)
 
-pub dump_written : (text : DumpTree) → AreWritten (print_dump text []) (lines_text (dump_lines text))
+pub dump_written : (text : DumpTree) → AreWritten (print_dump text []) (ended_lines (dump_lines text))
 dump_written text =
     let last = codes "end" ∷ [] in
     let end = k.Word (codes "end") ∷ [] in

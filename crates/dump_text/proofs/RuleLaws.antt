@@ -14,7 +14,7 @@ use Rattle.index_traits.proofs.ObjectLaws.{one_value_of}
 use Rattle.oem_labels.proofs.PlaceLaws.{place_in-at, label_in-at}
 use Rattle.oem_labels.specs.Labels.{place_in, label_in}
 use Rattle.dump_text.specs.Types.{Oid, Label, Edge, Value, Complex, DumpTree, Restored}
-use Rattle.dump_text.specs.Dumps.{text_of, spelled_edge, dump_tree, IsVersion, in_version_two}
+use Rattle.dump_text.specs.Dumps.{table_text, spelled_edge, dump_tree, IsVersion, in_version_two}
 use Rattle.dump_text.specs.Rules.{AreNumbered, numbered_edge, numbered_edges, KeepsRules}
 use Rattle.dump_text.specs.Restores.{IsDumpOf, IsBad, IsRestored}
 use Rattle.lore_base.specs.Restores.{database_from}
@@ -28,21 +28,21 @@ module _ (labels : List (List ℕ)) (distinct : AllPairs (λ a b. a ≢ b) label
       let there : slice_get labels at.0 ≡ Some text = slice_get-get_or labels at.0 text at.1 ∙ ap (λ (t : List ℕ). Some t) at.2 in
       ap (λ (n : ℕ). slice_get labels n) (place_in-at labels at.0 text distinct there) ∙ there
 
-  label_read : (label : Label) → label.0 < length labels → slice_get labels label.0 ≡ Some (text_of labels label)
+  label_read : (label : Label) → label.0 < length labels → slice_get labels label.0 ≡ Some (table_text labels label)
   label_read label low =
       let read = slice_get-get_or labels label.0 [] low in
       read ∙ ap (λ (t : List ℕ). Some t) (sym (ap (λ (o : Option (List ℕ)). unwrap_or o []) read))
 
-  text_of-label : (text : List ℕ) → Contains labels text → text_of labels (label_in labels text) ≡ text
+  text_of-label : (text : List ℕ) → Contains labels text → table_text labels (label_in labels text) ≡ text
   text_of-label text at = ap (λ (o : Option (List ℕ)). unwrap_or o []) (text_placed text at)
 
-  label_in-text : (label : Label) → label.0 < length labels → label_in labels (text_of labels label) ≡ label
-  label_in-text label low = sym (label_in-at labels label (text_of labels label) distinct (label_read label low))
+  label_in-text : (label : Label) → label.0 < length labels → label_in labels (table_text labels label) ≡ label
+  label_in-text label low = sym (label_in-at labels label (table_text labels label) distinct (label_read label low))
 
-  has_text_of : (label : Label) → label.0 < length labels → Contains labels (text_of labels label)
+  has_text_of : (label : Label) → label.0 < length labels → Contains labels (table_text labels label)
   has_text_of label low =
       let read = label_read label low in
-      (label.0, low, get_or_from_slice_get labels label.0 (text_of labels label) (text_of labels label) read)
+      (label.0, low, get_or_from_slice_get labels label.0 (table_text labels label) (table_text labels label) read)
 
   -- edges get the numbers of their texts, and back
   spelled-numbered : (entries : List (Oid × List ℕ × Oid)) → All (λ entry. Contains labels entry.1) entries
@@ -68,7 +68,7 @@ module _ (labels : List (List ℕ)) (distinct : AllPairs (λ a b. a ≢ b) label
       → All (λ entry. Contains labels entry.1) (map (spelled_edge labels) edges)
   labelled-spelled edges labelled =
       All-map (λ (entry : Oid × List ℕ × Oid). Contains labels entry.1) (spelled_edge labels) edges
-      (All-weaker (λ (e : Edge). e.label.0 < length labels) (λ (e : Edge). Contains labels (text_of labels e.label)) (λ e low. has_text_of e.label low) edges labelled)
+      (All-weaker (λ (e : Edge). e.label.0 < length labels) (λ (e : Edge). Contains labels (table_text labels e.label)) (λ e low. has_text_of e.label low) edges labelled)
 
   labelled-numbered : (entries : List (Oid × List ℕ × Oid)) → All (λ entry. Contains labels entry.1) entries
       → All (λ edge. edge.label.0 < length labels) (map (numbered_edge labels) entries)

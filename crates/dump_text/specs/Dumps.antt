@@ -10,12 +10,12 @@ use Rattle.lore_base.specs.Printed.{printed, label_text}
 -- Trees.
 
 -- the text of a label
-abbrev pub text_of : List (List ℕ) → Label → List ℕ
-text_of labels label = unwrap_or (slice_get labels label.0) []
+abbrev pub table_text : List (List ℕ) → Label → List ℕ
+table_text labels label = unwrap_or (slice_get labels label.0) []
 
 -- an edge with the text of its label
 abbrev pub spelled_edge : List (List ℕ) → Edge → Oid × List ℕ × Oid
-spelled_edge labels edge = (edge.parent, text_of labels edge.label, edge.child)
+spelled_edge labels edge = (edge.parent, table_text labels edge.label, edge.child)
 
 -- the tree of a database: all of it, labels that no edge has too
 abbrev pub dump_tree : Database → DumpTree
@@ -98,9 +98,9 @@ abbrev pub ended : List ℕ → List ℕ
 ended line = line ++ codes "\n"
 
 -- lines as they are printed
-abbrev pub lines_text : List (List ℕ) → List ℕ
-lines_text lines = flat_map ended lines
+abbrev pub ended_lines : List (List ℕ) → List ℕ
+ended_lines lines = flat_map ended lines
 
 -- what `dump` prints
 abbrev pub printed_dump : Database → List ℕ
-printed_dump db = lines_text (dump_lines (dump_tree db))
+printed_dump db = ended_lines (dump_lines (dump_tree db))

@@ -1,4 +1,4 @@
-ghost use Rattle.std.specs.Prelude.{◌≡◌, ◌≢◌, ◌↔◌, Bool, pos, ◌<◌, ◌≤◌, All, Contains};
+ghost use Rattle.std.specs.Prelude.{◌≡◌, ◌≢◌, ◌↔◌, Bool, pos, ◌<◌, ◌≤◌, All};
 ghost use Rattle.std.specs.Prelude.{IsTrue, IfSome, IfNone};
 ghost use Rattle.lore_base.specs.Names.{IsNameTable, IsName, IsLabel};
 ghost use Rattle.lore_base.specs.Databases.{AreAscendingObjects, AreAscendingEdges, IsSized};
@@ -8,6 +8,7 @@ ghost use Rattle.dump_text.specs.Dumps.{HasNoFlags};
 ghost use Rattle.dump_text.specs.Rules as rules;
 ghost use Rattle.dump_text.specs.Rules.{IsUpTo};
 
+use graph_changes::value_in;
 use lore_base::limits::{
     EDGES, LABELS, NAMES, NEXT_NUMBER, NODES, OBJECTS, TEXT_BYTES, WORD_BYTES,
 };
@@ -198,43 +199,6 @@ pub(crate) fn are_ascending_edges(edges: &[Edge]) -> bool
     ensures { IsTrue result ↔ AreAscendingEdges edges.now }
 {
     edges.is_sorted_by(|a, b| a < b)
-}
-
-// As far behind the first object as its number is above that one's: its place while numbers have no
-// gap.
-fn likely_place(objects: &[(Oid, Value)], oid: Oid) -> usize {
-    match objects.first() {
-        Some(first) => oid.0.saturating_sub(first.0.0) as usize,
-        None => 0,
-    }
-}
-
-// The value of the object, where it stands at this place.
-fn value_at(objects: &[(Oid, Value)], place: usize, oid: Oid) -> Option<&Value>
-    ensures { IfSome result (λ value. Contains objects.now (oid, value.now)) }
-{
-    let object = objects.get(place)?;
-    if object.0 == oid {
-        Some(&object.1)
-    } else {
-        None
-    }
-}
-
-// The value of the object among ascending ones; None exactly where it isn't there. It is looked for
-// first where it mostly stands, and then by binary search.
-fn value_in(objects: &[(Oid, Value)], oid: Oid) -> Option<&Value>
-    requires { AreAscendingObjects objects.now }
-    ensures some { IfSome result (λ value. Contains objects.now (oid, value.now)) }
-    ensures none { IfNone result (¬ IsLive objects.now oid) }
-{
-    if let Some(value) = value_at(objects, likely_place(objects, oid), oid) {
-        return Some(value);
-    }
-    match objects.binary_search_by_key(&oid, |object| object.0) {
-        Ok(place) => Some(&objects[place].1),
-        Err(_) => None,
-    }
 }
 
 // Whether the object is live.

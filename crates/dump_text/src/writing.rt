@@ -1,17 +1,14 @@
 ghost use Rattle.std.specs.Prelude.{◌≡◌, ◌<◌, ◌^◌, pos, ◌++◌, length, map};
-ghost use Rattle.std.specs.Prelude.{Some, slice_get, All, Contains, IfOk, OnOk};
-ghost use Rattle.lore_base.specs.Databases.{IsLive};
-ghost use Rattle.dump_text.specs.Types.{Value as TheValue};
+ghost use Rattle.std.specs.Prelude.{All, IfOk, OnOk};
 ghost use Rattle.dump_text.specs.Dumps as spec;
-ghost use Rattle.dump_text.specs.Dumps.{spelled_edge, head_lines, lines_text, printed_dump};
+ghost use Rattle.dump_text.specs.Dumps.{spelled_edge, head_lines, ended_lines, printed_dump};
 
 use crate::lines::{
     put_edge_line, put_label_line, put_mode_line, put_name_line, put_number_line, put_object_line,
 };
 use crate::printed::PrintedDump;
-use index_traits::ValueOf;
-use lore_base::{Edge, EdgeBuf, Label, Mode, Names, NoMemory, OemText, Oid, Out, Value};
-use oem_graph::Graph;
+use lore_base::{Edge, EdgeBuf, Label, Mode, Names, NoMemory, OemText, Out};
+use oem_graph::{Graph, live_value, oid_at};
 use oem_labels::LabelTable;
 use std::alloc::Global;
 
@@ -51,7 +48,7 @@ pub fn dump(
 fn put_head(next: u64, nodes: u32, mode: Mode, dump: &mut PrintedDump) -> Result<(), NoMemory>
     requires { next < 2 ^ 63 }
     ensures { OnOk result (dump.new
-        ≡ dump.old ++ lines_text (head_lines (pos 2) (pos next) (pos nodes) mode)) }
+        ≡ dump.old ++ ended_lines (head_lines (pos 2) (pos next) (pos nodes) mode)) }
 {
     put_number_line(dump, b"oem", 2)?;
     put_number_line(dump, b"next", next as i64)?;
@@ -62,7 +59,7 @@ fn put_head(next: u64, nodes: u32, mode: Mode, dump: &mut PrintedDump) -> Result
 // The text of the label.
 fn text_in(labels: &LabelTable, label: Label) -> &OemText
     requires { label.0 < length labels.now }
-    ensures { result.now ≡ spec.text_of labels.now label }
+    ensures { result.now ≡ spec.table_text labels.now label }
 {
     match labels.text(label) {
         Some(text) => text,
@@ -72,7 +69,7 @@ fn text_in(labels: &LabelTable, label: Label) -> &OemText
 
 fn put_labels(labels: &LabelTable, dump: &mut PrintedDump) -> Result<(), NoMemory>
     ensures { OnOk result
-        (dump.new ≡ dump.old ++ lines_text (map spec.label_line labels.now)) }
+        (dump.new ≡ dump.old ++ ended_lines (map spec.label_line labels.now)) }
 {
     'labels: for place in 0..labels.len() {
         put_label_line(dump, text_in(labels, Label(place)))?;
@@ -81,7 +78,7 @@ fn put_labels(labels: &LabelTable, dump: &mut PrintedDump) -> Result<(), NoMemor
 }
 
 fn put_names(names: &Names, dump: &mut PrintedDump) -> Result<(), NoMemory>
-    ensures { OnOk result (dump.new ≡ dump.old ++ lines_text (map spec.name_line names.now)) }
+    ensures { OnOk result (dump.new ≡ dump.old ++ ended_lines (map spec.name_line names.now)) }
 {
     let oids = names.objects()?;
     let texts = names.texts()?;
@@ -91,36 +88,13 @@ fn put_names(names: &Names, dump: &mut PrintedDump) -> Result<(), NoMemory>
     Ok(())
 }
 
-// The object at this place, counted from 0.
-fn oid_at(graph: &Graph, place: u32) -> Oid
-    requires { place < length graph.now.graph.objects }
-    ensures { slice_get (map (λ object. object.0) graph.now.graph.objects) place ≡ Some result }
-{
-    match graph.object(place) {
-        Some(oid) => oid,
-        None => unreachable!(),
-    }
-}
-
-// The value of the live object.
-fn value_in(graph: &Graph, oid: Oid) -> &Value
-    requires { IsLive graph.now.graph.objects oid }
-    ensures { (value : TheValue) → Contains graph.now.graph.objects (oid, value)
-        → result.now ≡ value }
-{
-    match graph.value_of(oid) {
-        Some(value) => value,
-        None => unreachable!(),
-    }
-}
-
 fn put_objects(graph: &Graph, dump: &mut PrintedDump) -> Result<(), NoMemory>
     ensures { OnOk result (dump.new
-        ≡ dump.old ++ lines_text (map spec.object_line graph.now.graph.objects)) }
+        ≡ dump.old ++ ended_lines (map spec.object_line graph.now.graph.objects)) }
 {
     'places: for place in 0..graph.objects() {
         let oid = oid_at(graph, place);
-        put_object_line(dump, oid, value_in(graph, oid))?;
+        put_object_line(dump, oid, live_value(graph, oid))?;
     }
     Ok(())
 }
@@ -128,7 +102,7 @@ fn put_objects(graph: &Graph, dump: &mut PrintedDump) -> Result<(), NoMemory>
 fn put_edges(edges: &[Edge], labels: &LabelTable, dump: &mut PrintedDump) -> Result<(), NoMemory>
     requires { All (λ edge. edge.label.0 < length labels.now) edges.now }
     ensures { OnOk result (dump.new ≡ dump.old
-        ++ lines_text (map (λ edge. spec.edge_line (spelled_edge labels.now edge)) edges.now)) }
+        ++ ended_lines (map (λ edge. spec.edge_line (spelled_edge labels.now edge)) edges.now)) }
 {
     'edges: for edge in edges {
         let label = text_in(labels, edge.label);

@@ -11,28 +11,28 @@ use Rattle.list_laws.proofs.MemberLaws.{Contains-map, Contains-from_map}
 use Rattle.oem_changes.proofs.TableLaws.{one_entry}
 use Rattle.dataguide.specs.Types.{Oid, Edge}
 use Rattle.lore_base.specs.PathOrder.{ComesBefore, IsLeastPath, AreInPathOrder}
-use Rattle.dataguide.specs.inside.Trails.{Stop}
+use Rattle.dataguide.specs.inside.Trails.{TrailStop}
 use Rattle.dataguide.proofs.PathOrder.{before-trans, before-itself, before-not_back}
 use Rattle.set_steps.proofs.PairLaws.{AllPairs-map}
 use Rattle.guide_laws.specs.Laws.{OrderedSetsExist}
 use Rattle.guide_laws.proofs.LeastPaths.{either_path, some_least}
 use Rattle.guide_laws.proofs.TargetSetLaws.{target_sets_exist}
 
-abbrev Before : Stop → Stop → Type 0
+abbrev Before : TrailStop → TrailStop → Type 0
 Before a b = ComesBefore a.path b.path
 
 module _ (names : List (List ℕ × Oid)) (edges : List Edge) where
-  abbrev IsLeast : Stop → Type 0
+  abbrev IsLeast : TrailStop → Type 0
   IsLeast stop = IsLeastPath names edges stop.path stop.set
 
   -- each set with its least path
-  record AreStops (sets : List (List Oid)) (stops : List Stop) : Type 0 where
-    pub each : (stop : Stop) → Contains stops stop → Contains sets stop.set × IsLeast stop
+  record AreStops (sets : List (List Oid)) (stops : List TrailStop) : Type 0 where
+    pub each : (stop : TrailStop) → Contains stops stop → Contains sets stop.set × IsLeast stop
     pub all : (set : List Oid) → Contains sets set
         → (path : LabelPath) × Contains stops (record { path = path; set = set })
 
   some_stops : (sets : List (List Oid)) → ((set : List Oid) → Contains sets set → IsLedTo names edges set)
-      → (stops : List Stop) × AreStops sets stops
+      → (stops : List TrailStop) × AreStops sets stops
   some_stops [] led = (
     [],
     record {
@@ -43,12 +43,12 @@ module _ (names : List (List ℕ × Oid)) (edges : List Edge) where
   some_stops (set ∷ sets) led =
       let path = led set (Contains-head set sets) in
       let least = some_least names edges set path.0 path.1 in
-      let stop : Stop = record { path = least.0; set = set } in
+      let stop : TrailStop = record { path = least.0; set = set } in
       let rest = some_stops sets (λ other at. led other (Contains-tail set sets other at)) in (
         stop ∷ rest.0,
         record {
           each = λ other at. elim (Contains-cases stop rest.0 other at) [
-            | inl same ↦ subst (λ (s : Stop). Contains (set ∷ sets) s.set × IsLeast s) same
+            | inl same ↦ subst (λ (s : TrailStop). Contains (set ∷ sets) s.set × IsLeast s) same
                 (Contains-head set sets, least.1)
             | inr later ↦ (
                 let is = rest.1.each other later in (Contains-tail set sets other.set is.0, is.1))
@@ -68,7 +68,7 @@ module _ (names : List (List ℕ × Oid)) (edges : List Edge) where
 
   module _ (table : IsNameTable names) where
     -- a path leads to one set
-    one_set : (a b : Stop) → IsLeast a → IsLeast b → a.path ≡ b.path → a ≡ b
+    one_set : (a b : TrailStop) → IsLeast a → IsLeast b → a.path ≡ b.path → a ≡ b
     one_set a b first second same =
         let name : a.path.name ≡ b.path.name = ap (λ (p : LabelPath). p.name) same in
         let entry = one_entry names table (a.path.name, first.leads.start) (b.path.name, second.leads.start)
@@ -81,7 +81,7 @@ module _ (names : List (List ℕ × Oid)) (edges : List Edge) where
         ListsInOrder-unique (Walk edges second.leads.start b.path.word) a.set b.set target second.leads.target in
         λ i. record { path = same i; set = set i }
 
-    either_stop : (a b : Stop) → IsLeast a → IsLeast b → IsEither Before a b
+    either_stop : (a b : TrailStop) → IsLeast a → IsLeast b → IsEither Before a b
     either_stop a b first second = elim (either_path a.path b.path) [
       | inl before ↦ inl before
       | inr other ↦ elim other [
@@ -91,7 +91,7 @@ module _ (names : List (List ℕ × Oid)) (edges : List Edge) where
     ]
 
   -- two stops in order have two sets
-  apart_stops : (a b : Stop) → IsLeast a → IsLeast b → Before a b → a.set ≢ b.set
+  apart_stops : (a b : TrailStop) → IsLeast a → IsLeast b → Before a b → a.set ≢ b.set
   apart_stops a b first second before same =
       let led : LeadsTo names edges a.path b.set = subst (LeadsTo names edges a.path) same first.leads in
       elim (second.least a.path led) [
@@ -99,7 +99,7 @@ module _ (names : List (List ℕ × Oid)) (edges : List Edge) where
         | inr behind ↦ before-not_back a.path b.path before behind
       ]
 
-  zip_least : (stops : List Stop) → ((stop : Stop) → Contains stops stop → IsLeast stop)
+  zip_least : (stops : List TrailStop) → ((stop : TrailStop) → Contains stops stop → IsLeast stop)
       → AllZip (IsLeastPath names edges) (map (λ stop. stop.path) stops) (map (λ stop. stop.set) stops)
   zip_least [] each = tt
   zip_least (stop ∷ stops) each = (
@@ -107,25 +107,25 @@ module _ (names : List (List ℕ × Oid)) (edges : List Edge) where
     zip_least stops (λ other at. each other (Contains-tail stop stops other at)),
   )
 
-  module _ (sets : List (List Oid)) (are : AreTargetSets names edges sets) (stops sorted : List Stop)
+  module _ (sets : List (List Oid)) (are : AreTargetSets names edges sets) (stops sorted : List TrailStop)
       (with : AreStops sets stops) (is : IsSetOf Before stops sorted) where
-    least_is : (stop : Stop) → Contains sorted stop → IsLeast stop
+    least_is : (stop : TrailStop) → Contains sorted stop → IsLeast stop
     least_is stop at = (with.each stop (is.only stop at)).1
 
     sorted_targets : AreTargetSets names edges (map (λ stop. stop.set) sorted)
     sorted_targets = record {
-      apart = AllPairs-map (λ (s : Stop). s.set) (λ (a b : Stop). a.set ≢ b.set) (λ (a b : List Oid). a ≢ b)
+      apart = AllPairs-map (λ (s : TrailStop). s.set) (λ (a b : TrailStop). a.set ≢ b.set) (λ (a b : List Oid). a ≢ b)
           (λ a b apart. apart) sorted
-          (AllPairs-within Before (λ (a b : Stop). a.set ≢ b.set) sorted
+          (AllPairs-within Before (λ (a b : TrailStop). a.set ≢ b.set) sorted
           (λ a b at_a at_b before. apart_stops a b (least_is a at_a) (least_is b at_b) before) is.ascend);
       exact = λ set. (
         λ at.
-            let from = Contains-from_map (λ (s : Stop). s.set) sorted set at in
+            let from = Contains-from_map (λ (s : TrailStop). s.set) sorted set at in
             subst (IsLedTo names edges) from.2 ((from.0.path, (least_is from.0 from.1).leads)),
         λ led.
             let there = with.all set ((are.exact set).1 led) in
-            let stop : Stop = record { path = there.0; set = set } in
-            Contains-map (λ (s : Stop). s.set) sorted stop (is.kept stop there.1),
+            let stop : TrailStop = record { path = there.0; set = set } in
+            Contains-map (λ (s : TrailStop). s.set) sorted stop (is.kept stop there.1),
       );
     }
 
@@ -133,7 +133,7 @@ module _ (names : List (List ℕ × Oid)) (edges : List Edge) where
     sorted_order = record {
       paths = map (λ stop. stop.path) sorted;
       least = zip_least sorted least_is;
-      ascending = AllPairs-map (λ (s : Stop). s.path) Before ComesBefore (λ a b before. before) sorted is.ascend;
+      ascending = AllPairs-map (λ (s : TrailStop). s.path) Before ComesBefore (λ a b before. before) sorted is.ascend;
     }
 
 pub ordered_sets_exist : OrderedSetsExist

@@ -11,7 +11,8 @@ use Rattle.dataguide.proofs.StopLaws.{target-none}
 use Rattle.dataguide.proofs.TargetSteps.{step-target}
 use Rattle.dataguide.proofs.StepLaws.{step_of, step_is}
 use Rattle.guide_query.specs.Types.{Oid, Label, Edge, Node, GuideNode}
-use Rattle.guide_query.specs.GuideReaches.{LeadsAlong, IsMember, TellsOf}
+use Rattle.set_walk.specs.SetPaths.{LeadsAlong}
+use Rattle.guide_query.specs.GuideReaches.{IsMember, TellsOf}
 use Rattle.guide_query.proofs.GuideWalkLaws.{member-set}
 
 module _ (names : List (List ℕ × Oid)) (edges : List Edge) (guide : GuideGraph)
@@ -44,7 +45,7 @@ module _ (names : List (List ℕ × Oid)) (edges : List Edge) (guide : GuideGrap
 
   -- what a word leads to is walked to from a member of the first set
   leads-walk : (word : List Label) (node last : Node) (set : List Oid) (oid : Oid) → HasSet guide.nodes node set
-      → LeadsAlong guide.nodes node word last → IsMember guide.nodes last oid
+      → LeadsAlong (HasEdge guide.nodes) node word last → IsMember guide.nodes last oid
       → (start : Oid) × Contains set start × Walk edges start word oid
   leads-walk [] node last set oid has same member =
       (oid, member-set guide.nodes last set oid (subst (λ (n : Node). HasSet guide.nodes n set) same has) member, refl)
@@ -74,7 +75,7 @@ module _ (names : List (List ℕ × Oid)) (edges : List Edge) (guide : GuideGrap
     walk-leads : (word done : List Label) (node : Node) (set : List Oid) (from oid : Oid)
         → IsTargetSet edges named done set
         → HasSet guide.nodes node set → Contains set from → Walk edges from word oid
-        → (last : Node) × LeadsAlong guide.nodes node word last × IsMember guide.nodes last oid
+        → (last : Node) × LeadsAlong (HasEdge guide.nodes) node word last × IsMember guide.nodes last oid
     walk-leads [] done node set from oid target has there same =
         (node, refl, (set, has, subst (λ (o : Oid). Contains set o) same there))
     walk-leads (label ∷ word) done node set from oid target has there walked =

@@ -3,17 +3,13 @@
 use Rattle.std.specs.Prelude.{◌↔◌, ℕ, List, [], ◌∷◌, Contains}
 use Rattle.lore_base.specs.Paths.{PathTree, Spells, Reaches}
 use Rattle.dataguide.specs.Guides.{GuideGraph, HasSet, HasEdge}
-use Rattle.set_walk.specs.SetPaths.{LeadsAlong as LeadsBy}
+use Rattle.set_walk.specs.SetPaths.{LeadsAlong}
 use Rattle.guide_query.specs.Types.{Oid, Label, Edge, Node, GuideNode}
 
 -- what paths are told of: a guide and label texts
 pub record GuideOver : Type 0 where
   pub guide : GuideGraph
   pub labels : List (List ℕ)
-
--- the word of labels leads from one node to another
-abbrev pub LeadsAlong : List GuideNode → Node → List Label → Node → Type 0
-LeadsAlong nodes = LeadsBy (HasEdge nodes)
 
 -- the object is in the node's set
 abbrev pub IsMember : List GuideNode → Node → Oid → Type 0
@@ -27,7 +23,7 @@ pub record TellsReached (told : GuideOver) (path : PathTree) (named oid : Oid) :
   pub word : List Label
   pub spelled : Spells told.labels path word
   pub last : Node
-  pub leads : LeadsAlong told.guide.nodes entry word last
+  pub leads : LeadsAlong (HasEdge told.guide.nodes) entry word last
   pub member : IsMember told.guide.nodes last oid
 
 -- of these names the guide tells what paths reach along these edges

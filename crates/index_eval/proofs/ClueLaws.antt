@@ -12,8 +12,8 @@ use Rattle.lorel_bound.specs.Holding.{Gives, Holds}
 use Rattle.lorel_bound.specs.SlotRows.{BoundStartsAt, MeetsBy, HoldsOver}
 use Rattle.lorel_eval.specs.Tests.{CondOver}
 use Rattle.product_walk.specs.ProductWalks.{ReachesInto}
-use Rattle.plan_ops.specs.Steps.{StepsOver, steps_over}
-use Rattle.plan_ops.proofs.DescribeLawsProbe.{last_edge, candidate}
+use Rattle.plan_laws.specs.Steps.{StepsOver, steps_over}
+use Rattle.plan_laws.proofs.DescribeLawsProbe.{last_edge, candidate}
 use Rattle.index_eval.specs.Types.{Oid, Edge, Value, ValueEntry, Path, BoundStart, Plain}
 use Rattle.index_eval.specs.Types.bound_starts
 use Rattle.index_eval.specs.Indexes.{AreIndexes}

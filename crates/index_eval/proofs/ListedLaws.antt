@@ -12,8 +12,8 @@ use Rattle.lorel_bound.specs.Conditions.{CondOf, constant, at, exists, compare, 
 use Rattle.lorel_bound.specs.SlotRows.{BoundStartsAt}
 use Rattle.lorel_bound.specs.Plans.{IsCandidate}
 use Rattle.product_walk.specs.ProductWalks.{ReachesInto}
-use Rattle.plan_ops.specs.Steps.{StepsOver, steps_over}
-use Rattle.plan_ops.proofs.DescribeLawsProbe.{last_edge, candidate}
+use Rattle.plan_laws.specs.Steps.{StepsOver, steps_over}
+use Rattle.plan_laws.proofs.DescribeLawsProbe.{last_edge, candidate}
 use Rattle.index_eval.specs.Types.{Oid, Label, Edge, Value, Op, ValueEntry, BoundStart, Plain}
 use Rattle.index_eval.specs.Types.bound_starts
 use Rattle.index_eval.specs.Indexes.{AreIndexes}

@@ -1,4 +1,4 @@
-ghost use Rattle.std.specs.Prelude.{◌≡◌, [], Some, All, IfOk, IfSome, OnOk, slice_get};
+ghost use Rattle.std.specs.Prelude.{◌≡◌, [], Some, All, IfOk, IfSome, OnOk};
 ghost use Rattle.index_traits.specs.Entries.{IsProbed};
 ghost use Rattle.lorel_bound.specs.SlotRows.{BoundStartsAt};
 ghost use Rattle.index_eval.specs.Types.{Oid as TheOid};
@@ -15,13 +15,12 @@ use index_traits::{Adjacent, Links, Row, ValueOf, Values};
 use lore_base::limits::RANGES;
 use lore_base::{NoMemory, Oid, OidBuf, Op, Steps, Value};
 use lorel_bound::BoundStart;
+use lorel_eval::in_slot;
 use member_clues::{Clue, Comparison, End, Given, Meeting, is_asked};
 use oem_labels::LabelTable;
 use product_walk::{Route, WayBack};
 use std::alloc::Global;
 use std::sync::ledger::Ledger;
-
-const LAST_SLOT: u32 = RANGES as u32 - 1;
 
 /// What the objects of a clue are found in, how many may be at its end, and what was done so far.
 #[derive(Drop)]
@@ -361,12 +360,4 @@ fn object_of(start: BoundStart, row: &Row) -> Option<Oid>
         BoundStart::Slot(slot) => in_slot(row, slot),
         BoundStart::Quantified(_) => None,
     }
-}
-
-/// The object in the slot; None where there are not so many.
-pub(crate) fn in_slot(row: &Row, slot: u32) -> Option<Oid>
-    ensures { result ≡ slice_get row.now slot }
-{
-    let oid = row.get(slot.min(LAST_SLOT));
-    if slot <= LAST_SLOT { Some(oid) } else { None }
 }

@@ -8,12 +8,12 @@ ghost use Rattle.index_eval.specs.Types.{LEAVES};
 ghost use Rattle.index_eval.specs.Indexes.{AreIndexes};
 ghost use Rattle.index_eval.specs.inside.Listing.{HasListed, PassesOn, Splits, SplitsIn, cond_over};
 
-use crate::ends::{Readers, in_slot};
+use crate::ends::Readers;
 use crate::listing::{Listed, is_sought, listed_of};
 use index_traits::{Adjacent, Links, Row, RowTest, ValueOf, Values};
 use lore_base::{NoMemory, Oid, OidBuf, Steps};
 use lorel_bound::BoundCond;
-use lorel_eval::Test;
+use lorel_eval::{Test, in_slot};
 use oem_labels::LabelTable;
 use std::alloc::Global;
 use std::sync::ledger::Ledger;

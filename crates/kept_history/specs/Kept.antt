@@ -25,9 +25,9 @@ AppendsTo None None after = Unit {0}
 AppendsTo _ _ after = ⊥
 
 -- and the history keeps the room free that the plan needs
-abbrev pub HasRoomFor : Option KeptHistory → Option PlannedMoment → Type 0
-HasRoomFor (Some history) (Some plan) = HasRoom history plan
-HasRoomFor _ _ = Unit {0}
+abbrev pub HasRoomForMoment : Option KeptHistory → Option PlannedMoment → Type 0
+HasRoomForMoment (Some history) (Some plan) = HasRoom history plan
+HasRoomForMoment _ _ = Unit {0}
 
 -- the moments with one more, where a history is kept
 abbrev pub moments_then : Option (List Moment) → Moment → Option (List Moment)

@@ -1,10 +1,10 @@
 ghost use Rattle.std.specs.Prelude.{◌≡◌, IfOk, IfErr, OnOk, OnErr};
 ghost use Rattle.lore_base.specs.Deltas.{IsDelta};
-ghost use Rattle.lore_store.specs.Stores.{LeadsOn, HasRoomFor as HasRoomInStore, database_then};
+ghost use Rattle.lore_store.specs.Stores.{IsPreparedFor, HasRoomFor, database_then};
 ghost use Rattle.doem_history.specs.Moments.{Moment};
 ghost use Rattle.doem_history.specs.declared.faults.HistoryFault.TheVariants as fault;
 ghost use Rattle.kept_history.specs.Kept.{present, kept_moments, moments_then, IsLast, IsFullWith};
-ghost use Rattle.kept_history.specs.Kept.{AppendsTo, HasRoomFor};
+ghost use Rattle.kept_history.specs.Kept.{AppendsTo, HasRoomForMoment};
 
 use doem_history::{History, HistoryFault, HistoryPlan};
 use lore_base::NoMemory;
@@ -21,7 +21,7 @@ pub fn make_change(
     history: &mut Option<History>,
     prepared: Prepared,
 ) -> Result<(), HistoryFault>
-    requires leads { LeadsOn store.old.db store.old.guide prepared }
+    requires leads { IsPreparedFor store.old.db store.old.guide prepared }
     requires delta { IsDelta store.old.db.graph (database_then store.old.db prepared).graph
         prepared.graph.delta }
     requires last { IsLast history.old (present store.old.db) }
@@ -56,16 +56,16 @@ fn reserved_plan(
     history: &mut Option<History>,
     prepared: &Prepared,
 ) -> Result<Option<HistoryPlan>, HistoryFault>
-    requires leads { LeadsOn store.old.db store.old.guide prepared.now }
+    requires leads { IsPreparedFor store.old.db store.old.guide prepared.now }
     requires delta { IsDelta store.old.db.graph (database_then store.old.db prepared.now).graph
         prepared.now.graph.delta }
     requires last { IsLast history.old (present store.old.db) }
-    ensures room { OnOk result (HasRoomInStore store.new prepared.now) }
+    ensures room { OnOk result (HasRoomFor store.new prepared.now) }
     ensures same { store.new.db ≡ store.old.db }
     ensures guide { store.new.guide ≡ store.old.guide }
     ensures appends { let after = present (database_then store.old.db prepared.now) in
         IfOk result (λ plan. AppendsTo history.new plan after) }
-    ensures place { IfOk result (HasRoomFor history.new) }
+    ensures place { IfOk result (HasRoomForMoment history.new) }
     ensures moments { kept_moments history.new ≡ kept_moments history.old }
     ensures last { IsLast history.new (present store.old.db) }
     ensures light { let after = present (database_then store.old.db prepared.now) in
@@ -90,10 +90,10 @@ fn reserve_both(
     prepared: &Prepared,
     plan: &Option<HistoryPlan>,
 ) -> Result<(), NoMemory>
-    ensures room { OnOk result (HasRoomInStore store.new prepared.now) }
+    ensures room { OnOk result (HasRoomFor store.new prepared.now) }
     ensures same { store.new.db ≡ store.old.db }
     ensures guide { store.new.guide ≡ store.old.guide }
-    ensures place { OnOk result (HasRoomFor history.new plan.now) }
+    ensures place { OnOk result (HasRoomForMoment history.new plan.now) }
     ensures moments { kept_moments history.new ≡ kept_moments history.old }
     ensures last { (moment : Moment) → IsLast history.old moment → IsLast history.new moment }
     ensures appends { (after : Moment)
@@ -110,10 +110,10 @@ fn put_in_place(
     prepared: Prepared,
     plan: Option<HistoryPlan>,
 )
-    requires leads { LeadsOn store.old.db store.old.guide prepared }
-    requires room { HasRoomInStore store.old prepared }
+    requires leads { IsPreparedFor store.old.db store.old.guide prepared }
+    requires room { HasRoomFor store.old prepared }
     requires appends { AppendsTo history.old plan (present (database_then store.old.db prepared)) }
-    requires place { HasRoomFor history.old plan }
+    requires place { HasRoomForMoment history.old plan }
     ensures made { store.new.db ≡ database_then store.old.db prepared }
     ensures moments { let after = present (database_then store.old.db prepared) in
         kept_moments history.new ≡ moments_then (kept_moments history.old) after }
@@ -130,7 +130,7 @@ fn plan_moment(
     store: &Store,
     prepared: &Prepared,
 ) -> Result<Option<HistoryPlan>, HistoryFault>
-    requires leads { LeadsOn store.now.db store.now.guide prepared.now }
+    requires leads { IsPreparedFor store.now.db store.now.guide prepared.now }
     requires delta { IsDelta store.now.db.graph (database_then store.now.db prepared.now).graph
         prepared.now.graph.delta }
     requires last { IsLast history.now (present store.now.db) }
@@ -152,7 +152,7 @@ fn plan_moment(
 
 // Makes room for the moment, where a history is kept.
 fn reserve_moment(history: &mut Option<History>, plan: &Option<HistoryPlan>) -> Result<(), NoMemory>
-    ensures room { OnOk result (HasRoomFor history.new plan.now) }
+    ensures room { OnOk result (HasRoomForMoment history.new plan.now) }
     ensures moments { kept_moments history.new ≡ kept_moments history.old }
     ensures last { (moment : Moment) → IsLast history.old moment → IsLast history.new moment }
     ensures appends { (after : Moment)
@@ -170,7 +170,7 @@ fn reserve_moment(history: &mut Option<History>, plan: &Option<HistoryPlan>) -> 
 // Appends the moment, where a history is kept.
 fn commit_moment(history: &mut Option<History>, plan: Option<HistoryPlan>)
     requires appends { (after : Moment) × AppendsTo history.old plan after }
-    requires room { HasRoomFor history.old plan }
+    requires room { HasRoomForMoment history.old plan }
     ensures moments { (after : Moment) → AppendsTo history.old plan after
         → kept_moments history.new ≡ moments_then (kept_moments history.old) after }
     ensures last { (after : Moment) → AppendsTo history.old plan after

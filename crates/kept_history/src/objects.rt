@@ -1,10 +1,7 @@
-ghost use Rattle.std.specs.Prelude.{◌≡◌, ◌<◌, Some, map, length, slice_get, Contains, IfOk};
-ghost use Rattle.lore_base.specs.Databases.{IsLive};
-ghost use Rattle.doem_history.specs.Types.{Value as TheValue};
+ghost use Rattle.std.specs.Prelude.{◌≡◌, map, IfOk};
 
-use index_traits::ValueOf;
-use lore_base::{NoMemory, ObjectList, Oid, OidBuf, TryCopy, Value};
-use oem_graph::Graph;
+use lore_base::{NoMemory, ObjectList, OidBuf, TryCopy};
+use oem_graph::{Graph, live_value, oid_at};
 use std::alloc::Global;
 
 /// The live objects, in order.
@@ -25,31 +22,8 @@ pub(crate) fn all_objects(alloc: Global, graph: &Graph) -> Result<ObjectList, No
     let mut objects = ObjectList::with_capacity(alloc, graph.objects() as usize)?;
     'places: for place in 0..graph.objects() {
         let oid = oid_at(graph, place);
-        let value = value_in(graph, oid).try_copy(alloc)?;
+        let value = live_value(graph, oid).try_copy(alloc)?;
         objects.push((oid, value))?;
     }
     Ok(objects)
-}
-
-// The object at this place, counted from 0.
-fn oid_at(graph: &Graph, place: u32) -> Oid
-    requires { place < length graph.now.graph.objects }
-    ensures { slice_get (map (λ object. object.0) graph.now.graph.objects) place ≡ Some result }
-{
-    match graph.object(place) {
-        Some(oid) => oid,
-        None => unreachable!(),
-    }
-}
-
-// The value of the live object.
-fn value_in(graph: &Graph, oid: Oid) -> &Value
-    requires { IsLive graph.now.graph.objects oid }
-    ensures { (value : TheValue) → Contains graph.now.graph.objects (oid, value)
-        → result.now ≡ value }
-{
-    match graph.value_of(oid) {
-        Some(value) => value,
-        None => unreachable!(),
-    }
 }

@@ -8,7 +8,7 @@ use Rattle.std.proofs.lemmas.Option.{slice_get-get_or}
 use Rattle.list_laws.proofs.MemberLaws.{Contains-from_map}
 use Rattle.lore_base.specs.Walks.{Walk}
 use Rattle.graph_search.proofs.PriceLaws.{IsPriced, sum_by-places}
-use Rattle.path_expr.specs.Machines.{Machine, IsIn, Runs, reads_on}
+use Rattle.path_expr.specs.Machines.{Machine, IsIn, MovesThrough, reads_on}
 use Rattle.product_walk.specs.ProductWalks.{IsAcceptedWalk, IsWalked, TakesReads, reads_out}
 use Rattle.path_expr.proofs.ReadsOnLaws.{reads_on-true}
 use Rattle.least_words.specs.Types.{Oid, Label, Edge, States, END, Place}
@@ -36,14 +36,14 @@ least_of_path labels edges machine x y word least path stands =
 module _ (labels : List (List ℕ)) (machine : Machine) (edges : List Edge) where
   -- a way through the product is a walk and a run
   walk_of : (word : List Label) (here there : Oid × ℕ) → LeadsAlong (LeadsBy labels machine edges) here word there
-      → Walk edges here.0 word there.0 × Runs labels machine here.1 word there.1
+      → Walk edges here.0 word there.0 × MovesThrough labels machine here.1 word there.1
   walk_of [] here there same = (ap (λ (p : Oid × ℕ). p.0) same, ap (λ (p : Oid × ℕ). p.1) same)
   walk_of (label ∷ word) here there along =
       let next : Oid × ℕ = along.0 in
       let rest = walk_of word next there along.2 in
       ((next.0, along.1.0, rest.0), (next.1, along.1.1, rest.1))
 
-  way_of : (word : List Label) (here there : Oid × ℕ) → Walk edges here.0 word there.0 → Runs labels machine here.1 word there.1
+  way_of : (word : List Label) (here there : Oid × ℕ) → Walk edges here.0 word there.0 → MovesThrough labels machine here.1 word there.1
       → LeadsAlong (LeadsBy labels machine edges) here word there
   way_of [] here there walked runs = λ i. (walked i, runs i)
   way_of (label ∷ word) here there walked runs =

@@ -7,7 +7,7 @@ use Rattle.lore_base.specs.Verdicts.{IsToldBy}
 use Rattle.lorel_trees.specs.Trees as t
 use Rattle.lorel_trees.specs.Trees.{SelectTree, StatementTree}
 use Rattle.doem_history.specs.Moments.{Moment}
-use Rattle.one_index.specs.Blocks.{graph_of, AreBlocksOf}
+use Rattle.one_index.specs.Blocks.{named_graph_of, AreBlocksOf}
 use Rattle.one_index.specs.declared.blocks.Block.{Block}
 use Rattle.block_lines.specs.BlockLines.{AreBlockLines}
 use Rattle.statements.specs.Types.{Oid, Value, Cell, Refusal}
@@ -62,7 +62,7 @@ not_blocked (Some own) none blocked is kept = none own refl
 pub still_blocks : (before : Database) (statement : StatementTree) → (IsChanging statement → ⊥) → (IsRestore statement → ⊥) → (reply : Reply)
     (after : Database) → Executes before statement reply after → (blocks : List Block) → AreBlocksIn before blocks → AreBlocksIn after blocks
 still_blocks before statement still stays reply after executed blocks are =
-    subst (λ (m : Moment). AreBlocksOf (graph_of m.names (map (λ (object : Oid × Value). object.0) m.objects) m.edges) blocks)
+    subst (λ (m : Moment). AreBlocksOf (named_graph_of m.names (map (λ (object : Oid × Value). object.0) m.objects) m.edges) blocks)
     (sym (still_present before statement still stays reply after executed)) are
 
 -- ---- whether they are kept

@@ -48,7 +48,7 @@ still_light state statement still plain full =
 
 -- what is done to the database is all that is done
 pub plain_does : (state : State) (statement : StatementTree) (reply : Reply) (db : Database) (after : State) → (IsOfSession statement → ⊥)
-    → databases.Performs state.db statement reply db → AppendsMoment state statement db after → Does state statement reply after
+    → databases.Fulfils state.db statement reply db → AppendsMoment state statement db after → Does state statement reply after
 plain_does state (t.history on) reply db after plain does goes = absurd (plain tt)
 plain_does state (t.select_at given query) reply db after plain does goes = absurd (plain tt)
 plain_does state (t.changes first last) reply db after plain does goes = absurd (plain tt)
@@ -193,7 +193,7 @@ module _ (db : Database) (reply : Reply) (then : Database) where
   alike : then ≡ db → Stays
   alike same = (ap (λ (d : Database). d.graph) same, ap (λ (d : Database). d.labels) same)
 
-  stayed : (statement : StatementTree) → (IsChanging statement → ⊥) → (IsRestore statement → ⊥) → databases.Performs db statement reply then → Stays
+  stayed : (statement : StatementTree) → (IsChanging statement → ⊥) → (IsRestore statement → ⊥) → databases.Fulfils db statement reply then → Stays
   stayed (t.select query) still stays does = alike does.0
   stayed (t.explain query) still stays does = alike does.0
   stayed t.guide still stays does = alike does.0
@@ -233,7 +233,7 @@ still_present db statement still stays reply then executed =
 -- ---- statements that make changes
 -- where nothing refuses it, what is executed is done
 done_only : (db : Database) (statement : StatementTree) (reply : Reply) (after : Database) → IsClear (Cause db statement) cause_order
-    → Executes db statement reply after → databases.Performs db statement reply after
+    → Executes db statement reply after → databases.Fulfils db statement reply after
 done_only db statement reply after clear (inl (also, does)) = does
 done_only db statement reply after clear (inr (refusal, first, (replied, same))) = absurd (first_clear refusal cause_order clear first)
   where

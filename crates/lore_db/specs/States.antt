@@ -198,7 +198,7 @@ Does before (unwatch name) reply after =
     Counts before.db reply × (after ≡ record before { views = remove_entry (is_at (bytes_cmp name)) before.views })
 Does before (show name) reply after = (after ≡ before) × OfView before name (AnswersNow before.db reply)
 Does before statement reply after =
-    (db : Database) × databases.Performs before.db statement reply db × AppendsMoment before statement db after
+    (db : Database) × databases.Fulfils before.db statement reply db × AppendsMoment before statement db after
 
 -- One statement.
 

@@ -1,7 +1,7 @@
 ghost use Rattle.std.specs.Prelude.{◌≡◌, ◌⊎◌, Some, None, IfSome, IfOk, IfErr, OnOk, OnErr};
 ghost use Rattle.lore_base.specs.Deltas.{IsDelta};
 ghost use Rattle.lore_base.specs.Verdicts.{IsToldBy};
-ghost use Rattle.lore_store.specs.Stores.{LeadsOn, database_then};
+ghost use Rattle.lore_store.specs.Stores.{IsPreparedFor, database_then};
 ghost use Rattle.lorel_trees.specs.Trees.{statement_tree};
 ghost use Rattle.lorel_trees.specs.Sound.{IsSound};
 ghost use Rattle.statements.specs.Types.refusals;
@@ -88,7 +88,7 @@ fn make(
     blocks: &mut Option<Blocks>,
     prepared: Prepared,
 ) -> Result<Reply, Stop>
-    requires leads { LeadsOn store.old.db store.old.guide prepared }
+    requires leads { IsPreparedFor store.old.db store.old.guide prepared }
     requires delta { IsDelta store.old.db.graph (database_then store.old.db prepared).graph
         prepared.graph.delta }
     requires last { IsLast history.old (present store.old.db) }

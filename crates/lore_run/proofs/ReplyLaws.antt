@@ -63,7 +63,7 @@ rows-some reply rows same =
     same-some reply (Rows rows) same
     (λ labels live. line-some (flat_map (row_line labels live) rows ++ codes "rows " ++ decimal (length rows)))
 
-performs-some : (before : Database) (statement : StatementTree) (reply : Reply) (after : Database) → databases.Performs before statement reply after → IsSome reply
+performs-some : (before : Database) (statement : StatementTree) (reply : Reply) (after : Database) → databases.Fulfils before statement reply after → IsSome reply
 performs-some before (select query) reply after (kept, (rows, same, answered)) = rows-some reply rows same
 performs-some before (explain query) reply after (kept, shown) =
     same-some reply (PlanShown shown.kind shown.candidates shown.found) shown.is

@@ -7,14 +7,14 @@ use Rattle.dataguide.specs.Guides.{GuideGraph}
 use Rattle.dataguide.specs.Deltas.{PlannedGuide}
 use Rattle.lore_store.specs.declared.indexes.Indexes.{Indexes}
 use Rattle.lore_store.specs.Indexes.{AreIndexes}
-use Rattle.lore_store.specs.Stores.{RoomyDatabase, PlannedDatabase, LeadsOn, IsStored, database_of, guide_then}
+use Rattle.lore_store.specs.Stores.{RoomyDatabase, PlannedDatabase, IsPreparedFor, IsStored, database_of, guide_then}
 
 -- what leads a store on as it is seen leads on what is inside
 pub leads_inside : (inside seen : RoomyDatabase) (plan given : PlannedDatabase) → inside ≡ seen → plan ≡ given
-    → LeadsOn seen.db seen.guide given → LeadsOn inside.db inside.guide plan
+    → IsPreparedFor seen.db seen.guide given → IsPreparedFor inside.db inside.guide plan
 leads_inside inside seen plan given same is leads =
-    subst (λ (s : RoomyDatabase). LeadsOn s.db s.guide plan) (sym same)
-    (subst (λ (p : PlannedDatabase). LeadsOn seen.db seen.guide p) (sym is) leads)
+    subst (λ (s : RoomyDatabase). IsPreparedFor s.db s.guide plan) (sym same)
+    (subst (λ (p : PlannedDatabase). IsPreparedFor seen.db seen.guide p) (sym is) leads)
 
 -- where no other guide is planned, the kept one stays
 pub kept_guide : (kept : GuideGraph) (planned : Option PlannedGuide) → ((other : PlannedGuide) → planned ≡ Some other → ⊥) → guide_then kept planned ≡ kept
@@ -23,7 +23,7 @@ kept_guide kept (Some other) none = absurd (none other refl)
 
 -- with the labels, the graph, the indexes and the guide that a plan leads to, a store is whole
 module _ (labels : List (List ℕ)) (graph : OemGraph) (limit : ℕ) (mode : Mode) (guide : GuideGraph) (plan : PlannedDatabase)
-    (leads : LeadsOn (database_of labels graph limit mode) guide plan) where
+    (leads : IsPreparedFor (database_of labels graph limit mode) guide plan) where
   pub stored_then : (labels_then : List (List ℕ)) (graph_is : OemGraph) (kept : Indexes) (guide_is : GuideGraph)
       → labels_then ≡ labels ++ plan.labels.come → graph_is ≡ graph_then graph plan.graph → guide_then guide plan.guide ≡ guide_is
       → AreIndexes (graph_then graph plan.graph) kept → IsStored (database_of labels_then graph_is limit mode) kept guide_is

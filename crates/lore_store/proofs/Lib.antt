@@ -2,6 +2,7 @@ pub mod SizeLaws
 pub mod IndexLaws
 pub mod NewLaws
 pub mod PreparedLaws
+pub mod CutLaws
 pub mod ReadLaws
 pub mod SameReadLaws
 pub mod LimitLaws

@@ -25,7 +25,7 @@ use Rattle.lore_base.specs.Deltas.{IsDelta}
 use Rattle.dataguide.specs.Guides.{GuideGraph, StandsFor, sets_of}
 use Rattle.dataguide.specs.Deltas.{StoodFor}
 use Rattle.dataguide.specs.GuideCauses.{GuideCause}
-use Rattle.lore_store.specs.Stores.{PlannedDatabase, database_then, order, IsGuided}
+use Rattle.lore_store.specs.Stores.{PlannedDatabase, database_then, store_order, IsGuided}
 use Rattle.lore_store.specs.inside.Sizes.{SizeCause}
 use Rattle.lore_store.specs.inside.Unlinked.{LinkNothing}
 
@@ -123,7 +123,7 @@ module _ (db : Database) (changes : Changes) (valid : IsValid db) (fits : Fits d
     pub leads_after : IsAfter db changes (database_then db plan)
     leads_after = record { labels = ap (λ l. db.labels ++ l) (labels ∙ labels_come); graph = graph; nodes = refl; mode = refl }
 
-    pub leads_valid : IsClear (SizeCause (database_then db plan).graph) order
+    pub leads_valid : IsClear (SizeCause (database_then db plan).graph) store_order
         → FitsGuide db.nodes (database_then db plan).graph.names (database_then db plan).graph.edges → IsValid (database_then db plan)
     leads_valid sized fits_guide = valid_after db changes (database_then db plan) valid fits leads_after
         (few NAMES (length (database_then db plan).graph.names) sized.0)

@@ -1,6 +1,6 @@
 -- What preparing a change reads: the search for what vanishes, the guide, and the objects whose entries may change. Together
 -- it is within four times the work of the change.
-use Rattle.std.proofs.Common.{◌≡◌, ◌≢◌, ◌↔◌, ◌==◌, inl, inr, ℕ, ◌*◌, ◌<◌, ◌≤◌, List, [], ◌∷◌, ◌++◌, length, AllPairs, Contains, refl, sym, ap, subst, arith}
+use Rattle.std.proofs.Common.{◌≡◌, ◌≢◌, ◌↔◌, ◌==◌, inl, inr, ℕ, ◌+◌, ◌*◌, ◌<◌, ◌≤◌, List, [], ◌∷◌, ◌++◌, length, AllPairs, Contains, refl, sym, ap, subst, arith}
 use Rattle.std.specs.List.{sum_by}
 use Rattle.std.proofs.lemmas.List.Elements.{All-contains}
 use Rattle.std.proofs.lemmas.List.Kept.{AllPairs-filter}
@@ -10,7 +10,7 @@ use Rattle.lore_base.specs.declared.values.Value.{Value}
 use Rattle.lore_base.specs.declared.deltas.Delta.{Delta}
 use Rattle.lore_base.specs.Walks.{out_of}
 use Rattle.lore_base.specs.TargetSets.{IsLedTo}
-use Rattle.lore_base.specs.Databases.{OemGraph, IsRooted, IsLinked, AreAscendingEdges}
+use Rattle.lore_base.specs.Databases.{OemGraph, IsRooted, IsLinked, IsLive, AreAscendingEdges}
 use Rattle.lore_base.specs.ChangeSets.{FitsGraph, IsOverlay, IsGraphAfter, IsReachedThen}
 use Rattle.lore_base.specs.Deltas.{IsOnlyIn, ListsOnlyIn, IsDelta}
 use Rattle.lore_base.proofs.MemberLaws.{Contains-filter, unfiltered}
@@ -20,6 +20,7 @@ use Rattle.list_laws.proofs.SumLaws.{distinct_no_longer}
 use Rattle.list_laws.proofs.MemberLaws.{All-from_members, Contains-from_map}
 use Rattle.oem_changes.proofs.DeterminedLaws.{one_between}
 use Rattle.oem_changes.proofs.GrowthLaws.{ascend-distinct}
+use Rattle.oem_changes.proofs.RootedLaws.{rooted_after}
 use Rattle.set_steps.specs.SetSteps.{reads_of}
 use Rattle.read_costs.specs.Spent.{IsSpent}
 use Rattle.read_costs.specs.ReadCosts.{out_reads, in_reads, link_reads}
@@ -27,14 +28,16 @@ use Rattle.read_costs.specs.Concerned.{IsBelow, IsInDoubt, IsNear, IsConcerned, 
 use Rattle.read_costs.specs.Work.{IsWithinWork}
 use Rattle.read_costs.proofs.SumLaws.{sum_by-wider}
 use Rattle.read_costs.proofs.SpentLaws.{IsSpent-exact, IsSpent-wider}
-use Rattle.read_costs.proofs.WorkLaws.{work_searched, work_explored, work_prepared}
+use Rattle.read_costs.proofs.WorkLaws.{work_searched, work_told, work_told_explored}
 use Rattle.dataguide.specs.Touched as guides
 use Rattle.dataguide.specs.Touched.{ReadsTouched, ReadsSome, parents_of}
+use Rattle.dataguide.specs.Changes.{TellsEntering}
 use Rattle.dataguide.proofs.ReadBounds.{reads-within}
 use Rattle.value_changes.specs.Reads.{AreRead, IsChanged, ReadsChanged}
 use Rattle.oem_reach.proofs.DoubtLaws.{told_reached}
 use Rattle.lore_store.specs.Types.{Changes}
 use Rattle.lore_store.specs.Reads.{ReadsWithinWork}
+use Rattle.lore_store.specs.inside.Cuts.{AreCutLinks, ReadsChildren}
 
 -- of fewer edges no more leave an object
 fewer : (edges more : List Edge) → AreAscendingEdges edges → ((edge : Edge) → Contains edges edge → Contains more edge)
@@ -204,23 +207,64 @@ module _ (before : OemGraph) (changes : Changes) (between lost fresh : List Edge
   within_work old now within =
       (after, leads, subst (λ (l : List Edge). IsWithinWork 4 before changes l after old now) (sym same_between) within)
 
+  -- ---- what enters the children of cut edges
+  -- an object that stays is reached then
+  live_reached : (oid : Oid) → IsLive after.objects oid → IsReachedThen before.names changes between oid
+  live_reached oid live =
+      subst (λ (l : List Edge). IsReachedThen before.names changes l oid) same_between ((leads.objects (oid, live.0)).0 live.1).1
+
+  -- and what an edge leaves afterwards stays
+  parent_live : (edge : Edge) → Contains after.edges edge → IsLive after.objects edge.parent
+  parent_live edge at =
+      let formed = (rooted_after before changes rooted.well_formed fits after leads).well_formed in
+      let linked = All-contains (IsLinked after.objects) after.edges edge formed.edges_linked at in
+      (_, linked.parent)
+
+  pub cut_tells : (oids : List Oid) (entering : List Edge) → AreCutLinks between after.objects oids entering
+      → TellsEntering after.edges oids entering
+  cut_tells oids entering are = record {
+    ascend = are.ascend;
+    exact = λ edge. (
+      λ at. (
+          let both = (are.exact edge).0 at in
+          ((after_edges edge).1 (both.0.0, live_reached edge.parent both.1), both.0.1)),
+      λ both. (are.exact edge).1 ((((after_edges edge).0 both.0).0, both.1), parent_live edge both.0),
+    );
+  }
+
+  -- the child of a lost edge lies below a cut
+  child_below : (edge : Edge) → Contains lost edge → IsBelow before changes between edge.child
+  child_below edge at = (edge.child, [], inl (edge, (overlay.lost_exact edge).0 at, refl), refl)
+
+  pub cut_spent : (cut : List Edge) → ((edge : Edge) → Contains cut edge → Contains lost edge) → (old now : ℕ)
+      → ReadsChildren between cut old now → IsSpent (IsConcerned before changes between) (in_reads between) old now
+  cut_spent cut within old now reads =
+      IsSpent-exact (IsConcerned before changes between) (in_reads between) reads.oids old now
+      (ascend_apart reads.oids reads.children.ascending)
+      (All-from_members (IsConcerned before changes between) reads.oids (λ oid at.
+      let from = Contains-from_map (λ (edge : Edge). edge.child) cut oid ((reads.children.exact oid).0 at) in
+      subst (IsConcerned before changes between) from.2 (inl (child_below from.0 (within from.0 from.1)))))
+      (reads.counted overlay.linked.ascend)
+
   -- a change that was refused for its sizes
   pub searched_within : (t0 t1 : ℕ) → IsSpent (IsInDoubt before changes between) (λ oid. 2 * link_reads between oid) t0 t1
       → ReadsWithinWork before changes t0 t1
   searched_within t0 t1 dead = within_work t0 t1 (work_searched before changes between after t0 t1 dead)
 
   -- one that was refused for its guide
-  pub explored_within : (t0 t1 t2 : ℕ) → IsSpent (IsInDoubt before changes between) (λ oid. 2 * link_reads between oid) t0 t1
-      → IsSpent (IsTouched before changes after) (reads_of after.edges) t1 t2 → ReadsWithinWork before changes t0 t2
-  explored_within t0 t1 t2 dead guide =
-      within_work t0 t2 (work_explored before changes between after t0 t1 t2 dead (guide_spent t1 t2 guide))
+  pub explored_within : (t0 t1 t2 t3 : ℕ) → IsSpent (IsInDoubt before changes between) (λ oid. 2 * link_reads between oid) t0 t1
+      → IsSpent (IsConcerned before changes between) (in_reads between) t1 t2
+      → IsSpent (IsTouched before changes after) (reads_of after.edges) t2 t3 → ReadsWithinWork before changes t0 t3
+  explored_within t0 t1 t2 t3 dead cut guide =
+      within_work t0 t3 (work_told_explored before changes between after t0 t1 t2 t3 dead cut (guide_spent t2 t3 guide))
 
   -- and one that was prepared
-  pub prepared_within : (delta : Delta) → IsDelta before after delta → (t0 t1 t2 t3 : ℕ)
+  pub prepared_within : (delta : Delta) → IsDelta before after delta → (t0 t1 t2 t3 t4 : ℕ)
       → IsSpent (IsInDoubt before changes between) (λ oid. 2 * link_reads between oid) t0 t1
-      → IsSpent (IsTouched before changes after) (reads_of after.edges) t1 t2
-      → ReadsChanged between delta.edges_gone delta.edges_come delta.objects_come before.objects after.objects t2 t3
-      → ReadsWithinWork before changes t0 t3
-  prepared_within delta differ t0 t1 t2 t3 dead guide entries =
-      within_work t0 t3 (work_prepared before changes between after t0 t1 t2 t3 dead (guide_spent t1 t2 guide)
-      (changed_spent delta differ t2 t3 entries))
+      → IsSpent (IsConcerned before changes between) (in_reads between) t1 t2
+      → IsSpent (IsTouched before changes after) (reads_of after.edges) t2 t3
+      → ReadsChanged between delta.edges_gone delta.edges_come delta.objects_come before.objects after.objects t3 t4
+      → ReadsWithinWork before changes t0 t4
+  prepared_within delta differ t0 t1 t2 t3 t4 dead cut guide entries =
+      within_work t0 t4 (work_told before changes between after t0 t1 t2 t3 t4 dead cut (guide_spent t2 t3 guide)
+      (changed_spent delta differ t3 t4 entries))

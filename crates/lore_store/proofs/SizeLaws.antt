@@ -12,7 +12,7 @@ use Rattle.dataguide.specs.Types.faults as guides
 use Rattle.dataguide.specs.GuideCauses.{GuideCause}
 use Rattle.guide_laws.proofs.LimitLaws.{fitting_passes_none, one_limit_is_passed}
 use Rattle.lore_store.specs.Faults.{refusal_of, guide_fault}
-use Rattle.lore_store.specs.Stores.{order}
+use Rattle.lore_store.specs.Stores.{store_order}
 use Rattle.lore_store.specs.inside.Sizes.{SizeCause, SetsCause, sets_order}
 use Rattle.oem_changes.proofs.DeterminedLaws.{one_after}
 
@@ -42,7 +42,7 @@ module _ (db : Database) (changes : Changes) (after : OemGraph) (h : IsGraphAfte
   few_cells many = subst (λ (g : OemGraph). ExceedsCells db.nodes g.names g.edges) (one_after db.graph changes many.0 after many.1 h) many.2
 
   -- where nothing is too large, nothing is refused
-  pub sized_clear : IsClear (SizeCause after) order → FitsGuide db.nodes after.names after.edges → IsClear (DatabaseCause db changes) order
+  pub sized_clear : IsClear (SizeCause after) store_order → FitsGuide db.nodes after.names after.edges → IsClear (DatabaseCause db changes) store_order
   sized_clear (names, (objects, (edges, end))) fits =
       let none = fitting_passes_none db.nodes after.names after.edges fits in (
         λ many. names (few_names many),
@@ -55,7 +55,7 @@ module _ (db : Database) (changes : Changes) (after : OemGraph) (h : IsGraphAfte
         ),
       )
 
-  sized_first : (refusal : Refusal) → IsFirst (SizeCause after) order refusal → IsFirst (DatabaseCause db changes) order refusal
+  sized_first : (refusal : Refusal) → IsFirst (SizeCause after) store_order refusal → IsFirst (DatabaseCause db changes) store_order refusal
   sized_first refusal (inl (many, is)) = inl ((after, h, many), is)
   sized_first refusal (inr (names, inl (many, is))) = inr (λ some. names (few_names some), inl ((after, h, many), is))
   sized_first refusal (inr (names, inr (objects, inl (many, is)))) =
@@ -65,13 +65,13 @@ module _ (db : Database) (changes : Changes) (after : OemGraph) (h : IsGraphAfte
   sized_first refusal (inr (names, inr (objects, inr (edges, inr (none, inr (small, end)))))) = absurd end
 
   -- where the graph is too large, its first cause refuses the changes
-  pub sized_told : (told : Option Refusal) → IsToldBy (SizeCause after) order told → IsToldBy (DatabaseCause db changes) order told
+  pub sized_told : (told : Option Refusal) → IsToldBy (SizeCause after) store_order told → IsToldBy (DatabaseCause db changes) store_order told
   sized_told None first = tt
   sized_told (Some refusal) first = sized_first refusal first
 
   -- what is first among the causes of the guide is first where the graph isn't too large
-  sized_on : IsClear (SizeCause after) order → (refusal : Refusal) → IsFirst (DatabaseCause db changes) sets_order refusal
-      → IsFirst (DatabaseCause db changes) order refusal
+  sized_on : IsClear (SizeCause after) store_order → (refusal : Refusal) → IsFirst (DatabaseCause db changes) sets_order refusal
+      → IsFirst (DatabaseCause db changes) store_order refusal
   sized_on (names, (objects, (edges, end))) refusal first =
       inr (λ some. names (few_names some), inr (λ some. objects (few_objects some), inr (λ some. edges (few_edges some), first)))
 
@@ -81,7 +81,7 @@ module _ (db : Database) (changes : Changes) (after : OemGraph) (h : IsGraphAfte
   guided_first refusal (inr (few, inr (small, end))) = absurd end
 
   -- and where only its guide is, that does
-  pub guided_told : IsClear (SizeCause after) order → (told : Option Refusal) → IsToldBy (SetsCause db.nodes after) sets_order told
-      → IsToldBy (DatabaseCause db changes) order told
+  pub guided_told : IsClear (SizeCause after) store_order → (told : Option Refusal) → IsToldBy (SetsCause db.nodes after) sets_order told
+      → IsToldBy (DatabaseCause db changes) store_order told
   guided_told sized None first = tt
   guided_told sized (Some refusal) first = sized_on sized refusal (guided_first refusal first)

@@ -57,8 +57,8 @@ abbrev pub guide_then : GuideGraph → Option PlannedGuide → GuideGraph
 guide_then kept None = kept
 guide_then kept (Some plan) = guides.guide_then kept.nodes plan
 
--- the plan leads from the database and its guide to a valid one and its guide, in all that is kept of it
-pub record LeadsOn (before : Database) (guide : GuideGraph) (plan : PlannedDatabase) : Type 0 where
+-- the plan is prepared for the database and its guide: it leads to a valid one and its guide, in all that is kept of it
+pub record IsPreparedFor (before : Database) (guide : GuideGraph) (plan : PlannedDatabase) : Type 0 where
   pub valid : IsValid (database_then before plan)
   pub labels : LeadsFrom before.labels plan.labels
   pub indexes : AreIndexed before.graph (database_then before plan).graph plan.indexes
@@ -71,8 +71,8 @@ pub record HasRoomFor (store : RoomyDatabase) (plan : PlannedDatabase) : Type 0 
   pub indexes : HasIndexRoom store.indexes plan.indexes
 
 -- the order in which causes of refusals are tried
-abbrev pub order : List Refusal
-order =
+abbrev pub store_order : List Refusal
+store_order =
     refusals.TooManyNames ∷ refusals.TooManyObjects ∷ refusals.TooManyEdges
     ∷ refusals.GuideNodes ∷ refusals.GuideCells ∷ []
 

@@ -3,3 +3,4 @@ pub mod Fitting
 pub mod Parts
 pub mod Sizes
 pub mod Unlinked
+pub mod Cuts

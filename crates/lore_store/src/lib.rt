@@ -9,6 +9,7 @@ pub use faults::{RestoreFault, StoreFault};
 pub use prepared::Prepared;
 pub use store::Store;
 
+mod cuts;
 mod faults;
 mod indexes;
 mod prepared;

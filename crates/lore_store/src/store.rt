@@ -9,10 +9,11 @@ ghost use Rattle.lore_base.specs.ChangeCauses.{DatabaseCause};
 ghost use Rattle.lore_base.specs.Verdicts.{IsClear, IsToldBy};
 ghost use Rattle.set_steps.specs.SetSteps.{reads_of};
 ghost use Rattle.read_costs.specs.Spent.{IsSpent};
-ghost use Rattle.read_costs.specs.ReadCosts.{link_reads};
-ghost use Rattle.read_costs.specs.Concerned.{IsInDoubt, IsTouched};
+ghost use Rattle.read_costs.specs.ReadCosts.{link_reads, in_reads};
+ghost use Rattle.read_costs.specs.Concerned.{IsInDoubt, IsConcerned, IsTouched};
 ghost use Rattle.oem_graph.specs.Plans.{graph_then};
 ghost use Rattle.dataguide.specs.Deltas.{IsReady};
+ghost use Rattle.dataguide.specs.Changes.{TellsEntering};
 ghost use Rattle.lore_base.specs.Restores.{IsWhole, database_from};
 ghost use Rattle.oem_labels.specs.Labels.{AreLabels, LeadsFrom, first_uses};
 ghost use Rattle.value_changes.specs.Reads.{ReadsChanged};
@@ -21,20 +22,21 @@ ghost use Rattle.lore_store.specs.declared.faults.StoreFault.TheVariants as faul
 ghost use Rattle.lore_store.specs.Faults.{refusal_of, RestoreCause};
 ghost use Rattle.lore_store.specs.Reads.{ReadsWithinWork};
 ghost use Rattle.lore_store.specs.Stores as spec;
-ghost use Rattle.lore_store.specs.Stores.{database_then, LeadsOn, HasRoomFor, IsGuided};
-ghost use Rattle.lore_store.specs.Stores.{IsLimit, IsStored, database_of, order};
+ghost use Rattle.lore_store.specs.Stores.{database_then, IsPreparedFor, HasRoomFor, IsGuided};
+ghost use Rattle.lore_store.specs.Stores.{IsLimit, IsStored, database_of, store_order};
 ghost use Rattle.lore_store.specs.Types.{EDGES as THE_EDGES};
 ghost use Rattle.lore_store.specs.Indexes.{AreIndexed, AreIndexes};
 ghost use Rattle.lore_store.specs.inside.Parts.{plan_with, StaysWithinWork};
 ghost use Rattle.lore_store.specs.inside.Sizes.{SizeCause, SetsCause, sets_order};
 ghost use Rattle.lore_store.specs.inside.Unlinked.{LinkNothing};
 
+use crate::cuts::{CutLinks, cut_links, few_of};
 use crate::faults::{RestoreFault, StoreFault};
 use crate::indexes::{
     IndexPlan, Indexes, built_indexes, commit_indexes, planned_indexes, reserve_indexes,
 };
 use crate::prepared::{OtherParts, Prepared, prepared_of};
-use dataguide::{Guide, GuideDelta};
+use dataguide::{Entered, Guide, GuideDelta};
 use link_index::LinkIndex;
 use lore_base::limits::{EDGES, NAMES, NODES, OBJECTS, START_NODES};
 use lore_base::{Changes, Mode, NoMemory, OidBuf, Restored, Steps, TextList};
@@ -184,12 +186,12 @@ impl Store {
         requires fits { Fits self.now.db changes.now }
         ensures after { IfOk result (λ plan.
             IsAfter self.now.db changes.now (database_then self.now.db plan)) }
-        ensures leads { IfOk result (λ plan. LeadsOn self.now.db self.now.guide plan) }
+        ensures leads { IfOk result (λ plan. IsPreparedFor self.now.db self.now.guide plan) }
         ensures delta { IfOk result (λ plan. IsDelta self.now.db.graph
             (database_then self.now.db plan).graph plan.graph.delta) }
-        ensures ok { OnOk result (IsClear (DatabaseCause self.now.db changes.now) order) }
+        ensures ok { OnOk result (IsClear (DatabaseCause self.now.db changes.now) store_order) }
         ensures err { let cause = DatabaseCause self.now.db changes.now in
-            IfErr result (λ fault. IsToldBy cause order (refusal_of fault)) }
+            IfErr result (λ fault. IsToldBy cause store_order (refusal_of fault)) }
         ensures reads { OnOk result
             (ReadsWithinWork self.now.db.graph changes.now steps.old steps.new) }
         ensures refused { IfErr result (λ given. (given ≡ fault.NoMemory → ⊥)
@@ -215,7 +217,7 @@ impl Store {
 
     /// Puts in place what was prepared. Takes no memory.
     pub fn commit(&mut self, prepared: Prepared)
-        requires leads { LeadsOn self.old.db self.old.guide prepared }
+        requires leads { IsPreparedFor self.old.db self.old.guide prepared }
         requires room { HasRoomFor self.old prepared }
         ensures { self.new.db ≡ database_then self.old.db prepared }
     {
@@ -316,12 +318,12 @@ impl Store {
             overlay.now.lost overlay.now.fresh }
         ensures after { IfOk result (λ plan.
             IsAfter self.now.db changes.now (database_then self.now.db plan)) }
-        ensures leads { IfOk result (λ plan. LeadsOn self.now.db self.now.guide plan) }
+        ensures leads { IfOk result (λ plan. IsPreparedFor self.now.db self.now.guide plan) }
         ensures delta { IfOk result (λ plan. IsDelta self.now.db.graph
             (database_then self.now.db plan).graph plan.graph.delta) }
-        ensures ok { OnOk result (IsClear (DatabaseCause self.now.db changes.now) order) }
+        ensures ok { OnOk result (IsClear (DatabaseCause self.now.db changes.now) store_order) }
         ensures err { let cause = DatabaseCause self.now.db changes.now in
-            IfErr result (λ fault. IsToldBy cause order (refusal_of fault)) }
+            IfErr result (λ fault. IsToldBy cause store_order (refusal_of fault)) }
         ensures reads { OnOk result
             (ReadsWithinWork self.now.db.graph changes.now steps.old steps.new) }
         ensures refused { IfErr result (λ given. (given ≡ fault.NoMemory → ⊥)
@@ -359,10 +361,10 @@ impl Store {
         ensures after { IfOk result (λ parts. IsAfter self.now.db changes.now
             (database_then self.now.db (plan_with plan.now parts))) }
         ensures leads { IfOk result (λ parts.
-            LeadsOn self.now.db self.now.guide (plan_with plan.now parts)) }
-        ensures ok { OnOk result (IsClear (DatabaseCause self.now.db changes.now) order) }
+            IsPreparedFor self.now.db self.now.guide (plan_with plan.now parts)) }
+        ensures ok { OnOk result (IsClear (DatabaseCause self.now.db changes.now) store_order) }
         ensures err { let cause = DatabaseCause self.now.db changes.now in
-            IfErr result (λ fault. IsToldBy cause order (refusal_of fault)) }
+            IfErr result (λ fault. IsToldBy cause store_order (refusal_of fault)) }
         ensures reads { OnOk result (StaysWithinWork self.now.db.graph changes.now
             overlay.now.edges steps.old steps.new) }
         ensures refused { IfErr result (λ given. (given ≡ fault.NoMemory → ⊥)
@@ -372,7 +374,10 @@ impl Store {
         // That the database is valid is known where its graph is looked at.
         let _valid = self.graph();
         self.check_sizes(plan)?;
-        let guide = self.guide_then(changes, plan, steps)?;
+        let cut = self.links_cut(alloc, changes, overlay, plan, steps)?;
+        let planned = self.guide_then(changes, plan, &cut, steps);
+        drop(cut);
+        let guide = planned?;
         match self.labels_and_entries(alloc, changes, overlay, plan, steps) {
             Ok((labels, indexes)) => Ok(OtherParts {
                 labels,
@@ -402,7 +407,7 @@ impl Store {
             (graph_then self.now.db.graph plan.now) }
         requires delta { IsDelta self.now.db.graph (graph_then self.now.db.graph plan.now)
             plan.now.delta }
-        requires sized { IsClear (SizeCause (graph_then self.now.db.graph plan.now)) order }
+        requires sized { IsClear (SizeCause (graph_then self.now.db.graph plan.now)) store_order }
         ensures come { IfOk result (λ parts.
             parts.0.come ≡ first_uses self.now.db.labels changes.now.labels) }
         ensures leads { IfOk result (λ parts. LeadsFrom self.now.db.labels parts.0) }
@@ -448,12 +453,43 @@ impl Store {
         dead_objects(alloc, names, overlay, lost, fresh, changes, steps)
     }
 
+    // The children of the edges that the changes take away, if these are few, and the edges that enter
+    // them in the graph that the plan leads to. The overlay has more: those that leave what vanishes.
+    fn links_cut<L: Ledger>(
+        &self,
+        alloc: Global,
+        changes: &Changes,
+        overlay: &Overlay,
+        plan: &GraphPlan,
+        steps: &mut Steps<L>,
+    ) -> Result<CutLinks, NoMemory>
+        requires fits { FitsGraph self.now.db.graph changes.now }
+        requires overlay { IsOverlay self.now.db.graph.edges changes.now overlay.now.edges
+            overlay.now.lost overlay.now.fresh }
+        requires after { IsGraphAfter self.now.db.graph changes.now
+            (graph_then self.now.db.graph plan.now) }
+        ensures tells { IfOk result (λ cut. TellsEntering
+            (graph_then self.now.db.graph plan.now).edges cut.oids cut.edges) }
+        ensures spent { let between = overlay.now.edges in
+            OnOk result (IsSpent (IsConcerned self.now.db.graph changes.now between)
+            (in_reads between) steps.old steps.new) }
+    {
+        // Only the clauses speak of the changes.
+        let _ = changes;
+        let then = self.graph.then(plan);
+        let lost = overlay.lost();
+        let edges = few_of(lost.as_slice());
+        let cut = cut_links(alloc, edges, overlay, &then, steps)?;
+        Ok(cut)
+    }
+
     // The guide of the graph that the plan leads to. None where nothing is linked anew, and so the
     // guide stays.
     fn guide_then<L: Ledger>(
         &self,
         changes: &Changes,
         plan: &GraphPlan,
+        cut: &CutLinks,
         steps: &mut Steps<L>,
     ) -> Result<Option<GuideDelta>, StoreFault>
         requires fits { FitsGraph self.now.db.graph changes.now }
@@ -461,6 +497,8 @@ impl Store {
             (graph_then self.now.db.graph plan.now) }
         requires delta { IsDelta self.now.db.graph (graph_then self.now.db.graph plan.now)
             plan.now.delta }
+        requires tells { TellsEntering (graph_then self.now.db.graph plan.now).edges cut.now.oids
+            cut.now.edges }
         ensures guided { let after = graph_then self.now.db.graph plan.now in
             IfOk result (λ guide. IsGuided after (spec.guide_then self.now.guide guide)) }
         ensures ready { IfOk result (λ guide. IfSome guide (IsReady self.now.guide.nodes)) }
@@ -484,11 +522,17 @@ impl Store {
         let delta = plan.delta();
         let (lost, fresh) = (delta.edges_gone.as_slice(), delta.edges_come.as_slice());
         let names = plan.names();
+        let edges = cut.edges.as_slice();
+        let entered = Entered {
+            oids: &cut.oids,
+            edges,
+        };
         let guide = guide_maintain::plan(
             &self.guide,
             &then,
             lost,
             fresh,
+            &entered,
             names,
             self.limit,
             steps,
@@ -499,9 +543,9 @@ impl Store {
     // Refuses a plan after which the database would hold too much.
     fn check_sizes(&self, plan: &GraphPlan) -> Result<(), StoreFault>
         ensures ok { let after = graph_then self.now.db.graph plan.now in
-            OnOk result (IsClear (SizeCause after) order) }
+            OnOk result (IsClear (SizeCause after) store_order) }
         ensures err { let after = graph_then self.now.db.graph plan.now in
-            IfErr result (λ fault. IsToldBy (SizeCause after) order (refusal_of fault)) }
+            IfErr result (λ fault. IsToldBy (SizeCause after) store_order (refusal_of fault)) }
     {
         if plan.names_len() > NAMES {
             return Err(StoreFault::TooManyNames);

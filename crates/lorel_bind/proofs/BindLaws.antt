@@ -18,10 +18,10 @@ use Rattle.lorel_ranges.specs.Places as p
 use Rattle.lorel_ranges.specs.Places.{Scope, place_of}
 use Rattle.lorel_bound.specs.Conditions.{CondOf, exists, for_all}
 use Rattle.lorel_ranges.specs.Conditions.{cond_in}
-use Rattle.lorel_ranges.specs.Ranges.{Range, IsFixed, places}
+use Rattle.lorel_ranges.specs.Ranges.{PlacedRange, IsFixed, places}
 use Rattle.lorel_bound.specs.Bound as b
 use Rattle.lorel_bound.specs.Bound.{BoundPathTree, bound_path, bound_cond}
-use Rattle.lorel_bind.specs.Bindings.{StandsForAny, IsBoundPath, Correspond}
+use Rattle.lorel_bind.specs.Bindings.{IsBoundStart, IsBoundPath, Correspond}
 use Rattle.lorel_ranges.specs.Texts.{depth_of_all}
 use Rattle.lorel_ranges.specs.Scopes.{enclosed, IsScope, names_of}
 use Rattle.lorel_ranges.specs.Views.{root_tree, place_tree, place_trees, prefix_of, ranges_of, texts}
@@ -106,7 +106,7 @@ module _ (binder : Binder) (around : List (Bor (List ℕ))) where
   -- what is left is bound behind the longest prefix that is a range
   pub bound_rooted : (path : Rooted) (place prefix : Place) (len : ℕ) (start : BoundStart) (rest : Path)
       → ((scope : Scope) → IsScope (names_of binder.variables.now) scope → place_tree place ≡ place_of (enclosed 0 (texts around) scope) (rooted_tree path))
-      → ((ranges : List Range) → places ranges ≡ place_trees binder.plain.now
+      → ((ranges : List PlacedRange) → places ranges ≡ place_trees binder.plain.now
       → IsFixed ranges (place_tree place) (prefix_of len (place_tree place)) (drop len (place_tree place).parts))
       → prefix.root ≡ place.root → prefix.parts.now ≡ take len place.parts.now
       → path_tree rest ≡ seq (trees_of (map path_tree (drop len place.parts.now)))
@@ -125,6 +125,6 @@ module _ (binder : Binder) (around : List (Bor (List ℕ))) where
         fixed = prefix_of len (place_tree place);
         rest = drop len (place_tree place).parts;
         is_fixed = is_fixed;
-        begins = subst (λ (p : p.Place). StandsForAny names fused p start) at (starts (subst (CanStartAny names fused) (sym at) has));
+        begins = subst (λ (p : p.Place). IsBoundStart names fused p start) at (starts (subst (CanStartAny names fused) (sym at) has));
         goes_on = ends ∙ ap (λ (ps : List PathTree). seq (trees_of ps)) (sym (drop-map path_tree len place.parts.now));
       })

@@ -6,44 +6,44 @@ use Rattle.lore_base.specs.Paths.{PathTree, trees_of, leaves_of}
 use Rattle.lorel_trees.specs.Trees.{FromTree, SelectTree}
 use Rattle.lorel_ranges.specs.Places.{ranged, Place, at_root, beyond, Scope, place_of, scope_behind, cell_places}
 use Rattle.lorel_ranges.specs.Conditions.{cond_places}
-use Rattle.lorel_ranges.specs.Ranges.{Range, prefix_ranges, path_ranges, from_item_ranges, from_ranges, made_ranges, AreGathered, ArePlain, joined, IsUsed, Fuses, FusesTimes, AreFused, IsFixed}
+use Rattle.lorel_ranges.specs.Ranges.{PlacedRange, prefix_ranges, path_ranges, from_item_ranges, from_ranges, made_ranges, AreGathered, ArePlain, joined_range, IsUsed, Fuses, FusesTimes, AreFused, IsFixed}
 use Rattle.lorel_ranges.specs.Texts.{from_places, text_places}
 use Rattle.lorel_bind.specs.Refusals.{leaves_in}
 
 -- the leaves of the paths of ranges
-abbrev pub range_leaves : List Range → ℕ
+abbrev pub range_leaves : List PlacedRange → ℕ
 range_leaves ranges = sum_by (λ range. leaves_of (trees_of range.parts)) ranges
 
 pub leaves_append : (parts more : List PathTree) → leaves_of (trees_of (parts ++ more)) ≡ leaves_of (trees_of parts) + leaves_of (trees_of more)
 leaves_append [] more = omega arith
 leaves_append (part ∷ parts) more = let later = leaves_append parts more in omega arith
 
-leaves_joined : (front back : List Range) → range_leaves (front ++ back) ≡ range_leaves front + range_leaves back
-leaves_joined front back = sum_by-append (λ (r : Range). leaves_of (trees_of r.parts)) front back
+leaves_joined : (front back : List PlacedRange) → range_leaves (front ++ back) ≡ range_leaves front + range_leaves back
+leaves_joined front back = sum_by-append (λ (r : PlacedRange). leaves_of (trees_of r.parts)) front back
 
-leaves_more : (range : Range) (others : List Range) → range_leaves (range ∷ others) ≡ leaves_of (trees_of range.parts) + range_leaves others
-leaves_more range others = sum_by-cons (λ (r : Range). leaves_of (trees_of r.parts)) range others
+leaves_more : (range : PlacedRange) (others : List PlacedRange) → range_leaves (range ∷ others) ≡ leaves_of (trees_of range.parts) + range_leaves others
+leaves_more range others = sum_by-cons (λ (r : PlacedRange). leaves_of (trees_of r.parts)) range others
 
 -- ---- fusing keeps the leaves
-Fuses-leaves : (Used : Place → Type 0) (old new : List Range) → Fuses Used old new → range_leaves new ≡ range_leaves old
+Fuses-leaves : (Used : Place → Type 0) (old new : List PlacedRange) → Fuses Used old new → range_leaves new ≡ range_leaves old
 Fuses-leaves Used old new f =
     let was = ap range_leaves f.was ∙ leaves_joined f.front (f.range ∷ (f.middle ++ f.other ∷ f.back)) in
     let was_range = leaves_more f.range (f.middle ++ f.other ∷ f.back) in
     let was_behind = leaves_joined f.middle (f.other ∷ f.back) in
     let was_other = leaves_more f.other f.back in
-    let is = ap range_leaves f.is ∙ leaves_joined f.front (f.middle ++ joined f.range f.other ∷ f.back) in
-    let is_behind = leaves_joined f.middle (joined f.range f.other ∷ f.back) in
-    let is_other = leaves_more (joined f.range f.other) f.back in
+    let is = ap range_leaves f.is ∙ leaves_joined f.front (f.middle ++ joined_range f.range f.other ∷ f.back) in
+    let is_behind = leaves_joined f.middle (joined_range f.range f.other ∷ f.back) in
+    let is_other = leaves_more (joined_range f.range f.other) f.back in
     let both = leaves_append f.range.parts f.other.parts in
     omega arith
 
-FusesTimes-leaves : (Used : Place → Type 0) (times : ℕ) (old new : List Range) → FusesTimes Used times old new → range_leaves new ≡ range_leaves old
+FusesTimes-leaves : (Used : Place → Type 0) (times : ℕ) (old new : List PlacedRange) → FusesTimes Used times old new → range_leaves new ≡ range_leaves old
 FusesTimes-leaves Used zero old new steps = ap range_leaves (sym steps)
 FusesTimes-leaves Used (suc times) old new steps =
     FusesTimes-leaves Used times steps.0 new steps.2 ∙ Fuses-leaves Used old steps.0 steps.1
 
 -- ---- plain ranges have no more leaves than those that are made
-gathered_leaves : (earlier made ranges : List Range) → AreGathered earlier made ranges → range_leaves ranges ≤ range_leaves earlier + range_leaves made
+gathered_leaves : (earlier made ranges : List PlacedRange) → AreGathered earlier made ranges → range_leaves ranges ≤ range_leaves earlier + range_leaves made
 gathered_leaves earlier [] ranges same = let sum = ap range_leaves same in omega arith
 gathered_leaves earlier (range ∷ made) ranges (inl there) =
     let later = gathered_leaves earlier made ranges there.1 in
@@ -95,7 +95,7 @@ from_leaves scope (item ∷ items) =
     omega arith
 
 -- fused ranges have no more leaves than the paths of from items and items
-pub fused_leaves : (query : SelectTree) (plain fused : List Range) → ArePlain query plain → AreFused (IsUsed query plain) plain fused
+pub fused_leaves : (query : SelectTree) (plain fused : List PlacedRange) → ArePlain query plain → AreFused (IsUsed query plain) plain fused
     → range_leaves fused + leaves_in (cond_places query) ≤ leaves_in (text_places query)
 fused_leaves query plain fused gathered are =
     let from = from_places [] query.tail.ranges in
@@ -109,7 +109,7 @@ fused_leaves query plain fused gathered are =
     omega arith
 
 -- the rest of a path has no more leaves than the path
-pub rest_leaves : (ranges : List Range) (path fixed : Place) (rest : List PathTree) → IsFixed ranges path fixed rest
+pub rest_leaves : (ranges : List PlacedRange) (path fixed : Place) (rest : List PathTree) → IsFixed ranges path fixed rest
     → leaves_of (trees_of rest) ≤ leaves_of (trees_of path.parts)
 rest_leaves ranges path fixed rest is =
     let whole = ap (λ (p : Place). leaves_of (trees_of p.parts)) is.is ∙ leaves_append fixed.parts rest in

@@ -13,7 +13,7 @@ use Rattle.lorel_bind.specs.Types.bound_starts
 use Rattle.lorel_ranges.specs.Places.{Place, at_root, cell_places, CellPlace, object, word, cells_of}
 use Rattle.lorel_bound.specs.Conditions.{OperandOf, constant, at, CondOf, or, and, not, exists, for_all, compare, same, CondsOf, no_cond, cond, operand_paths, paths_of, paths_of_all, paths_in}
 use Rattle.lorel_ranges.specs.Conditions.{cond_of, cond_places}
-use Rattle.lorel_ranges.specs.Ranges.{Range, places, joined, ArePlain, IsUsed, IsFixed, Fuses, FusesTimes, AreFused}
+use Rattle.lorel_ranges.specs.Ranges.{PlacedRange, places, joined_range, ArePlain, IsUsed, IsFixed, Fuses, FusesTimes, AreFused}
 use Rattle.lorel_ranges.specs.Texts.{text_places, ranged_identifiers}
 use Rattle.lorel_bind.specs.Refusals.{StartsNowhere, HasTooMany, IsRefusedBy, IsAccepted}
 use Rattle.lorel_bound.specs.Bound.{BoundTree}
@@ -35,7 +35,7 @@ use Rattle.lorel_bind.proofs.SlotLaws.{pairs_where}
 
 -- ---- what fused ranges start at
 -- each starts at a name or at one of them
-found_among : (all earlier : List Place) (ranges : List Range) → AreOrdered earlier ranges
+found_among : (all earlier : List Place) (ranges : List PlacedRange) → AreOrdered earlier ranges
     → ((place : Place) → Contains (earlier ++ places ranges) place → Contains all place) → All (λ range. IsFound all range.start) ranges
 found_among all earlier [] ordered within = All-nil (λ range. IsFound all range.start)
 found_among all earlier (range ∷ ranges) ordered within =
@@ -46,34 +46,34 @@ found_among all earlier (range ∷ ranges) ordered within =
 
 -- what holds of the starts of ranges holds of those of fused ones
 module _ (Passes : Place → Type 0) where
-  Fuses-starts : (Used : Place → Type 0) (old new : List Range) → Fuses Used old new → All (λ range. Passes range.start) old
+  Fuses-starts : (Used : Place → Type 0) (old new : List PlacedRange) → Fuses Used old new → All (λ range. Passes range.start) old
       → All (λ range. Passes range.start) new
   Fuses-starts Used old new f all =
-      let P = λ (range : Range). Passes range.start in
+      let P = λ (range : PlacedRange). Passes range.start in
       let first = All-parts P f.front (f.range ∷ (f.middle ++ f.other ∷ f.back)) (subst (All P) f.was all) in
       let second = All-parts P f.middle (f.other ∷ f.back) (All-tail P f.range (f.middle ++ f.other ∷ f.back) first.1) in
       subst (All P) (sym f.is)
-      (All-append P f.front (f.middle ++ joined f.range f.other ∷ f.back) first.0
-      (All-append P f.middle (joined f.range f.other ∷ f.back) second.0
-      (All-cons P (joined f.range f.other) f.back (All-head P f.range (f.middle ++ f.other ∷ f.back) first.1) (All-tail P f.other f.back second.1))))
+      (All-append P f.front (f.middle ++ joined_range f.range f.other ∷ f.back) first.0
+      (All-append P f.middle (joined_range f.range f.other ∷ f.back) second.0
+      (All-cons P (joined_range f.range f.other) f.back (All-head P f.range (f.middle ++ f.other ∷ f.back) first.1) (All-tail P f.other f.back second.1))))
 
-  FusesTimes-starts : (Used : Place → Type 0) (times : ℕ) (old new : List Range) → FusesTimes Used times old new
+  FusesTimes-starts : (Used : Place → Type 0) (times : ℕ) (old new : List PlacedRange) → FusesTimes Used times old new
       → All (λ range. Passes range.start) old → All (λ range. Passes range.start) new
   FusesTimes-starts Used zero old new steps all = subst (All (λ range. Passes range.start)) steps all
   FusesTimes-starts Used (suc times) old new steps all =
       FusesTimes-starts Used times steps.0 new steps.2 (Fuses-starts Used old steps.0 steps.1 all)
 
 -- ---- some start stands for each place
-known_starts : (names : List (List ℕ × Oid)) (fused : List Range) (place : Place) → IsKnown names (places fused) place → CanStart names fused place
+known_starts : (names : List (List ℕ × Oid)) (fused : List PlacedRange) (place : Place) → IsKnown names (places fused) place → CanStart names fused place
 known_starts names fused place (inl known) = (starts.Named known.1, (known.0, known.2, known.3))
 known_starts names fused place (inr there) =
     (starts.Slot there.0, slice_get-get_or (places fused) there.0 place there.1 ∙ ap (λ (p : Place). Some p) there.2)
 
-any_starts : (names : List (List ℕ × Oid)) (fused : List Range) (place : Place) → CanStart names fused place → CanStartAny names fused place
+any_starts : (names : List (List ℕ × Oid)) (fused : List PlacedRange) (place : Place) → CanStart names fused place → CanStartAny names fused place
 any_starts names fused place (starts.Named oid, stands) = (bound_starts.Named oid, stands)
 any_starts names fused place (starts.Slot slot, stands) = (bound_starts.Slot slot, stands)
 
-module _ (names : List (List ℕ × Oid)) (query : SelectTree) (plain fused : List Range) (made : ArePlain query plain)
+module _ (names : List (List ℕ × Oid)) (query : SelectTree) (plain fused : List PlacedRange) (made : ArePlain query plain)
     (fuses : AreFused (IsUsed query plain) plain fused) (somewhere : (start : List ℕ) → StartsNowhere names query start → ⊥) where
   all_bound : All (λ place. IsBoundName names place.root) (text_places query)
   all_bound = names_bound names query somewhere
@@ -162,7 +162,7 @@ module _ {P Q : Type 0} (Passes : P → Type 0) (R : P → Q → Type 0) where
   option_where _ _ like pass = absurd like
 
 -- ---- the bound select
-pub ready_bound : (names : List (List ℕ × Oid)) (query : SelectTree) (plain fused : List Range) (bound : BoundTree) → ArePlain query plain
+pub ready_bound : (names : List (List ℕ × Oid)) (query : SelectTree) (plain fused : List PlacedRange) (bound : BoundTree) → ArePlain query plain
     → AreFused (IsUsed query plain) plain fused → ((start : List ℕ) → StartsNowhere names query start → ⊥)
     → AllZip (BindsRange names fused) fused bound.ranges → AllZip (BindsCell names fused) (cells_of query) bound.cells
     → CorrespondIf (BindsPath names fused plain) (cond_of query) bound.cond → IsBinding names query bound
@@ -171,7 +171,7 @@ ready_bound names query plain fused bound made fuses somewhere ranges cells cond
   fused = fused;
   made = made;
   fuses = fuses;
-  ranges = pairs_where (λ (range : Range). CanStart names fused range.start) (IsBoundRange names fused) fused bound.ranges ranges
+  ranges = pairs_where (λ (range : PlacedRange). CanStart names fused range.start) (IsBoundRange names fused) fused bound.ranges ranges
       (starts_can names query plain fused made fuses somewhere);
   cells = pairs_where (CanShow names fused) (IsBoundCell names fused) (cells_of query) bound.cells cells
       (cells_can names query plain fused made fuses somewhere);
@@ -193,23 +193,23 @@ starts_somewhere names query passes start nowhere = elim (told_member told_bytes
   | inr absent ↦ passes.names_known (start, nowhere, absent)
 ]
 
-few_enough : (names : List (List ℕ × Oid)) (query : SelectTree) (plain fused : List Range) → PassesText names query → ArePlain query plain
+few_enough : (names : List (List ℕ × Oid)) (query : SelectTree) (plain fused : List PlacedRange) → PassesText names query → ArePlain query plain
     → AreFused (IsUsed query plain) plain fused → length fused ≤ RANGES → HasTooMany query → ⊥
 few_enough names query plain fused passes made fuses few (inl many) =
     let same = has_one_plain query many.0 plain many.2 made in
-    let here = subst (λ (ranges : List Range). AreFused (IsUsed query ranges) ranges many.1) same many.3 in
-    let long = ap (λ (ranges : List Range). length ranges) (has_one_fused query plain many.1 fused made here fuses) in
+    let here = subst (λ (ranges : List PlacedRange). AreFused (IsUsed query ranges) ranges many.1) same many.3 in
+    let long = ap (λ (ranges : List PlacedRange). length ranges) (has_one_fused query plain many.1 fused made here fuses) in
     let over = many.4 in
     omega arith
 few_enough names query plain fused passes made fuses few (inr (inl items)) = let within = passes.few_items in omega arith
 few_enough names query plain fused passes made fuses few (inr (inr leaves)) = let within = passes.few_leaves in omega arith
 
-pub accepted : (names : List (List ℕ × Oid)) (query : SelectTree) (plain fused : List Range) → PassesText names query → ArePlain query plain
+pub accepted : (names : List (List ℕ × Oid)) (query : SelectTree) (plain fused : List PlacedRange) → PassesText names query → ArePlain query plain
     → AreFused (IsUsed query plain) plain fused → length fused ≤ RANGES → IsAccepted names query
 accepted names query plain fused passes made fuses few =
     (passes.names_known, (passes.variables_known, (passes.ranged_once, (few_enough names query plain fused passes made fuses few, tt))))
 
-pub too_many_ranges : (names : List (List ℕ × Oid)) (query : SelectTree) (plain fused : List Range) → PassesText names query → ArePlain query plain
+pub too_many_ranges : (names : List (List ℕ × Oid)) (query : SelectTree) (plain fused : List PlacedRange) → PassesText names query → ArePlain query plain
     → AreFused (IsUsed query plain) plain fused → RANGES < length fused → IsRefusedBy names query TooManyRanges
 too_many_ranges names query plain fused passes made fuses many =
     inr (passes.names_known, inr (passes.variables_known, inr (passes.ranged_once, inl (inl (plain, fused, made, fuses, many), refl))))

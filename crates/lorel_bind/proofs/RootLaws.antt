@@ -14,7 +14,7 @@ use Rattle.lorel_bind.specs.Types.{Oid}
 use Rattle.lorel_ranges.specs.Places.{Root, named, ranged, quantified, Place, at_root, beyond, Scope, root_of, place_of, scope_behind, scope_of, cell_places}
 use Rattle.lorel_ranges.specs.Conditions.{operand_in, cond_in, conds_in, cond_places}
 use Rattle.lorel_bound.specs.Conditions.{operand_paths, paths_of, paths_of_all, paths_in}
-use Rattle.lorel_ranges.specs.Ranges.{Range, prefix_ranges, path_ranges, from_item_ranges, from_ranges, made_ranges, places, AreGathered, ArePlain}
+use Rattle.lorel_ranges.specs.Ranges.{PlacedRange, prefix_ranges, path_ranges, from_item_ranges, from_ranges, made_ranges, places, AreGathered, ArePlain}
 use Rattle.lorel_ranges.specs.Texts.{from_places, text_places}
 use Rattle.lorel_bind.specs.Refusals.{StartsNowhere}
 use Rattle.lorel_ranges.specs.inside.Orders.{IsFound}
@@ -26,7 +26,7 @@ abbrev StartsFound : List Place → Root → Type 0
 StartsFound earlier root = ((depth : ℕ) × (root ≡ quantified depth)) ⊎ IsFound earlier (at_root root)
 
 -- what holds of each range that is made holds of each that is gathered
-gathered_all : (Q : Range → Type 0) (earlier made ranges : List Range) → AreGathered earlier made ranges → All Q earlier → All Q made → All Q ranges
+gathered_all : (Q : PlacedRange → Type 0) (earlier made ranges : List PlacedRange) → AreGathered earlier made ranges → All Q earlier → All Q made → All Q ranges
 gathered_all Q earlier [] ranges same first second = subst (All Q) (sym same) first
 gathered_all Q earlier (range ∷ made) ranges (inl there) first second = gathered_all Q earlier made ranges there.1 first (All-tail Q range made second)
 gathered_all Q earlier (range ∷ made) ranges (inr absent) first second =
@@ -62,7 +62,7 @@ module _ (P : Root → Type 0) where
       (prefix_roots (at_root cell.root) cell.parts (All-head (λ p. P p.root) cell cells hold)) (cell_roots cells (All-tail (λ p. P p.root) cell cells hold))
 
   -- what holds of the root of each path in the text holds of the roots that plain ranges start at
-  pub plain_roots : (query : SelectTree) (plain : List Range) → ArePlain query plain → All (λ place. P place.root) (text_places query)
+  pub plain_roots : (query : SelectTree) (plain : List PlacedRange) → ArePlain query plain → All (λ place. P place.root) (text_places query)
       → All (λ range. P range.start.root) plain
   plain_roots query plain gathered hold =
       let from = from_places [] query.tail.ranges in
@@ -144,7 +144,7 @@ known_found names earlier place (inl found) bound =
     inl (found.0, object.0, found.1, object.1)
 known_found names earlier place (inr there) bound = inr there
 
-module _ (names : List (List ℕ × Oid)) (query : SelectTree) (plain : List Range) (gathered : ArePlain query plain)
+module _ (names : List (List ℕ × Oid)) (query : SelectTree) (plain : List PlacedRange) (gathered : ArePlain query plain)
     (bound : All (λ place. IsBoundName names place.root) (text_places query)) where
   -- each cell shows a place that is known
   pub cells_known : (cell : Place) → Contains (cell_places query) cell → IsKnown names (places plain) cell

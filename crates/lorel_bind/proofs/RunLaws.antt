@@ -16,11 +16,11 @@ use Rattle.lorel_bind.specs.Types.bound_starts
 use Rattle.lorel_ranges.specs.Places.{Place, CellPlace, object, word, cells_of}
 use Rattle.lorel_bound.specs.Conditions.{OperandOf, constant, at, CondOf, or, and, not, exists, for_all, compare, same, CondsOf, no_cond, cond, paths_in, operand_paths, paths_of, paths_of_all}
 use Rattle.lorel_ranges.specs.Conditions.{cond_of, cond_places}
-use Rattle.lorel_ranges.specs.Ranges.{Range, places, IsUsed}
+use Rattle.lorel_ranges.specs.Ranges.{PlacedRange, places, IsUsed}
 use Rattle.lorel_ranges.specs.Texts.{text_places}
 use Rattle.lorel_bind.specs.Refusals.{leaves_in, HasTooMany, IsAccepted}
 use Rattle.lorel_bound.specs.Bound.{RangeTree, BoundPathTree, BoundTree}
-use Rattle.lorel_bind.specs.Bindings.{StandsFor, StandsForAny, IsBoundRange, IsBoundCell, IsBoundPath, CorrespondOperands, Correspond, CorrespondEach, CorrespondIf, IsBinding}
+use Rattle.lorel_bind.specs.Bindings.{IsStartOfPlace, IsBoundStart, IsBoundRange, IsBoundCell, IsBoundPath, CorrespondOperands, Correspond, CorrespondEach, CorrespondIf, IsBinding}
 use Rattle.lorel_bound.specs.Runnable.{IsWithin, IsCellWithin, IsBoundWithin, AreInOrder, IsRunnable}
 use Rattle.lorel_ranges.specs.inside.Orders.{IsOpen, IsFound, AreOrdered}
 use Rattle.lorel_ranges.proofs.ListLaws.{AllZip-append}
@@ -79,14 +79,14 @@ module _ {P Q : Type 0} (R : P → Q → Type 0) where
   pairs_right Passes each (x ∷ xs) (y ∷ ys) pairs = All-cons Passes y ys (each x y pairs.0) (pairs_right Passes each xs ys pairs.1)
 
 -- ---- leaves
-bound_path_leaves : (names : List (List ℕ × Oid)) (plain fused : List Range) (path : Place) (bound : BoundPathTree)
+bound_path_leaves : (names : List (List ℕ × Oid)) (plain fused : List PlacedRange) (path : Place) (bound : BoundPathTree)
     → IsBoundPath names plain fused path bound → leaves bound.rest ≤ leaves_of (trees_of path.parts)
 bound_path_leaves names plain fused path bound is =
     let rest = rest_leaves plain path is.fixed is.rest is.is_fixed in
     let whole = ap leaves is.goes_on in
     omega arith
 
-bound_leaves : (names : List (List ℕ × Oid)) (fused ranges : List Range) (bound : List RangeTree) → AllZip (IsBoundRange names fused) ranges bound
+bound_leaves : (names : List (List ℕ × Oid)) (fused ranges : List PlacedRange) (bound : List RangeTree) → AllZip (IsBoundRange names fused) ranges bound
     → sum_by (λ range. leaves range.path) bound ≡ range_leaves ranges
 bound_leaves names fused [] [] stands = refl
 bound_leaves names fused [] (b ∷ bound) stands = absurd stands
@@ -94,7 +94,7 @@ bound_leaves names fused (range ∷ ranges) [] stands = absurd stands
 bound_leaves names fused (range ∷ ranges) (b ∷ bound) stands =
     let first = ap leaves stands.0.path in
     let left = sum_by-cons (λ (r : RangeTree). leaves r.path) b bound in
-    let right = sum_by-cons (λ (r : Range). leaves_of (trees_of r.parts)) range ranges in
+    let right = sum_by-cons (λ (r : PlacedRange). leaves_of (trees_of r.parts)) range ranges in
     let later = bound_leaves names fused ranges bound stands.1 in
     omega arith
 
@@ -116,7 +116,7 @@ slot_before earlier later start slot is found fresh opens = elim (cases_lt slot 
       ]
 ]
 
-starts_within : (names : List (List ℕ × Oid)) (fused : List Range) (earlier : List Place) (ranges : List Range) (bound : List RangeTree)
+starts_within : (names : List (List ℕ × Oid)) (fused : List PlacedRange) (earlier : List Place) (ranges : List PlacedRange) (bound : List RangeTree)
     → places fused ≡ earlier ++ places ranges → AreOrdered earlier ranges → AllZip (IsBoundRange names fused) ranges bound
     → AreInOrder (length earlier) bound
 starts_within names fused earlier [] [] whole ordered stands = tt
@@ -129,31 +129,31 @@ starts_within names fused earlier (range ∷ ranges) (b ∷ bound) whole ordered
       (whole ∙ sym (append_assoc earlier (range.place ∷ []) (places ranges))) ordered.1 stands.1),
 )
   where
-    first : (start : Start) → StandsFor names fused range.start start → IsWithin (length earlier) start
+    first : (start : Start) → IsStartOfPlace names fused range.start start → IsWithin (length earlier) start
     first (starts.Named oid) named = tt
     first (starts.Slot slot) is =
         slot_before earlier (places (range ∷ ranges)) range.start slot (sym (ap (λ (ps : List Place). slice_get ps slot) whole) ∙ is) ordered.0.found
-        (All-map (λ place. Contains earlier place → ⊥) (λ (r : Range). r.place) (range ∷ ranges) (new_places earlier (range ∷ ranges) ordered))
-        (All-map IsOpen (λ (r : Range). r.place) (range ∷ ranges) (open_places earlier (range ∷ ranges) ordered))
+        (All-map (λ place. Contains earlier place → ⊥) (λ (r : PlacedRange). r.place) (range ∷ ranges) (new_places earlier (range ∷ ranges) ordered))
+        (All-map IsOpen (λ (r : PlacedRange). r.place) (range ∷ ranges) (open_places earlier (range ∷ ranges) ordered))
 
 -- a slot that stands for a place is one of so many as there are ranges
-start_in : (names : List (List ℕ × Oid)) (fused : List Range) (place : Place) (start : Start) → StandsFor names fused place start
+start_in : (names : List (List ℕ × Oid)) (fused : List PlacedRange) (place : Place) (start : Start) → IsStartOfPlace names fused place start
     → IsWithin (length fused) start
 start_in names fused place (starts.Named oid) stands = tt
 start_in names fused place (starts.Slot slot) stands =
     let within = slice_get_within (places fused) slot place stands in
-    let same = length-map fused (λ (r : Range). r.place) in
+    let same = length-map fused (λ (r : PlacedRange). r.place) in
     omega arith
 
 -- a bound cell shows a start or a slot of the fused ranges
-cell_in : (names : List (List ℕ × Oid)) (fused : List Range) (cell : CellPlace) (bound : CellOf) → IsBoundCell names fused cell bound
+cell_in : (names : List (List ℕ × Oid)) (fused : List PlacedRange) (cell : CellPlace) (bound : CellOf) → IsBoundCell names fused cell bound
     → IsCellWithin (length fused) bound
 cell_in names fused (object place) (shown.Object start) stands = start_in names fused place start stands
 cell_in names fused (word place) (shown.PathOf slot) stands = start_in names fused place (starts.Slot slot) stands
 cell_in names fused (object place) (shown.PathOf slot) stands = absurd stands
 cell_in names fused (word place) (shown.Object start) stands = absurd stands
 
-any_start_in : (names : List (List ℕ × Oid)) (fused : List Range) (place : Place) (start : BoundStart) → StandsForAny names fused place start
+any_start_in : (names : List (List ℕ × Oid)) (fused : List PlacedRange) (place : Place) (start : BoundStart) → IsBoundStart names fused place start
     → IsBoundWithin (length fused) start
 any_start_in names fused place (bound_starts.Named oid) stands = tt
 any_start_in names fused place (bound_starts.Slot slot) stands = start_in names fused place (starts.Slot slot) stands

@@ -9,8 +9,8 @@ use Rattle.lorel_bind.specs.Types.{Oid, Start, BoundStart}
 use Rattle.lorel_bind.specs.Types.starts
 use Rattle.lorel_bind.specs.Types.bound_starts
 use Rattle.lorel_ranges.specs.Places.{quantified, Place, at_root}
-use Rattle.lorel_ranges.specs.Ranges.{Range, places}
-use Rattle.lorel_bind.specs.Bindings.{StandsFor, StandsForAny}
+use Rattle.lorel_ranges.specs.Ranges.{PlacedRange, places}
+use Rattle.lorel_bind.specs.Bindings.{IsStartOfPlace, IsBoundStart}
 use Rattle.lorel_bind.specs.inside.Slots.{CanStart, CanStartAny}
 use Rattle.lorel_ranges.specs.Views.{place_tree, range_of, ranges_of}
 use Rattle.lorel_ranges.specs.declared.select_ranges.TextRange.{TextRange}
@@ -59,8 +59,8 @@ All-read Passes xs i x low is pass passes = All-more Passes xs i x low pass (sub
 pub slot_read : (fused items : List TextRange) (i : ℕ) (range : TextRange) (place : Place) → items ≡ fused → i < length items
     → range ≡ get_or items i range → place_tree range.place ≡ place → slice_get (places (ranges_of fused)) i ≡ Some place
 slot_read fused items i range place same low is here =
-    slice_get-map (λ (range : Range). range.place) (ranges_of fused) i
-    ∙ ap (option_map (λ (range : Range). range.place))
+    slice_get-map (λ (range : PlacedRange). range.place) (ranges_of fused) i
+    ∙ ap (option_map (λ (range : PlacedRange). range.place))
     (slice_get-map range_of fused i ∙ ap (λ (all : List TextRange). option_map range_of (slice_get all i)) (sym same)
     ∙ ap (option_map range_of) (slice_get_read items (length items) i range refl low is))
     ∙ ap (λ (p : Place). Some p) here
@@ -69,27 +69,27 @@ pub no_slot : (fused : List TextRange) (place : Place) → All (λ range. place_
     → Contains (places (ranges_of fused)) place → ⊥
 no_slot fused place none there =
     All-contains (λ p. p ≢ place) (places (ranges_of fused)) place
-    (All-map (λ p. p ≢ place) (λ (range : Range). range.place) (ranges_of fused) (All-map (λ range. range.place ≢ place) range_of fused none))
+    (All-map (λ p. p ≢ place) (λ (range : PlacedRange). range.place) (ranges_of fused) (All-map (λ range. range.place ≢ place) range_of fused none))
     there refl
 
 -- a place that isn't a name starts at the slot that it has
-pub slot_stands : (names : List (List ℕ × Oid)) (fused : List Range) (place : Place) (slot : ℕ)
-    → ((oid : Oid) → StandsFor names fused place (starts.Named oid) → ⊥)
+pub slot_stands : (names : List (List ℕ × Oid)) (fused : List PlacedRange) (place : Place) (slot : ℕ)
+    → ((oid : Oid) → IsStartOfPlace names fused place (starts.Named oid) → ⊥)
     → (Contains (places fused) place → slice_get (places fused) slot ≡ Some place) → CanStart names fused place
     → slice_get (places fused) slot ≡ Some place
 slot_stands names fused place slot unnamed at has = by has.0 has.1
   where
-    by : (start : Start) → StandsFor names fused place start → slice_get (places fused) slot ≡ Some place
+    by : (start : Start) → IsStartOfPlace names fused place start → slice_get (places fused) slot ≡ Some place
     by (starts.Named oid) stands = absurd (unnamed oid stands)
     by (starts.Slot own) is =
         at (own, slice_get_within (places fused) own place is, get_or_from_slice_get (places fused) own place place is)
 
 -- in a condition, a place that isn't the object of a quantifier
-pub start_outside : (names : List (List ℕ × Oid)) (fused : List Range) (place : Place)
+pub start_outside : (names : List (List ℕ × Oid)) (fused : List PlacedRange) (place : Place)
     → ((depth : ℕ) → place ≢ at_root (quantified depth)) → CanStartAny names fused place → CanStart names fused place
 start_outside names fused place outside has = by has.0 has.1
   where
-    by : (start : BoundStart) → StandsForAny names fused place start → CanStart names fused place
+    by : (start : BoundStart) → IsBoundStart names fused place start → CanStart names fused place
     by (bound_starts.Named oid) stands = (starts.Named oid, stands)
     by (bound_starts.Slot slot) stands = (starts.Slot slot, stands)
     by (bound_starts.Quantified depth) is = absurd (outside depth is)

@@ -11,40 +11,40 @@ use Rattle.lorel_trees.specs.Trees.{SelectTree}
 use Rattle.lorel_ranges.specs.Places.{named, quantified, Place, at_root, CellPlace, object, word, cells_of}
 use Rattle.lorel_bound.specs.Conditions.{OperandOf, constant, at, CondOf, or, and, not, exists, for_all, compare, same, CondsOf, no_cond, cond}
 use Rattle.lorel_ranges.specs.Conditions.{cond_of}
-use Rattle.lorel_ranges.specs.Ranges.{Range, ArePlain, AreFused, IsUsed, IsFixed, places}
+use Rattle.lorel_ranges.specs.Ranges.{PlacedRange, ArePlain, AreFused, IsUsed, IsFixed, places}
 use Rattle.lorel_bound.specs.Bound.{RangeTree, BoundPathTree, BoundTree}
 
--- a start stands for a place: the object of a name, or the slot of a fused range
-abbrev pub StandsFor : List (List ℕ × Oid) → List Range → Place → Start → Type 0
-StandsFor names fused place (starts.Named oid) =
+-- the start of a place: the object of a name, or the slot of a fused range
+abbrev pub IsStartOfPlace : List (List ℕ × Oid) → List PlacedRange → Place → Start → Type 0
+IsStartOfPlace names fused place (starts.Named oid) =
     (name : List ℕ) × (place ≡ at_root (named name)) × (object_of names name ≡ Some oid)
-StandsFor names fused place (starts.Slot slot) = slice_get (places fused) slot ≡ Some place
+IsStartOfPlace names fused place (starts.Slot slot) = slice_get (places fused) slot ≡ Some place
 
 -- and so in a condition, or it is the object of a quantifier
-abbrev pub StandsForAny : List (List ℕ × Oid) → List Range → Place → BoundStart → Type 0
-StandsForAny names fused place (bound_starts.Named oid) = StandsFor names fused place (starts.Named oid)
-StandsForAny names fused place (bound_starts.Slot slot) = StandsFor names fused place (starts.Slot slot)
-StandsForAny names fused place (bound_starts.Quantified depth) = place ≡ at_root (quantified depth)
+abbrev pub IsBoundStart : List (List ℕ × Oid) → List PlacedRange → Place → BoundStart → Type 0
+IsBoundStart names fused place (bound_starts.Named oid) = IsStartOfPlace names fused place (starts.Named oid)
+IsBoundStart names fused place (bound_starts.Slot slot) = IsStartOfPlace names fused place (starts.Slot slot)
+IsBoundStart names fused place (bound_starts.Quantified depth) = place ≡ at_root (quantified depth)
 
 -- a bound range is a fused one
-pub record IsBoundRange (names : List (List ℕ × Oid)) (fused : List Range) (range : Range) (bound : RangeTree) :
+pub record IsBoundRange (names : List (List ℕ × Oid)) (fused : List PlacedRange) (range : PlacedRange) (bound : RangeTree) :
     Type 0 where
-  pub start : StandsFor names fused range.start bound.start
+  pub start : IsStartOfPlace names fused range.start bound.start
   pub path : bound.path ≡ seq (trees_of range.parts)
 
 -- a bound cell shows the object of its place, or the word of the fused range of that place
-abbrev pub IsBoundCell : List (List ℕ × Oid) → List Range → CellPlace → CellOf → Type 0
-IsBoundCell names fused (object place) (shown.Object start) = StandsFor names fused place start
+abbrev pub IsBoundCell : List (List ℕ × Oid) → List PlacedRange → CellPlace → CellOf → Type 0
+IsBoundCell names fused (object place) (shown.Object start) = IsStartOfPlace names fused place start
 IsBoundCell names fused (word place) (shown.PathOf slot) = slice_get (places fused) slot ≡ Some place
 IsBoundCell names fused _ _ = ⊥
 
 -- a bound path is a path of the text: it starts at the longest prefix that is a range
-pub record IsBoundPath (names : List (List ℕ × Oid)) (plain fused : List Range) (path : Place) (bound : BoundPathTree) :
+pub record IsBoundPath (names : List (List ℕ × Oid)) (plain fused : List PlacedRange) (path : Place) (bound : BoundPathTree) :
     Type 0 where
   pub fixed : Place
   pub rest : List PathTree
   pub is_fixed : IsFixed plain path fixed rest
-  pub begins : StandsForAny names fused fixed bound.start
+  pub begins : IsBoundStart names fused fixed bound.start
   pub goes_on : bound.rest ≡ seq (trees_of rest)
 
 -- conditions that differ in their paths alone, each related to the other
@@ -79,8 +79,8 @@ CorrespondIf R _ _ = ⊥
 
 -- the bound select is the select of the text over these names
 pub record IsBinding (names : List (List ℕ × Oid)) (query : SelectTree) (bound : BoundTree) : Type 0 where
-  pub plain : List Range
-  pub fused : List Range
+  pub plain : List PlacedRange
+  pub fused : List PlacedRange
   pub made : ArePlain query plain
   pub fuses : AreFused (IsUsed query plain) plain fused
   pub ranges : AllZip (IsBoundRange names fused) fused bound.ranges

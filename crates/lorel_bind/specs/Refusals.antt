@@ -11,7 +11,7 @@ use Rattle.lorel_bind.specs.Faults.{refusal_of}
 use Rattle.lorel_bind.specs.declared.faults.BindFault.{BindFault}
 use Rattle.lorel_ranges.specs.Places.{named, Place, path_variables, word_place}
 use Rattle.lorel_ranges.specs.Texts.{text_places, ranged_identifiers}
-use Rattle.lorel_ranges.specs.Ranges.{Range, ArePlain, AreFused, IsUsed}
+use Rattle.lorel_ranges.specs.Ranges.{PlacedRange, ArePlain, AreFused, IsUsed}
 
 -- a path starts at an identifier that is neither a variable in scope nor a name
 abbrev pub StartsNowhere : List (List ℕ × Oid) → SelectTree → List ℕ → Type 0
@@ -42,7 +42,7 @@ HasDuplicate query = AllPairs (λ a b. a ≢ b) (ranged_identifiers query) → �
 
 -- more ranges are left after fusing than a row has slots
 abbrev pub HasManyRanges : SelectTree → Type 0
-HasManyRanges query = (plain : List Range) × (fused : List Range) × ArePlain query plain
+HasManyRanges query = (plain : List PlacedRange) × (fused : List PlacedRange) × ArePlain query plain
     × AreFused (IsUsed query plain) plain fused × (RANGES < length fused)
 
 -- so many leaves stand in these paths
@@ -55,21 +55,21 @@ HasTooMany query =
     HasManyRanges query ⊎ ((ITEMS < length query.items) ⊎ (LEAVES < leaves_in (text_places query)))
 
 -- the cause of each refusal of a select over these names
-abbrev pub Cause : List (List ℕ × Oid) → SelectTree → Refusal → Type 0
-Cause names query refusals.UnknownName = HasUnknownName names query
-Cause names query refusals.UnknownVariable = HasUnknownVariable names query
-Cause names query refusals.DuplicateVariable = HasDuplicate query
-Cause names query refusals.TooManyRanges = HasTooMany query
-Cause names query _ = ⊥
+abbrev pub BindCause : List (List ℕ × Oid) → SelectTree → Refusal → Type 0
+BindCause names query refusals.UnknownName = HasUnknownName names query
+BindCause names query refusals.UnknownVariable = HasUnknownVariable names query
+BindCause names query refusals.DuplicateVariable = HasDuplicate query
+BindCause names query refusals.TooManyRanges = HasTooMany query
+BindCause names query _ = ⊥
 
 -- the order in which causes are tried
-abbrev pub order : List Refusal
-order = refusals.UnknownName ∷ refusals.UnknownVariable ∷ refusals.DuplicateVariable ∷ refusals.TooManyRanges ∷ []
+abbrev pub bind_order : List Refusal
+bind_order = refusals.UnknownName ∷ refusals.UnknownVariable ∷ refusals.DuplicateVariable ∷ refusals.TooManyRanges ∷ []
 
 -- a fault of binding is want of memory, or tells the first cause that applies
 abbrev pub IsRefusedBy : List (List ℕ × Oid) → SelectTree → BindFault → Type 0
-IsRefusedBy names query fault = IsToldBy (Cause names query) order (refusal_of fault)
+IsRefusedBy names query fault = IsToldBy (BindCause names query) bind_order (refusal_of fault)
 
 -- no cause applies
 abbrev pub IsAccepted : List (List ℕ × Oid) → SelectTree → Type 0
-IsAccepted names query = IsClear (Cause names query) order
+IsAccepted names query = IsClear (BindCause names query) bind_order

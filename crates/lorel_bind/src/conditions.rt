@@ -6,7 +6,7 @@ ghost use Rattle.lorel_trees.specs.Trees as t;
 ghost use Rattle.lorel_bind.specs.Types.{NESTING};
 ghost use Rattle.lorel_ranges.specs.Places.{Scope};
 ghost use Rattle.lorel_ranges.specs.Conditions.{cond_in};
-ghost use Rattle.lorel_ranges.specs.Ranges.{Range};
+ghost use Rattle.lorel_ranges.specs.Ranges.{PlacedRange};
 ghost use Rattle.lorel_bound.specs.Bound.{bound_path, bound_operand, bound_cond, bound_conds};
 ghost use Rattle.lorel_bound.specs.Bound as b;
 ghost use Rattle.lorel_bind.specs.Bindings.{CorrespondIf};
@@ -37,7 +37,8 @@ impl<'b, 'q, 'n> Binder<'b, 'q, 'n> {
         cond: &'q Option<Cond>,
     ) -> Result<Option<BoundCond>, NoMemory>
         requires shallow { MatchOption cond.now (Unit {0}) (λ cond. depth_of (cond_tree cond) ≤ NESTING) }
-        ensures { IfOk result (λ bound. (plain : List Range) (scope : Scope) → Serves self.now plain scope
+        ensures { IfOk result (λ bound. (plain : List PlacedRange) (scope : Scope)
+            → Serves self.now plain scope
             → CorrespondIf (Binds self.now plain)
             (option_map (cond_in scope 0) (option_map cond_tree cond.now)) (option_map bound_cond bound)) }
     {

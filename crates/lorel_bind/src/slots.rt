@@ -7,7 +7,7 @@ ghost use Rattle.lorel_bind.specs.Types.starts;
 ghost use Rattle.lorel_bound.specs.Bound.{range_tree};
 ghost use Rattle.lorel_ranges.specs.Places.{at_root, quantified};
 ghost use Rattle.lorel_ranges.specs.Ranges.{places};
-ghost use Rattle.lorel_bind.specs.Bindings.{StandsFor};
+ghost use Rattle.lorel_bind.specs.Bindings.{IsStartOfPlace};
 ghost use Rattle.lorel_ranges.specs.Views.{place_tree, range_of, ranges_of};
 ghost use Rattle.lorel_ranges.specs.Views.{shown_tree, shown_trees};
 ghost use Rattle.lorel_bind.specs.inside.Slots.{Starts, StartsAny, BindsRange, BindsCell};
@@ -67,9 +67,9 @@ impl<'q, 'n> Slots<'q, 'n> {
 
     // The object of a place that is a name.
     fn named(&self, place: Place<'q>) -> Option<Oid>
-        ensures some { IfSome result (λ oid. StandsFor self.now.names.now (ranges_of self.now.fused.items)
-            (place_tree place.entry) (starts.Named oid)) }
-        ensures none { IfNone result ((oid : TheOid) → StandsFor self.now.names.now
+        ensures some { IfSome result (λ oid. IsStartOfPlace self.now.names.now
+            (ranges_of self.now.fused.items) (place_tree place.entry) (starts.Named oid)) }
+        ensures none { IfNone result ((oid : TheOid) → IsStartOfPlace self.now.names.now
             (ranges_of self.now.fused.items) (place_tree place.entry) (starts.Named oid) → ⊥) }
     {
         match place.root {

@@ -1,10 +1,11 @@
-ghost use Rattle.std.specs.Prelude.{◌≡◌, All, IsTrue, true, Some, slice_get};
+ghost use Rattle.std.specs.Prelude.{All, IsTrue};
 ghost use Rattle.lorel_bound.specs.Conditions.{operand_paths, paths_of_all};
 ghost use Rattle.lorel_eval.specs.inside.Labelled.{in_order};
 ghost use Rattle.lorel_eval.specs.inside.Ready.{ready_operand, ready_tree, ready_trees};
 ghost use Rattle.lorel_eval.specs.inside.Early.{IsKnown, StartsKnown, ReadsKnown};
 
 use crate::ready_conds::{ReadyCond, ReadyCondList, ReadyOperand, ReadyPath};
+use crate::slots::is_marked;
 use lore_base::limits::RANGES;
 use lorel_bound::BoundStart;
 
@@ -112,15 +113,6 @@ fn is_known(start: BoundStart, known: &[bool; RANGES]) -> bool
         BoundStart::Slot(slot) => is_marked(known, slot),
         BoundStart::Named(_) => true,
         BoundStart::Quantified(_) => true,
-    }
-}
-
-fn is_marked(known: &[bool; RANGES], slot: u32) -> bool
-    ensures { IsTrue result → slice_get known.now slot ≡ Some true }
-{
-    match known.get(slot as usize) {
-        Some(mark) => *mark,
-        None => false,
     }
 }
 

@@ -7,6 +7,7 @@
 #![tactic(auto)]
 
 pub use bound_test::Test;
+pub use slots::{in_slot, is_marked};
 
 mod bound_test;
 mod comparisons;
@@ -18,4 +19,5 @@ mod making_ready;
 mod meeting;
 mod ready_conds;
 mod ready_routes;
+mod slots;
 mod subject;

@@ -1,4 +1,4 @@
-ghost use Rattle.std.specs.Prelude.{◌≡◌, slice_get, IfOk};
+ghost use Rattle.std.specs.Prelude.{◌≡◌, IfOk};
 ghost use Rattle.lore_base.specs.TargetSets.{ListsInOrder};
 ghost use Rattle.lorel_eval.specs.inside.FoundObjects.{oids_of};
 ghost use Rattle.lorel_eval.specs.inside.Ready.{ready_path};
@@ -7,16 +7,14 @@ ghost use Rattle.lorel_eval.specs.inside.Subjects.{start_of, ReachedIn};
 use crate::found::Found;
 use crate::ready_conds::ReadyPath;
 use crate::ready_routes::Kept;
+use crate::slots::in_slot;
 use index_traits::{Adjacent, Row, ValueOf};
-use lore_base::limits::RANGES;
 use lore_base::{NoMemory, Oid, Steps};
 use lorel_bound::BoundStart;
 use std::alloc::Global;
 use std::cell::Cell;
 use std::marker::Model;
 use std::sync::ledger::Ledger;
-
-const LAST_SLOT: u32 = RANGES as u32 - 1;
 
 // What a condition is tested on: a row's slots, and the database that their objects stand in.
 #[derive(Drop)]
@@ -38,14 +36,6 @@ impl<'a, A: Adjacent, G: ValueOf> Model for Subject<'a, A, G> {
       objects = G.objects subject.values.now;
       slots = subject.row.now;
     } };
-}
-
-// The object in the slot; None where there are not so many.
-fn in_slot(row: &Row, slot: u32) -> Option<Oid>
-    ensures { result ≡ slice_get row.now slot }
-{
-    let oid = row.get(slot.min(LAST_SLOT));
-    if slot <= LAST_SLOT { Some(oid) } else { None }
 }
 
 impl<'a, A: Adjacent, G: ValueOf> Subject<'a, A, G> {

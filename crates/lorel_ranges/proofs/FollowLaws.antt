@@ -6,7 +6,7 @@ use Rattle.std.proofs.lemmas.List.Elements.{All-cons, All-head, All-tail}
 use Rattle.std.proofs.lemmas.Option.{slice_get_within, slice_get_read, same_Some}
 use Rattle.list_laws.proofs.PlaceLaws.{slice_get-append_left, slice_get-push, Contains-from_place}
 use Rattle.lorel_ranges.specs.Places.{Place}
-use Rattle.lorel_ranges.specs.Ranges.{Range, places}
+use Rattle.lorel_ranges.specs.Ranges.{PlacedRange, places}
 use Rattle.lorel_ranges.specs.Views.{place_tree, range_of, ranges_of}
 use Rattle.lorel_ranges.specs.inside.SelectRanges.{IsOnce, IsFollowed, AreFollowed, further, GainsFollower}
 use Rattle.lorel_ranges.specs.declared.select_ranges.TextRange.{TextRange}
@@ -83,7 +83,7 @@ pub gains_there : (place : Place) (number : ℕ) (links : List TextRange) (earli
     → AllZip (GainsFollower place number) links (set links earlier new)
 gains_there place number links earlier link seen new once stands is seen_is range joined used followers =
     let within_places = slice_get_within (places (ranges_of links)) earlier place stands in
-    let long = length-map (ranges_of links) (λ (r : Range). r.place) in
+    let long = length-map (ranges_of links) (λ (r : PlacedRange). r.place) in
     let longer = length-map links range_of in
     let within : earlier < length links = omega arith in
     let there = place_at links earlier link (slice_get_read links (length links) earlier link refl within is) in
@@ -100,7 +100,7 @@ gains_there place number links earlier link seen new once stands is seen_is rang
     })
 
 -- ---- a range behind all
-followed_here : (first : ℕ) (behind : List Range) (range : Range) (place : Place) (followers : Followers) (number : ℕ)
+followed_here : (first : ℕ) (behind : List PlacedRange) (range : PlacedRange) (place : Place) (followers : Followers) (number : ℕ)
     → number ≡ first + length behind → IsFollowed first behind place followers → range.start ≡ place
     → IsFollowed first (behind ++ range ∷ []) place (further followers number)
 followed_here first behind range place None number is followed starts =
@@ -116,7 +116,7 @@ followed_here first behind range place Several number is followed starts =
     let sum = count_append place behind (range ∷ []) in
     omega arith
 
-followed_still : (first : ℕ) (behind : List Range) (range : Range) (place : Place) (followers : Followers)
+followed_still : (first : ℕ) (behind : List PlacedRange) (range : PlacedRange) (place : Place) (followers : Followers)
     → IsFollowed first behind place followers → range.start ≢ place → IsFollowed first (behind ++ range ∷ []) place followers
 followed_still first behind range place None followed apart =
     let sum = count_append place behind (range ∷ []) in
@@ -142,10 +142,10 @@ AreFollowed-push first number [] (other ∷ new) link is gains none unjoined fol
 AreFollowed-push first number (earlier ∷ old) [] link is gains none unjoined followed = absurd gains
 AreFollowed-push first number (earlier ∷ old) (other ∷ new) link is gains none unjoined followed = (
   gains.0.joined ∙ followed.0,
-  subst (λ (rs : List Range). IsFollowed (suc first) rs (place_tree other.place) other.followers)
-      (sym (ranges_push new link ∙ ap (λ (rs : List Range). rs ++ range_of link ∷ []) (gained_ranges (place_tree link.start) number old new gains.1)))
+  subst (λ (rs : List PlacedRange). IsFollowed (suc first) rs (place_tree other.place) other.followers)
+      (sym (ranges_push new link ∙ ap (λ (rs : List PlacedRange). rs ++ range_of link ∷ []) (gained_ranges (place_tree link.start) number old new gains.1)))
       (subst (λ (p : Place). IsFollowed (suc first) (ranges_of old ++ range_of link ∷ []) p other.followers)
-      (sym (ap (λ (r : Range). r.place) gains.0.range)) here),
+      (sym (ap (λ (r : PlacedRange). r.place) gains.0.range)) here),
   AreFollowed-push (suc first) number old new link (omega arith) gains.1 none unjoined followed.2,
 )
   where

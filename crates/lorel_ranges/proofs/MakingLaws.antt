@@ -8,7 +8,7 @@ use denote.Ref.{Bor}
 use Rattle.lore_base.specs.Paths.{PathTree, path_tree}
 use Rattle.lorel_trees.specs.Trees.{FromTree, SelectTree}
 use Rattle.lorel_ranges.specs.Places.{Place, beyond, Scope, place_of, scope_behind, cell_places}
-use Rattle.lorel_ranges.specs.Ranges.{Range, prefix_ranges, path_ranges, from_item_ranges, from_ranges, places, AreGathered, ArePlain}
+use Rattle.lorel_ranges.specs.Ranges.{PlacedRange, prefix_ranges, path_ranges, from_item_ranges, from_ranges, places, AreGathered, ArePlain}
 use Rattle.lorel_ranges.specs.Texts.{from_places}
 use Rattle.lorel_ranges.specs.Views.{place_tree, place_trees, prefix_of, range_of, ranges_of}
 use Rattle.lorel_ranges.specs.inside.Indexes.{IsVariable}
@@ -42,7 +42,7 @@ pub pushed : (old new : SelectRanges) (links : List TextRange) (link : TextRange
 pushed old new links link number fresh counted gains unused none unjoined all_links plain = record {
   plain = plain;
   ranges = ap ranges_of all_links ∙ map-append range_of links (link ∷ [])
-      ∙ ap (λ (rs : List Range). rs ++ range_of link ∷ []) (gained_ranges (place_tree link.start) number old.fused.items links gains);
+      ∙ ap (λ (rs : List PlacedRange). rs ++ range_of link ∷ []) (gained_ranges (place_tree link.start) number old.fused.items links gains);
   followed = subst (λ (ls : List TextRange). AreFollowed 0 ls) (sym all_links)
       (AreFollowed-push 0 number old.fused.items links link (omega arith) gains none unjoined fresh.linked.followed);
   unused = subst (λ (ls : List TextRange). All (λ l. l.used ≡ false) ls) (sym all_links)
@@ -53,7 +53,7 @@ pushed old new links link number fresh counted gains unused none unjoined all_li
 pub fresh_more : (old put new : SelectRanges) (start : Place) (parts : List PathTree) (place : Place) → AreFresh old → ArePushed old put start parts place
     → (Contains (places (ranges_of old.fused.items)) place → ⊥) → place_trees new.plain ≡ place_trees put.plain ++ place ∷ [] → new.fused.items ≡ put.fused.items → AreFresh new
 fresh_more old put new start parts place fresh is absent more same_links =
-    let at_place = λ (r : Range). r.place in
+    let at_place = λ (r : PlacedRange). r.place in
     let all : places (ranges_of new.fused.items) ≡ places (ranges_of old.fused.items) ++ place ∷ [] =
     ap (λ ls. places (ranges_of ls)) same_links ∙ ap places is.ranges
     ∙ map-append at_place (ranges_of old.fused.items) (record { start = start; parts = parts; place = place } ∷ []) in
@@ -93,9 +93,9 @@ pub absent_prefix : (all : List Place) (path place : Place) (len : ℕ) → plac
 absent_prefix all path place len is some within only at = parts_unvariable place (prefix_parts path place len is some within) (only at)
 
 -- ---- what is gathered
-pub gathered_append : (earlier made middle more ranges : List Range) → AreGathered earlier made middle → AreGathered middle more ranges
+pub gathered_append : (earlier made middle more ranges : List PlacedRange) → AreGathered earlier made middle → AreGathered middle more ranges
     → AreGathered earlier (made ++ more) ranges
-gathered_append earlier [] middle more ranges first second = subst (λ (rs : List Range). AreGathered rs more ranges) first second
+gathered_append earlier [] middle more ranges first second = subst (λ (rs : List PlacedRange). AreGathered rs more ranges) first second
 gathered_append earlier (range ∷ made) middle more ranges (inl there) second = inl (there.0, gathered_append earlier made middle more ranges there.1 second)
 gathered_append earlier (range ∷ made) middle more ranges (inr absent) second =
     inr (absent.0, gathered_append (earlier ++ range ∷ []) made middle more ranges absent.1 second)
@@ -111,7 +111,7 @@ split_at (x ∷ xs) (suc i) within =
     (later.0, rw more later.1, rw more (ap (λ ys. x ∷ ys) later.2))
 
 -- the parts of a path, one after another
-pub path_step : (path : Place) (len : ℕ) (now new ranges : List Range) → len < length path.parts → AreGathered now (part_range path len ∷ []) new
+pub path_step : (path : Place) (len : ℕ) (now new ranges : List PlacedRange) → len < length path.parts → AreGathered now (part_range path len ∷ []) new
     → AreGathered new (prefix_ranges (prefix_of (len + 1) path) (drop (len + 1) path.parts)) ranges
     → AreGathered now (prefix_ranges (prefix_of len path) (drop len path.parts)) ranges
 path_step path len now new ranges within made later =
@@ -124,14 +124,14 @@ path_step path len now new ranges within made later =
     subst (λ (ps : List PathTree). AreGathered now (prefix_ranges (prefix_of len path) ps) ranges) (sym split.1)
     (gathered_append now (record { start = prefix_of len path; parts = split.0 ∷ []; place = beyond (prefix_of len path) (split.0 ∷ []) } ∷ []) new
     (prefix_ranges (beyond (prefix_of len path) (split.0 ∷ [])) (drop (len + 1) path.parts)) ranges
-    (subst (λ (r : Range). AreGathered now (r ∷ []) new) first made)
+    (subst (λ (r : PlacedRange). AreGathered now (r ∷ []) new) first made)
     (subst (λ (p : Place). AreGathered new (prefix_ranges p (drop (len + 1) path.parts)) ranges) place later))
 
 -- the ranges of from items, by the places of their paths
 pub from_items : (scope : Scope) (items : List FromTree) → from_ranges scope items ≡ item_ranges items (from_places scope items)
 from_items scope [] = refl
 from_items scope (item ∷ items) =
-    ap (λ (rs : List Range). from_item_ranges item.variable (place_of scope item.path) ++ rs) (from_items (scope_behind item.variable scope) items)
+    ap (λ (rs : List PlacedRange). from_item_ranges item.variable (place_of scope item.path) ++ rs) (from_items (scope_behind item.variable scope) items)
 
 pub from_places_length : (scope : Scope) (items : List FromTree) → length (from_places scope items) ≡ length items
 from_places_length scope [] = refl
@@ -151,13 +151,13 @@ drop_read f xs i x within is =
     drop_more (map f xs) i (f x) (omega (arith, length-map xs f))
     ∙ ap (λ y. y ∷ drop (i + 1) (map f xs)) (get_or-map f xs i x (f x) within ∙ ap f (sym is))
 
-pub paths_step : (paths : List Place) (others : List Place) (path : Place) (now new ranges : List Range) → paths ≡ path ∷ others
+pub paths_step : (paths : List Place) (others : List Place) (path : Place) (now new ranges : List PlacedRange) → paths ≡ path ∷ others
     → AreGathered now (path_ranges path) new → AreGathered new (flat_map path_ranges others) ranges → AreGathered now (flat_map path_ranges paths) ranges
 paths_step paths others path now new ranges is made later =
     subst (λ (ps : List Place). AreGathered now (flat_map path_ranges ps) ranges) (sym is)
     (gathered_append now (path_ranges path) new (flat_map path_ranges others) ranges made later)
 
-pub items_step : (items more : List FromTree) (item : FromTree) (paths others : List Place) (path : Place) (now new ranges : List Range)
+pub items_step : (items more : List FromTree) (item : FromTree) (paths others : List Place) (path : Place) (now new ranges : List PlacedRange)
     → items ≡ item ∷ more → paths ≡ path ∷ others → AreGathered now (from_item_ranges item.variable path) new
     → AreGathered new (item_ranges more others) ranges → AreGathered now (item_ranges items paths) ranges
 items_step items more item paths others path now new ranges items_are paths_are made later =
@@ -166,13 +166,13 @@ items_step items more item paths others path now new ranges items_are paths_are 
     (gathered_append now (from_item_ranges item.variable path) new (item_ranges more others) ranges made later))
 
 -- the ranges of from items and then those of items are the plain ones
-pub plain_made : (query : SelectTree) (items : List FromTree) (from cells : List Place) (none middle ranges : List Range) → none ≡ []
+pub plain_made : (query : SelectTree) (items : List FromTree) (from cells : List Place) (none middle ranges : List PlacedRange) → none ≡ []
     → items ≡ query.tail.ranges → from ≡ from_places [] query.tail.ranges → cells ≡ cell_places query
     → AreGathered none (item_ranges items from) middle → AreGathered middle (flat_map path_ranges cells) ranges → ArePlain query ranges
 plain_made query items from cells none middle ranges nothing items_are from_are cells_are first second =
     let made : item_ranges items from ≡ from_ranges [] query.tail.ranges =
     (λ i. item_ranges (items_are i) (from_are i)) ∙ sym (from_items [] query.tail.ranges) in
     gathered_append [] (from_ranges [] query.tail.ranges) middle (flat_map path_ranges (cell_places query)) ranges
-    (subst (λ (rs : List Range). AreGathered [] rs middle) made
-    (subst (λ (rs : List Range). AreGathered rs (item_ranges items from) middle) nothing first))
+    (subst (λ (rs : List PlacedRange). AreGathered [] rs middle) made
+    (subst (λ (rs : List PlacedRange). AreGathered rs (item_ranges items from) middle) nothing first))
     (subst (λ (ps : List Place). AreGathered middle (flat_map path_ranges ps) ranges) cells_are second)

@@ -12,7 +12,7 @@ use Rattle.list_laws.proofs.MemberLaws.{Contains-map}
 use Rattle.list_laws.proofs.PartLaws.{map_more_read}
 use Rattle.lorel_trees.specs.Trees.{SelectTree}
 use Rattle.lorel_ranges.specs.Places.{Place, CellPlace, object, word, cells_of}
-use Rattle.lorel_ranges.specs.Ranges.{Range, places, IsFixed, IsUsed}
+use Rattle.lorel_ranges.specs.Ranges.{PlacedRange, places, IsFixed, IsUsed}
 use Rattle.lorel_ranges.specs.Readings.{IsTextOf}
 use Rattle.lorel_ranges.specs.Views.{place_tree, place_trees, shown_tree, shown_trees, range_of, ranges_of}
 use Rattle.lorel_ranges.specs.inside.SelectRanges.{IsOnce, IsFollowed, AreFollowed, AreLinked, AreFresh, IsMarked, IsNeededAt, IsNeededOf, IsFixedOf, AreMarked}
@@ -69,14 +69,14 @@ AreFollowed-set : (first : ℕ) (links : List TextRange) (i : ℕ) (link new : T
 AreFollowed-set first [] i link new is range followers joined followed = tt
 AreFollowed-set first (own ∷ links) zero link new is range followers joined followed = (
   joined ∙ ap (λ (l : TextRange). l.joined) is ∙ followed.0,
-  subst (λ (p : Place). IsFollowed (suc first) (ranges_of links) p new.followers) (sym (ap (λ (r : Range). r.place) (range ∙ ap range_of is)))
+  subst (λ (p : Place). IsFollowed (suc first) (ranges_of links) p new.followers) (sym (ap (λ (r : PlacedRange). r.place) (range ∙ ap range_of is)))
       (subst (λ (f : Followers). IsFollowed (suc first) (ranges_of links) (place_tree own.place) f)
       (sym (followers ∙ ap (λ (l : TextRange). l.followers) is)) followed.1),
   followed.2,
 )
 AreFollowed-set first (own ∷ links) (suc i) link new is range followers joined followed = (
   followed.0,
-  subst (λ (rs : List Range). IsFollowed (suc first) rs (place_tree own.place) own.followers) (sym (ranges_set links i link new is range)) followed.1,
+  subst (λ (rs : List PlacedRange). IsFollowed (suc first) rs (place_tree own.place) own.followers) (sym (ranges_set links i link new is range)) followed.1,
   AreFollowed-set (suc first) links i link new is range followers joined followed.2,
 )
 
@@ -86,7 +86,7 @@ linked_still : (old new : SelectRanges) → new.plain ≡ old.plain → ranges_o
     → AreFollowed 0 new.fused.items → AreLinked old → AreLinked new
 linked_still old new plain ranges followed all = record {
   same = ap place_trees plain ∙ all.same ∙ ap places (sym ranges);
-  once = subst (λ (rs : List Range). IsOnce (places rs)) (sym ranges) all.once;
+  once = subst (λ (rs : List PlacedRange). IsOnce (places rs)) (sym ranges) all.once;
   followed = followed;
 }
 
@@ -108,7 +108,7 @@ marked_set links i link new place other is within range used stands = (
 )
   where
     own : place_tree new.place ≡ place
-    own = ap (λ (r : Range). r.place) range ∙ stands
+    own = ap (λ (r : PlacedRange). r.place) range ∙ stands
 
 pub marked_at : (old new : SelectRanges) (number : ℕ) (link after : TextRange) (place : Place) → AreLinked old
     → slice_get (place_trees old.plain) number ≡ Some place → link ≡ get_or old.fused.items number link
@@ -117,7 +117,7 @@ pub marked_at : (old new : SelectRanges) (number : ℕ) (link after : TextRange)
 marked_at old new number link after place all stands is plain links range followers joined used =
     let there : slice_get (places (ranges_of old.fused.items)) number ≡ Some place = ap (λ ps. slice_get ps number) (sym all.same) ∙ stands in
     let low = slice_get_within (places (ranges_of old.fused.items)) number place there in
-    let long = length-map (ranges_of old.fused.items) (λ (r : Range). r.place) in
+    let long = length-map (ranges_of old.fused.items) (λ (r : PlacedRange). r.place) in
     let longer = length-map old.fused.items range_of in
     let within : number < length old.fused.items = omega arith in
     let own : place_tree link.place ≡ place = same_Some (place_tree link.place) place
@@ -166,13 +166,13 @@ marked_then old middle new First Second Both first second both = record {
         | inl earlier ↦ inl earlier
         | inr mark ↦ inr ((both place).1 (inl mark.0), mark.1)
       ]
-      | inr mark ↦ inr ((both place).1 (inr mark.0), subst (λ (rs : List Range). Contains (places rs) place) first.ranges mark.1)
+      | inr mark ↦ inr ((both place).1 (inr mark.0), subst (λ (rs : List PlacedRange). Contains (places rs) place) first.ranges mark.1)
     ],
     λ h. (second.marked place).1 (elim h [
       | inl before ↦ inl ((first.marked place).1 (inl before))
       | inr mark ↦ elim ((both place).0 mark.0) [
         | inl early ↦ inl ((first.marked place).1 (inr (early, mark.1)))
-        | inr late ↦ inr (late, subst (λ (rs : List Range). Contains (places rs) place) (sym first.ranges) mark.1)
+        | inr late ↦ inr (late, subst (λ (rs : List PlacedRange). Contains (places rs) place) (sym first.ranges) mark.1)
       ]
     ]),
   );
@@ -199,7 +199,7 @@ places_step all i read within is place =
       ]),
     )
 
-pub fixed_step : (ranges : List Range) (all : List declared.Place) (i : ℕ) (read : declared.Place) (fixed : Place) (rest : List PathTree)
+pub fixed_step : (ranges : List PlacedRange) (all : List declared.Place) (i : ℕ) (read : declared.Place) (fixed : Place) (rest : List PathTree)
     → i < length all → read ≡ get_or all i read → IsFixed ranges (place_tree read) fixed rest → (place : Place)
     → IsFixedOf ranges (take (i + 1) (place_trees all)) place ↔ (IsFixedOf ranges (take i (place_trees all)) place ⊎ (place ≡ fixed))
 fixed_step ranges all i read fixed rest within is here place = (
@@ -221,25 +221,25 @@ fixed_step ranges all i read fixed rest within is here place = (
 
 -- ---- words that cells show
 -- in a list where each place stands once a range is known by its place
-one_range : (ranges : List Range) (number : ℕ) (own range : Range) → IsOnce (places ranges) → slice_get ranges number ≡ Some own
+one_range : (ranges : List PlacedRange) (number : ℕ) (own range : PlacedRange) → IsOnce (places ranges) → slice_get ranges number ≡ Some own
     → Contains ranges range → range.place ≡ own.place → range ≡ own
 one_range ranges number own range once stands there same =
-    let at_place = λ (r : Range). r.place in
+    let at_place = λ (r : PlacedRange). r.place in
     let here : slice_get ranges there.0 ≡ Some range =
-    slice_get-get_or ranges there.0 range there.1 ∙ ap (λ (r : Range). Some r) there.2 in
+    slice_get-get_or ranges there.0 range there.1 ∙ ap (λ (r : PlacedRange). Some r) there.2 in
     let first = slice_get-map at_place ranges there.0 ∙ ap (option_map at_place) here ∙ ap (λ (p : Place). Some p) same in
     let second = slice_get-map at_place ranges number ∙ ap (option_map at_place) stands in
     same_Some range own (sym here ∙ ap (slice_get ranges) (once there.0 number own.place first second) ∙ stands)
 
 -- for a word its range is needed and the one that this starts at
-needed_at : (ranges : List Range) (number : ℕ) (own : Range) → IsOnce (places ranges) → slice_get ranges number ≡ Some own → (place : Place)
+needed_at : (ranges : List PlacedRange) (number : ℕ) (own : PlacedRange) → IsOnce (places ranges) → slice_get ranges number ≡ Some own → (place : Place)
     → IsNeededAt ranges own.place place ↔ ((place ≡ own.place) ⊎ (place ≡ own.start))
 needed_at ranges number own once stands place = (
   λ h.
       let same = one_range ranges number own h.0 once stands h.1 h.2 in
       elim h.3 [
         | inl itself ↦ inl (sym itself ∙ h.2)
-        | inr start ↦ inr (sym start ∙ ap (λ (r : Range). r.start) same)
+        | inr start ↦ inr (sym start ∙ ap (λ (r : PlacedRange). r.start) same)
       ],
   λ h. (own, Contains-from_place ranges number own stands, refl, elim h [ inl itself ↦ inl (sym itself) | inr start ↦ inr (sym start) ]),
 )
@@ -252,7 +252,7 @@ marked_word old middle new number link shown all stands is first second =
     let ranges = ranges_of old.fused.items in
     let there : slice_get (places ranges) number ≡ Some shown = ap (λ ps. slice_get ps number) (sym all.same) ∙ stands in
     let low = slice_get_within (places ranges) number shown there in
-    let long = length-map ranges (λ (r : Range). r.place) in
+    let long = length-map ranges (λ (r : PlacedRange). r.place) in
     let longer = length-map old.fused.items range_of in
     let within : number < length old.fused.items = omega arith in
     let read = slice_get_read old.fused.items (length old.fused.items) number link refl within is in
@@ -263,9 +263,9 @@ marked_word old middle new number link shown all stands is first second =
     (needed_at ranges number (range_of link) all.once here))
 
 -- a word whose place has no range needs none
-pub unneeded : (ranges : List Range) (shown place : Place) → (Contains (places ranges) shown → ⊥) → IsNeededAt ranges shown place → ⊥
+pub unneeded : (ranges : List PlacedRange) (shown place : Place) → (Contains (places ranges) shown → ⊥) → IsNeededAt ranges shown place → ⊥
 unneeded ranges shown place absent h =
-    absent (Contains-same (places ranges) h.0.place shown h.2 (Contains-map (λ (r : Range). r.place) ranges h.0 h.1))
+    absent (Contains-same (places ranges) h.0.place shown h.2 (Contains-map (λ (r : PlacedRange). r.place) ranges h.0 h.1))
 
 -- the same marks, said otherwise
 marked_alike : (old new : SelectRanges) (Marks Other : Place → Type 0) → ((place : Place) → Marks place ↔ Other place) → AreMarked old new Marks
@@ -291,16 +291,16 @@ marked_shown old new shown = marked_alike old new (IsNeededAt ranges shown) (IsN
   ],
 ))
   where
-    ranges : List Range
+    ranges : List PlacedRange
     ranges = ranges_of old.fused.items
 
-pub wordless : (ranges : List Range) (shown place : Place) → IsNeededOf ranges (object shown ∷ []) place → ⊥
+pub wordless : (ranges : List PlacedRange) (shown place : Place) → IsNeededOf ranges (object shown ∷ []) place → ⊥
 wordless ranges shown place h = elim (Contains-cases (object shown) [] (word h.0) h.1) [
   | inl same ↦ (let apart : object shown ≡ word h.0 = same in cc)
   | inr none ↦ Contains-none (word h.0) none
 ]
 
-pub words_step : (ranges : List Range) (all : List Shown) (i : ℕ) (read : Shown) → i < length all → read ≡ get_or all i read → (place : Place)
+pub words_step : (ranges : List PlacedRange) (all : List Shown) (i : ℕ) (read : Shown) → i < length all → read ≡ get_or all i read → (place : Place)
     → IsNeededOf ranges (take (i + 1) (shown_trees all)) place
     ↔ (IsNeededOf ranges (take i (shown_trees all)) place ⊎ IsNeededOf ranges (shown_tree read ∷ []) place)
 words_step ranges all i read within is place =
@@ -328,7 +328,7 @@ words_step ranges all i read within is place =
 
 -- ---- used ranges
 -- what the text tells of the uses of a place
-used_alike : (ranges : List Range) (query : SelectTree) (text : Text) → IsTextOf query text → (place : Place)
+used_alike : (ranges : List PlacedRange) (query : SelectTree) (text : Text) → IsTextOf query text → (place : Place)
     → ((Contains (place_trees text.items.places.items) place ⊎ IsNeededOf ranges (shown_trees text.items.cells.items) place)
     ⊎ IsFixedOf ranges (place_trees text.condition.places.items) place) ↔ IsUsed query ranges place
 used_alike ranges query text is place = (
@@ -375,9 +375,9 @@ marked_used old middle third new query text fresh cells words conditions is plac
     let needed = IsNeededOf ranges shown in
     let fixed = IsFixedOf ranges paths in
     let two = marked_then old middle third cell needed (λ p. cell p ⊎ needed p) cells
-    (subst (λ (rs : List Range). AreMarked middle third (IsNeededOf rs shown)) cells.ranges words) (λ p. (λ h. h, λ h. h)) in
+    (subst (λ (rs : List PlacedRange). AreMarked middle third (IsNeededOf rs shown)) cells.ranges words) (λ p. (λ h. h, λ h. h)) in
     let all = marked_then old third new (λ p. cell p ⊎ needed p) fixed (λ p. (cell p ⊎ needed p) ⊎ fixed p) two
-    (subst (λ (rs : List Range). AreMarked third new (IsFixedOf rs paths)) two.ranges conditions) (λ p. (λ h. h, λ h. h)) in
+    (subst (λ (rs : List PlacedRange). AreMarked third new (IsFixedOf rs paths)) two.ranges conditions) (λ p. (λ h. h, λ h. h)) in
     let alike = used_alike ranges query text is place in (
       λ h. elim ((all.marked place).0 h) [
         | inl earlier ↦ absurd (true≢false (sym earlier.3 ∙ All-contains (λ (l : TextRange). l.used ≡ false) old.fused.items earlier.0 fresh.unused earlier.1))

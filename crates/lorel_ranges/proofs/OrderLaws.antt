@@ -5,7 +5,7 @@ use Rattle.std.proofs.lemmas.List.{append-nil}
 use Rattle.std.proofs.lemmas.List.Elements.{All-contains, All-nil, All-cons, All-head, All-tail, All-weaker, Contains-append_left, Contains-push, Contains-push_cases}
 use Rattle.lore_base.proofs.MemberLaws.{Contains-same}
 use Rattle.lorel_ranges.specs.Places.{Place}
-use Rattle.lorel_ranges.specs.Ranges.{Range, places, joined}
+use Rattle.lorel_ranges.specs.Ranges.{PlacedRange, places, joined_range}
 use Rattle.lorel_ranges.specs.inside.Orders.{IsOpen, IsFound, IsPlaced, AreOrdered}
 use Rattle.lorel_ranges.proofs.ListLaws.{Contains-between}
 
@@ -21,7 +21,7 @@ unfound earlier start place (inl named) is_open absent same = is_open.unnamed (n
 unfound earlier start place (inr at) is_open absent same = absent (Contains-same earlier start place same at)
 
 -- what is behind stands at new places
-pub new_places : (earlier : List Place) (ranges : List Range) → AreOrdered earlier ranges → All (λ range. Contains earlier range.place → ⊥) ranges
+pub new_places : (earlier : List Place) (ranges : List PlacedRange) → AreOrdered earlier ranges → All (λ range. Contains earlier range.place → ⊥) ranges
 new_places earlier [] ordered = All-nil (λ range. Contains earlier range.place → ⊥)
 new_places earlier (range ∷ others) ordered =
     All-cons (λ later. Contains earlier later.place → ⊥) range others ordered.0.is_new
@@ -29,13 +29,13 @@ new_places earlier (range ∷ others) ordered =
     (λ later absent at. absent (Contains-append_left earlier (range.place ∷ []) later.place at)) others
     (new_places (earlier ++ range.place ∷ []) others ordered.1))
 
-pub open_places : (earlier : List Place) (ranges : List Range) → AreOrdered earlier ranges → All (λ range. IsOpen range.place) ranges
+pub open_places : (earlier : List Place) (ranges : List PlacedRange) → AreOrdered earlier ranges → All (λ range. IsOpen range.place) ranges
 open_places earlier [] ordered = All-nil (λ range. IsOpen range.place)
 open_places earlier (range ∷ others) ordered =
     All-cons (λ later. IsOpen later.place) range others ordered.0.is_open (open_places (earlier ++ range.place ∷ []) others ordered.1)
 
 -- behind a range no other has its place
-pub other_places : (earlier : List Place) (range : Range) (others : List Range) → AreOrdered earlier (range ∷ others)
+pub other_places : (earlier : List Place) (range : PlacedRange) (others : List PlacedRange) → AreOrdered earlier (range ∷ others)
     → All (λ other. other.place ≢ range.place) others
 other_places earlier range others ordered =
     All-weaker (λ later. Contains (earlier ++ range.place ∷ []) later.place → ⊥) (λ later. later.place ≢ range.place)
@@ -43,14 +43,14 @@ other_places earlier range others ordered =
     others (new_places (earlier ++ range.place ∷ []) others ordered.1)
 
 -- the order of what stands behind some ranges
-pub AreOrdered-behind : (earlier : List Place) (front back : List Range) → AreOrdered earlier (front ++ back) → AreOrdered (earlier ++ places front) back
+pub AreOrdered-behind : (earlier : List Place) (front back : List PlacedRange) → AreOrdered earlier (front ++ back) → AreOrdered (earlier ++ places front) back
 AreOrdered-behind earlier [] back ordered = subst (λ (all : List Place). AreOrdered all back) (sym (append-nil earlier)) ordered
 AreOrdered-behind earlier (range ∷ front) back ordered =
     subst (λ (all : List Place). AreOrdered all back) (append_assoc earlier (range.place ∷ []) (places front))
     (AreOrdered-behind (earlier ++ range.place ∷ []) front back ordered.1)
 
 -- ranges in order go on by one that is placed behind them
-pub AreOrdered-push : (earlier : List Place) (ranges : List Range) (range : Range) → AreOrdered earlier ranges
+pub AreOrdered-push : (earlier : List Place) (ranges : List PlacedRange) (range : PlacedRange) → AreOrdered earlier ranges
     → IsPlaced (earlier ++ places ranges) range → AreOrdered earlier (ranges ++ range ∷ [])
 AreOrdered-push earlier [] range ordered placed = (subst (λ (all : List Place). IsPlaced all range) (append-nil earlier) placed, tt)
 AreOrdered-push earlier (first ∷ ranges) range ordered placed = (
@@ -59,7 +59,7 @@ AreOrdered-push earlier (first ∷ ranges) range ordered placed = (
       (subst (λ (all : List Place). IsPlaced all range) (sym (append_assoc earlier (first.place ∷ []) (places ranges))) placed),
 )
 
-module _ (earlier : List Place) (front : List Range) (range : Range) (back : List Range) (ordered : AreOrdered earlier (front ++ range ∷ back)) where
+module _ (earlier : List Place) (front : List PlacedRange) (range : PlacedRange) (back : List PlacedRange) (ordered : AreOrdered earlier (front ++ range ∷ back)) where
   pub open_at : IsOpen range.place
   open_at = All-contains (λ r. IsOpen r.place) (front ++ range ∷ back) range (open_places earlier (front ++ range ∷ back) ordered)
       (Contains-between front range back)
@@ -74,7 +74,7 @@ module _ (earlier : List Place) (front : List Range) (range : Range) (back : Lis
       unfound (earlier ++ places front) range.start range.place placed.found placed.is_open placed.is_new
 
 -- no range starts at a later one
-pub starts_before : (earlier : List Place) (front : List Range) (range : Range) (back : List Range) → AreOrdered earlier (front ++ range ∷ back)
+pub starts_before : (earlier : List Place) (front : List PlacedRange) (range : PlacedRange) (back : List PlacedRange) → AreOrdered earlier (front ++ range ∷ back)
     → All (λ other. other.start ≢ range.place) front
 starts_before earlier [] range back ordered = All-nil (λ other. other.start ≢ range.place)
 starts_before earlier (first ∷ front) range back ordered =
@@ -83,7 +83,7 @@ starts_before earlier (first ∷ front) range back ordered =
     (starts_before (earlier ++ first.place ∷ []) front range back ordered.1)
 
 -- no other range has the place of a range
-pub placed_once : (earlier : List Place) (front : List Range) (range : Range) (back : List Range) → AreOrdered earlier (front ++ range ∷ back)
+pub placed_once : (earlier : List Place) (front : List PlacedRange) (range : PlacedRange) (back : List PlacedRange) → AreOrdered earlier (front ++ range ∷ back)
     → All (λ other. other.place ≢ range.place) front × All (λ other. other.place ≢ range.place) back
 placed_once earlier [] range back ordered = (All-nil (λ other. other.place ≢ range.place), other_places earlier range back ordered)
 placed_once earlier (first ∷ front) range back ordered =
@@ -124,7 +124,7 @@ IsFound-fewer : (gone : Place) (earlier fewer : List Place) (start : Place) → 
 IsFound-fewer gone earlier fewer start drops apart (inl named) = inl named
 IsFound-fewer gone earlier fewer start drops apart (inr at) = inr (drops.kept start apart at)
 
-IsPlaced-fewer : (gone : Place) (earlier fewer : List Place) (range : Range) → Drops gone earlier fewer → range.start ≢ gone
+IsPlaced-fewer : (gone : Place) (earlier fewer : List Place) (range : PlacedRange) → Drops gone earlier fewer → range.start ≢ gone
     → IsPlaced earlier range → IsPlaced fewer range
 IsPlaced-fewer gone earlier fewer range drops apart placed = record {
   found = IsFound-fewer gone earlier fewer range.start drops apart placed.found;
@@ -132,7 +132,7 @@ IsPlaced-fewer gone earlier fewer range drops apart placed = record {
   is_new = λ at. placed.is_new (drops.within range.place at);
 }
 
-AreOrdered-fewer : (gone : Place) (earlier fewer : List Place) (ranges : List Range) → Drops gone earlier fewer
+AreOrdered-fewer : (gone : Place) (earlier fewer : List Place) (ranges : List PlacedRange) → Drops gone earlier fewer
     → All (λ range. range.start ≢ gone) ranges → AreOrdered earlier ranges → AreOrdered fewer ranges
 AreOrdered-fewer gone earlier fewer [] drops apart ordered = tt
 AreOrdered-fewer gone earlier fewer (range ∷ others) drops apart ordered = (
@@ -142,10 +142,10 @@ AreOrdered-fewer gone earlier fewer (range ∷ others) drops apart ordered = (
 )
 
 -- ---- two ranges as one
-joined_behind : (earlier fewer : List Place) (range : Range) (middle : List Range) (other : Range) (back : List Range)
+joined_behind : (earlier fewer : List Place) (range : PlacedRange) (middle : List PlacedRange) (other : PlacedRange) (back : List PlacedRange)
     → Drops range.place earlier fewer → IsFound fewer range.start
     → All (λ r. r.start ≢ range.place) middle → All (λ r. r.start ≢ range.place) back
-    → AreOrdered earlier (middle ++ other ∷ back) → AreOrdered fewer (middle ++ joined range other ∷ back)
+    → AreOrdered earlier (middle ++ other ∷ back) → AreOrdered fewer (middle ++ joined_range range other ∷ back)
 joined_behind earlier fewer range [] other back drops found before after ordered = (
   record { found = found; is_open = ordered.0.is_open; is_new = λ at. ordered.0.is_new (drops.within other.place at) },
   AreOrdered-fewer range.place (earlier ++ other.place ∷ []) (fewer ++ other.place ∷ []) back
@@ -160,9 +160,9 @@ joined_behind earlier fewer range (first ∷ middle) other back drops found befo
 )
 
 -- a range that joins the only one that starts at it leaves the ranges in order
-pub AreOrdered-joined : (earlier : List Place) (front : List Range) (range : Range) (middle : List Range) (other : Range) (back : List Range)
+pub AreOrdered-joined : (earlier : List Place) (front : List PlacedRange) (range : PlacedRange) (middle : List PlacedRange) (other : PlacedRange) (back : List PlacedRange)
     → All (λ r. r.start ≢ range.place) middle → All (λ r. r.start ≢ range.place) back
-    → AreOrdered earlier (front ++ range ∷ (middle ++ other ∷ back)) → AreOrdered earlier (front ++ (middle ++ joined range other ∷ back))
+    → AreOrdered earlier (front ++ range ∷ (middle ++ other ∷ back)) → AreOrdered earlier (front ++ (middle ++ joined_range range other ∷ back))
 AreOrdered-joined earlier [] range middle other back before after ordered =
     joined_behind (earlier ++ range.place ∷ []) earlier range middle other back (Drops-last range.place earlier) ordered.0.found before after ordered.1
 AreOrdered-joined earlier (first ∷ front) range middle other back before after ordered =

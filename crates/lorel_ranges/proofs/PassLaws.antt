@@ -7,7 +7,7 @@ use Rattle.std.proofs.lemmas.Option.{same_Some, slice_get_within}
 use Rattle.lore_base.proofs.MemberLaws.{Contains-none, Contains-cases}
 use Rattle.lore_base.specs.Paths.{path_tree}
 use Rattle.lorel_ranges.specs.Places.{Place}
-use Rattle.lorel_ranges.specs.Ranges.{Range, places, joined, IsOnlyStart, IsFusable, AreFused}
+use Rattle.lorel_ranges.specs.Ranges.{PlacedRange, places, joined_range, IsOnlyStart, IsFusable, AreFused}
 use Rattle.lorel_ranges.specs.inside.Fusing.{start_count, IsHalfFused}
 use Rattle.lorel_ranges.specs.inside.Orders.{AreOrdered}
 use Rattle.lorel_ranges.specs.Views.{place_tree, range_of, ranges_of}
@@ -46,7 +46,7 @@ told_behind : (front back : List TextRange) → AreOrdered [] (ranges_of (front 
 told_behind front [] ordered = All-nil (λ link. (link.used ≡ true) ↔ IsMarked (front ++ []) (place_tree link.place))
 told_behind front (link ∷ back) ordered =
     let regroup : (front ++ link ∷ []) ++ back ≡ front ++ link ∷ back = append_assoc front (link ∷ []) back in
-    let once = placed_once [] (ranges_of front) (range_of link) (ranges_of back) (subst (λ (rs : List Range). AreOrdered [] rs) (ranges_append front (link ∷ back)) ordered) in
+    let once = placed_once [] (ranges_of front) (range_of link) (ranges_of back) (subst (λ (rs : List PlacedRange). AreOrdered [] rs) (ranges_append front (link ∷ back)) ordered) in
     All-cons (λ l. (l.used ≡ true) ↔ IsMarked (front ++ link ∷ back) (place_tree l.place)) link back (
       (λ used. (link, Contains-between front link back, refl, used)),
       (λ marked. by once marked.0 marked.2 marked.3 (Contains-append_cases front (link ∷ back) marked.0 marked.1)),
@@ -92,7 +92,7 @@ remaining_gone front link gone =
     filter-append (λ l. not l.joined) front (link ∷ []) ∙ ap (λ b. remaining front ++ cond (not b) (link ∷ []) []) gone ∙ append-nil (remaining front)
 
 -- a range that is used or isn't the start of a single other can't be fused with what is behind it
-alone : (Used : Place → Type 0) (first : ℕ) (link : TextRange) (behind : List Range) (followers : Followers) → link.followers ≡ followers
+alone : (Used : Place → Type 0) (first : ℕ) (link : TextRange) (behind : List PlacedRange) (followers : Followers) → link.followers ≡ followers
     → IsFollowed first behind (place_tree link.place) followers → ((later : ℕ) → followers ≡ One later → Used (place_tree link.place))
     → IsFusable Used behind (range_of link) → ⊥
 alone Used first link behind None is followed used fusable = let once = fusable_once Used behind (range_of link) fusable in absurd (omega (arith, once, followed))
@@ -133,7 +133,7 @@ passing_keep plain number links link passing within is kept =
       left = next.rest;
       are = next.are ∙ sym (append_assoc next.front (link ∷ []) next.rest);
       count = omega (arith, next.count, length-append next.front (link ∷ []));
-      half = subst (λ (rs : List Range). IsHalfFused (IsMarked plain) (ranges_of plain) rs (ranges_of next.rest)) (sym (remaining_more next.front link next.followed.0))
+      half = subst (λ (rs : List PlacedRange). IsHalfFused (IsMarked plain) (ranges_of plain) rs (ranges_of next.rest)) (sym (remaining_more next.front link next.followed.0))
           (half_fused_keep (IsMarked plain) (ranges_of plain) (ranges_of (remaining next.front)) (range_of link) (ranges_of next.rest) next.half
           (alone (IsMarked plain) (suc number) link (ranges_of next.rest) link.followers refl next.followed.1 (λ later at. marked (kept later at))));
       followed = subst (λ n. AreFollowed n next.rest) (sym (add-one number)) next.followed.2;
@@ -154,15 +154,15 @@ passing_later plain number links link later passing within is one =
     (omega (arith, at), omega (arith, at, low, long, all, count))
 
 -- ---- two ranges that are joined
-HasStart-restart : (front : List Range) (old new : Range) (back : List Range) (place : Place) (offset : ℕ) → old.start ≢ place
+HasStart-restart : (front : List PlacedRange) (old new : PlacedRange) (back : List PlacedRange) (place : Place) (offset : ℕ) → old.start ≢ place
     → HasStart (front ++ old ∷ back) place offset → HasStart (front ++ new ∷ back) place offset
-HasStart-restart [] old new back place zero apart h = absurd (apart (ap (λ (r : Range). r.start) (same_Some old h.0 h.1) ∙ h.2))
+HasStart-restart [] old new back place zero apart h = absurd (apart (ap (λ (r : PlacedRange). r.start) (same_Some old h.0 h.1) ∙ h.2))
 HasStart-restart [] old new back place (suc offset) apart h = h
 HasStart-restart (first ∷ front) old new back place zero apart h = h
 HasStart-restart (first ∷ front) old new back place (suc offset) apart h = HasStart-restart front old new back place offset apart h
 
 -- a range elsewhere that starts elsewhere now is no matter
-IsFollowed-restart : (first : ℕ) (front : List Range) (old new : Range) (back : List Range) (place : Place) (followers : Followers)
+IsFollowed-restart : (first : ℕ) (front : List PlacedRange) (old new : PlacedRange) (back : List PlacedRange) (place : Place) (followers : Followers)
     → old.start ≢ place → new.start ≢ place → IsFollowed first (front ++ old ∷ back) place followers → IsFollowed first (front ++ new ∷ back) place followers
 IsFollowed-restart first front old new back place followers was is = by followers
   where
@@ -186,18 +186,18 @@ AreFollowed-restart first [] old new back place joined followers was is h = (
 )
 AreFollowed-restart first (link ∷ middle) old new back place joined followers was is h = (
   h.0,
-  subst (λ (rs : List Range). IsFollowed (suc first) rs (place_tree link.place) link.followers) (sym (ranges_append middle (new ∷ back)))
+  subst (λ (rs : List PlacedRange). IsFollowed (suc first) rs (place_tree link.place) link.followers) (sym (ranges_append middle (new ∷ back)))
       (IsFollowed-restart (suc first) (ranges_of middle) (range_of old) (range_of new) (ranges_of back) (place_tree link.place) link.followers
       (All-head (λ r. place_tree old.start ≢ r.place) (range_of link) (ranges_of middle) was)
       (All-head (λ r. place_tree new.start ≢ r.place) (range_of link) (ranges_of middle) is)
-      (subst (λ (rs : List Range). IsFollowed (suc first) rs (place_tree link.place) link.followers) (ranges_append middle (old ∷ back)) h.1)),
+      (subst (λ (rs : List PlacedRange). IsFollowed (suc first) rs (place_tree link.place) link.followers) (ranges_append middle (old ∷ back)) h.1)),
   AreFollowed-restart (suc first) middle old new back place joined followers
       (All-tail (λ r. place_tree old.start ≢ r.place) (range_of link) (ranges_of middle) was)
       (All-tail (λ r. place_tree new.start ≢ r.place) (range_of link) (ranges_of middle) is) h.2,
 )
 
 -- no range behind another has the place that the other starts at
-start_apart : (earlier : List Place) (front : List Range) (range : Range) (back : List Range) → AreOrdered earlier (front ++ range ∷ back)
+start_apart : (earlier : List Place) (front : List PlacedRange) (range : PlacedRange) (back : List PlacedRange) → AreOrdered earlier (front ++ range ∷ back)
     → All (λ r. range.start ≢ r.place) back
 start_apart earlier front range back ordered =
     let before = earlier ++ places front in
@@ -208,12 +208,12 @@ start_apart earlier front range back ordered =
     (λ at. absent k d low (Contains-append_left before (range.place ∷ []) (get_or back k d).place at))
 
 -- where one range starts at a place, at that number, no other does
-only_start : (place : Place) (middle : List Range) (other : Range) (back : List Range) (offset : ℕ) → start_count place (middle ++ other ∷ back) ≡ 1
+only_start : (place : Place) (middle : List PlacedRange) (other : PlacedRange) (back : List PlacedRange) (offset : ℕ) → start_count place (middle ++ other ∷ back) ≡ 1
     → HasStart (middle ++ other ∷ back) place offset → offset ≡ length middle → IsOnlyStart place middle other back
 only_start place middle other back offset once there at =
     let here : slice_get (middle ++ other ∷ back) offset ≡ Some other = ap (slice_get (middle ++ other ∷ back)) at ∙ slice_get-middle middle other back in
     let same = same_Some there.0 other (sym there.1 ∙ here) in
-    let starts : other.start ≡ place = sym (ap (λ (r : Range). r.start) same) ∙ there.2 in
+    let starts : other.start ≡ place = sym (ap (λ (r : PlacedRange). r.start) same) ∙ there.2 in
     let sum = count_append place middle (other ∷ back) in
     let one = count_one place other back starts in
     record {
@@ -223,7 +223,7 @@ only_start place middle other back offset once there at =
     }
 
 -- a range that takes over is both joined
-taken_range : (first second both : TextRange) → TakesOver first.start first.parts.items second both → range_of both ≡ joined (range_of first) (range_of second)
+taken_range : (first second both : TextRange) → TakesOver first.start first.parts.items second both → range_of both ≡ joined_range (range_of first) (range_of second)
 taken_range first second both takes =
     let start = ap place_tree takes.start_is in
     let parts = ap (map (λ part. path_tree part.now)) takes.parts_are ∙ map-append (λ part. path_tree part.now) first.parts.items second.parts.items in
@@ -240,16 +240,16 @@ join_first : (plain : List TextRange) (number later : ℕ) (new front : List Tex
 join_first plain number later new front first middle second back gone both is count at is_gone takes half followed told one unused =
     let kept = ranges_of (remaining front) in
     let T = λ (l : TextRange). (l.used ≡ true) ↔ IsMarked plain (place_tree l.place) in
-    let half_parts = subst (λ (rs : List Range). IsHalfFused (IsMarked plain) (ranges_of plain) kept (range_of first ∷ rs)) (ranges_append middle (second ∷ back)) half in
+    let half_parts = subst (λ (rs : List PlacedRange). IsHalfFused (IsMarked plain) (ranges_of plain) kept (range_of first ∷ rs)) (ranges_append middle (second ∷ back)) half in
     let known = subst (λ (f : Followers). IsFollowed (suc number) (ranges_of (middle ++ second ∷ back)) (place_tree first.place) f) one followed.1 in
-    let parts = subst (λ (rs : List Range). (start_count (place_tree first.place) rs ≡ 1) × HasStart rs (place_tree first.place) known.1.0) (ranges_append middle (second ∷ back)) (known.0, known.1.2) in
+    let parts = subst (λ (rs : List PlacedRange). (start_count (place_tree first.place) rs ≡ 1) × HasStart rs (place_tree first.place) known.1.0) (ranges_append middle (second ∷ back)) (known.0, known.1.2) in
     let offset : known.1.0 ≡ length (ranges_of middle) = omega (arith, known.1.1, at, length-map middle range_of) in
     let only = only_start (place_tree first.place) (ranges_of middle) (range_of second) (ranges_of back) known.1.0 parts.0 parts.1 offset in
     let never = λ (marked : IsMarked plain (place_tree first.place)). true≢false (sym ((All-head T first (middle ++ second ∷ back) told).1 marked) ∙ unused) in
     let both_range = taken_range first second both takes in
     let apart = (placed_once [] kept (range_of first) (ranges_of middle ++ range_of second ∷ ranges_of back) half_parts.ordered).1 in
     let away = start_apart [] kept (range_of first) (ranges_of middle ++ range_of second ∷ ranges_of back) half_parts.ordered in
-    let was = All-weaker (λ r. r.place ≢ place_tree first.place) (λ (r : Range). place_tree second.start ≢ r.place) (λ r other same. other (sym same ∙ only.starts)) (ranges_of middle)
+    let was = All-weaker (λ r. r.place ≢ place_tree first.place) (λ (r : PlacedRange). place_tree second.start ≢ r.place) (λ r other same. other (sym same ∙ only.starts)) (ranges_of middle)
     (All-parts (λ r. r.place ≢ place_tree first.place) (ranges_of middle) (range_of second ∷ ranges_of back) apart).0 in
     let now = subst (λ (p : Place). All (λ r. p ≢ r.place) (ranges_of middle)) (sym (ap place_tree takes.start_is))
     (All-parts (λ r. place_tree first.start ≢ r.place) (ranges_of middle) (range_of second ∷ ranges_of back) away).0 in
@@ -262,8 +262,8 @@ join_first plain number later new front first middle second back gone both is co
       are = is ∙ sym (append_assoc front (gone ∷ []) (middle ++ both ∷ back));
       count = omega (arith, count, length-append front (gone ∷ []));
       half = subst (λ (ls : List TextRange). IsHalfFused (IsMarked plain) (ranges_of plain) (ranges_of ls) (ranges_of (middle ++ both ∷ back))) (sym (remaining_gone front gone is_gone))
-          (subst (λ (rs : List Range). IsHalfFused (IsMarked plain) (ranges_of plain) kept rs)
-          (ap (λ (r : Range). ranges_of middle ++ r ∷ ranges_of back) (sym both_range) ∙ sym (ranges_append middle (both ∷ back)))
+          (subst (λ (rs : List PlacedRange). IsHalfFused (IsMarked plain) (ranges_of plain) kept rs)
+          (ap (λ (r : PlacedRange). ranges_of middle ++ r ∷ ranges_of back) (sym both_range) ∙ sym (ranges_append middle (both ∷ back)))
           (half_fused_join (IsMarked plain) (ranges_of plain) kept (range_of first) (ranges_of middle) (range_of second) (ranges_of back) half_parts never only));
       followed = subst (λ n. AreFollowed n (middle ++ both ∷ back)) (sym (add-one number))
           (AreFollowed-restart (suc number) middle second both back place takes.joined_is takes.followers_are was now followed.2);

@@ -10,17 +10,17 @@ use Rattle.lore_base.proofs.MemberLaws.{Contains-none, Contains-head, Contains-t
 use Rattle.lorel_trees.specs.Trees.{FromTree, ItemTree, SelectTree}
 use Rattle.lorel_trees.specs.Trees as t
 use Rattle.lorel_ranges.specs.Places.{Root, ranged, quantified, Place, at_root, beyond, Scope, root_of, place_of, scope_behind, scope_of, item_places, cell_places}
-use Rattle.lorel_ranges.specs.Ranges.{Range, prefix_ranges, path_ranges, from_item_ranges, from_ranges, made_ranges, places, AreGathered, ArePlain}
+use Rattle.lorel_ranges.specs.Ranges.{PlacedRange, prefix_ranges, path_ranges, from_item_ranges, from_ranges, made_ranges, places, AreGathered, ArePlain}
 use Rattle.lorel_ranges.specs.inside.Orders.{IsOpen, IsFound, AreOrdered}
 use Rattle.lorel_ranges.proofs.OrderLaws.{IsFound-wider, AreOrdered-push}
 
 -- ---- what a select makes
 -- a range may have this start and this place
-pub record IsFounded (earlier : List Place) (range : Range) : Type 0 where
+pub record IsFounded (earlier : List Place) (range : PlacedRange) : Type 0 where
   pub found : IsFound earlier range.start
   pub is_open : IsOpen range.place
 
-abbrev pub AreFounded : List Place → List Range → Type 0
+abbrev pub AreFounded : List Place → List PlacedRange → Type 0
 AreFounded earlier [] = Unit {0}
 AreFounded earlier (range ∷ made) = IsFounded earlier range × AreFounded (earlier ++ range.place ∷ []) made
 
@@ -31,7 +31,7 @@ within_push earlier wider place within other at = elim (Contains-append_cases ea
   | inr last ↦ Contains-append_right wider (place ∷ []) other last
 ]
 
-AreFounded-wider : (earlier wider : List Place) (made : List Range) → ((place : Place) → Contains earlier place → Contains wider place)
+AreFounded-wider : (earlier wider : List Place) (made : List PlacedRange) → ((place : Place) → Contains earlier place → Contains wider place)
     → AreFounded earlier made → AreFounded wider made
 AreFounded-wider earlier wider [] within founded = tt
 AreFounded-wider earlier wider (range ∷ made) within founded = (
@@ -39,7 +39,7 @@ AreFounded-wider earlier wider (range ∷ made) within founded = (
   AreFounded-wider (earlier ++ range.place ∷ []) (wider ++ range.place ∷ []) made (within_push earlier wider range.place within) founded.1,
 )
 
-AreFounded-append : (earlier : List Place) (made more : List Range) → AreFounded earlier made → AreFounded (earlier ++ places made) more
+AreFounded-append : (earlier : List Place) (made more : List PlacedRange) → AreFounded earlier made → AreFounded (earlier ++ places made) more
     → AreFounded earlier (made ++ more)
 AreFounded-append earlier [] more first second = subst (λ (all : List Place). AreFounded all more) (append-nil earlier) second
 AreFounded-append earlier (range ∷ made) more first second = (
@@ -49,9 +49,9 @@ AreFounded-append earlier (range ∷ made) more first second = (
 )
 
 -- a range of each place that is gathered stands in order
-gathered_ordered : (seen : List Place) (earlier made ranges : List Range) → ((place : Place) → Contains seen place → Contains (places earlier) place)
+gathered_ordered : (seen : List Place) (earlier made ranges : List PlacedRange) → ((place : Place) → Contains seen place → Contains (places earlier) place)
     → AreOrdered [] earlier → AreFounded seen made → AreGathered earlier made ranges → AreOrdered [] ranges
-gathered_ordered seen earlier [] ranges within ordered founded same = subst (λ (all : List Range). AreOrdered [] all) (sym same) ordered
+gathered_ordered seen earlier [] ranges within ordered founded same = subst (λ (all : List PlacedRange). AreOrdered [] all) (sym same) ordered
 gathered_ordered seen earlier (range ∷ made) ranges within ordered founded (inl there) =
     gathered_ordered (seen ++ range.place ∷ []) earlier made ranges
     (λ place at. elim (Contains-append_cases seen (range.place ∷ []) place at) [
@@ -62,7 +62,7 @@ gathered_ordered seen earlier (range ∷ made) ranges within ordered founded (in
       ]
     ]) ordered founded.1 there.1
 gathered_ordered seen earlier (range ∷ made) ranges within ordered founded (inr absent) =
-    let longer : places (earlier ++ range ∷ []) ≡ places earlier ++ range.place ∷ [] = map-append (λ (r : Range). r.place) earlier (range ∷ []) in
+    let longer : places (earlier ++ range ∷ []) ≡ places earlier ++ range.place ∷ [] = map-append (λ (r : PlacedRange). r.place) earlier (range ∷ []) in
     gathered_ordered (seen ++ range.place ∷ []) (earlier ++ range ∷ []) made ranges
     (λ place at. subst (λ (all : List Place). Contains all place) (sym longer) (within_push seen (places earlier) range.place within place at))
     (AreOrdered-push [] earlier range ordered (record {
@@ -157,7 +157,7 @@ from_founded earlier scope (item ∷ items) ground =
     let first = item_founded earlier scope item.variable item.path ground in
     let later = from_founded (earlier ++ places made) (scope_behind item.variable scope) items first.1 in
     let all : (earlier ++ places made) ++ places rest ≡ earlier ++ places (made ++ rest) =
-    append_assoc earlier (places made) (places rest) ∙ ap (λ (ps : List Place). earlier ++ ps) (sym (map-append (λ (r : Range). r.place) made rest)) in (
+    append_assoc earlier (places made) (places rest) ∙ ap (λ (ps : List Place). earlier ++ ps) (sym (map-append (λ (r : PlacedRange). r.place) made rest)) in (
       AreFounded-append earlier made rest first.0 later.0,
       subst (λ (ps : List Place). AreGround ps (scope_of scope (item ∷ items))) all later.1,
     )
@@ -171,7 +171,7 @@ cells_ground earlier scope (t.object path ∷ items) ground =
 cells_ground earlier scope (t.path_of variable ∷ items) ground = cells_ground earlier scope items ground
 
 -- the ranges of each select stand in order: a start comes before what starts at it, and each place stands once
-pub plain_ordered : (query : SelectTree) (plain : List Range) → ArePlain query plain → AreOrdered [] plain
+pub plain_ordered : (query : SelectTree) (plain : List PlacedRange) → ArePlain query plain → AreOrdered [] plain
 plain_ordered query plain gathered =
     let first = from_founded [] [] query.tail.ranges (ground_names []) in
     let from = from_ranges [] query.tail.ranges in
@@ -181,7 +181,7 @@ plain_ordered query plain gathered =
     gathered
 
 -- ---- what is found among the plain ranges
-gathered_within : (earlier made ranges : List Range) → AreGathered earlier made ranges → (place : Place)
+gathered_within : (earlier made ranges : List PlacedRange) → AreGathered earlier made ranges → (place : Place)
     → Contains (places earlier ++ places made) place → Contains (places ranges) place
 gathered_within earlier [] ranges same place at =
     subst (λ (all : List Place). Contains all place) (append-nil (places earlier) ∙ ap places (sym same)) at
@@ -197,20 +197,20 @@ gathered_within earlier (range ∷ made) ranges (inr absent) place at =
     gathered_within (earlier ++ range ∷ []) made ranges absent.1 place
     (subst (λ (all : List Place). Contains all place)
     (sym (append_assoc (places earlier) (range.place ∷ []) (places made))
-    ∙ ap (λ (all : List Place). all ++ places made) (sym (map-append (λ (r : Range). r.place) earlier (range ∷ [])))) at)
+    ∙ ap (λ (all : List Place). all ++ places made) (sym (map-append (λ (r : PlacedRange). r.place) earlier (range ∷ [])))) at)
 
 -- each range that is made is found
-pub made_within : (query : SelectTree) (plain : List Range) → ArePlain query plain → (place : Place) → Contains (places (made_ranges query)) place
+pub made_within : (query : SelectTree) (plain : List PlacedRange) → ArePlain query plain → (place : Place) → Contains (places (made_ranges query)) place
     → Contains (places plain) place
 made_within query plain gathered place at = gathered_within [] (made_ranges query) plain gathered place at
 
 -- behind all from items each identifier means a name or a variable that has a range
-pub scope_found : (query : SelectTree) (plain : List Range) → ArePlain query plain → (start : List ℕ)
+pub scope_found : (query : SelectTree) (plain : List PlacedRange) → ArePlain query plain → (start : List ℕ)
     → IsGround (places plain) (root_of (scope_of [] query.tail.ranges) start)
 scope_found query plain gathered start =
     let from = from_ranges [] query.tail.ranges in
     let all : places (made_ranges query) ≡ places from ++ places (flat_map path_ranges (cell_places query)) =
-    map-append (λ (r : Range). r.place) from (flat_map path_ranges (cell_places query)) in
+    map-append (λ (r : PlacedRange). r.place) from (flat_map path_ranges (cell_places query)) in
     IsGround-wider (places from) (places plain) (root_of (scope_of [] query.tail.ranges) start)
     (λ place at. made_within query plain gathered place (subst (λ (ps : List Place). Contains ps place) (sym all)
     (Contains-append_left (places from) (places (flat_map path_ranges (cell_places query))) place at)))
@@ -247,7 +247,7 @@ paths_within : (paths : List Place) (path place : Place) → Contains paths path
     → Contains (places (flat_map path_ranges paths)) place
 paths_within [] path place at here = absurd (Contains-none path at)
 paths_within (first ∷ paths) path place at here =
-    let at_place = λ (r : Range). r.place in
+    let at_place = λ (r : PlacedRange). r.place in
     let all = map-append at_place (path_ranges first) (flat_map path_ranges paths) in
     subst (λ (ps : List Place). Contains ps place) (sym all) (elim (Contains-cases first paths path at) [
       | inl same ↦ Contains-append_left (places (path_ranges first)) (places (flat_map path_ranges paths)) place
@@ -257,13 +257,13 @@ paths_within (first ∷ paths) path place at here =
     ])
 
 -- each cell shows the object of a name or of a range
-pub cell_found : (query : SelectTree) (plain : List Range) → ArePlain query plain → (cell : Place) → Contains (cell_places query) cell
+pub cell_found : (query : SelectTree) (plain : List PlacedRange) → ArePlain query plain → (cell : Place) → Contains (cell_places query) cell
     → IsFound (places plain) cell
 cell_found query plain gathered cell at = elim (path_last cell) [
   | inl root ↦ subst (λ (p : Place). IsFound (places plain) p) (sym root) (ground.found)
   | inr parts ↦
       let from = from_ranges [] query.tail.ranges in
-      let all = map-append (λ (r : Range). r.place) from (flat_map path_ranges (cell_places query)) in
+      let all = map-append (λ (r : PlacedRange). r.place) from (flat_map path_ranges (cell_places query)) in
       inr (made_within query plain gathered cell (subst (λ (ps : List Place). Contains ps cell) (sym all)
       (Contains-append_right (places from) (places (flat_map path_ranges (cell_places query))) cell
       (paths_within (cell_places query) cell cell at parts))))

@@ -7,7 +7,7 @@ use Rattle.lore_base.proofs.MemberLaws.{Contains-none, Contains-head, Contains-t
 use Rattle.lorel_trees.specs.Trees.{SelectTree}
 use Rattle.lorel_ranges.specs.Places.{Place, at_root, beyond, cell_places}
 use Rattle.lorel_ranges.specs.Conditions.{cond_places}
-use Rattle.lorel_ranges.specs.Ranges.{Range, places, IsFixed, IsUsed}
+use Rattle.lorel_ranges.specs.Ranges.{PlacedRange, places, IsFixed, IsUsed}
 use Rattle.lorel_ranges.specs.Laws.{HasSomeFused}
 use Rattle.lorel_ranges.specs.Views.{prefix_of}
 use Rattle.lore_base.proofs.ToldLaws.{IsTold, told_either, told_member}
@@ -24,7 +24,7 @@ nothing_more (part ∷ parts) more same = absurd cc
 
 -- ---- one longest prefix
 -- a fixed prefix that is longer by some parts is longer by none
-none_longer : (ranges : List Range) (path fixed other : Place) (rest last more : List PathTree) → IsFixed ranges path fixed rest
+none_longer : (ranges : List PlacedRange) (path fixed other : Place) (rest last more : List PathTree) → IsFixed ranges path fixed rest
     → IsFixed ranges path other last → other.parts ≡ fixed.parts ++ more → rest ≡ more ++ last → more ≡ []
 none_longer ranges path fixed other rest last more here there longer split = elim there.stands [
   | inl root ↦ nothing_more fixed.parts more (sym longer ∙ ap (λ (p : Place). p.parts) root)
@@ -32,7 +32,7 @@ none_longer ranges path fixed other rest last more here there longer split = eli
       (sym (ap (λ (p : Place). p.root) there.is) ∙ ap (λ (p : Place). p.root) here.is) longer) at)
 ]
 
-same_fixed : (ranges : List Range) (path fixed other : Place) (rest last more : List PathTree) → IsFixed ranges path fixed rest
+same_fixed : (ranges : List PlacedRange) (path fixed other : Place) (rest last more : List PathTree) → IsFixed ranges path fixed rest
     → IsFixed ranges path other last → other.parts ≡ fixed.parts ++ more → rest ≡ more ++ last → (fixed ≡ other) × (rest ≡ last)
 same_fixed ranges path fixed other rest last more here there longer split =
     let none = none_longer ranges path fixed other rest last more here there longer split in
@@ -40,7 +40,7 @@ same_fixed ranges path fixed other rest last more here there longer split =
     let root : fixed.root ≡ other.root = sym (ap (λ (p : Place). p.root) here.is) ∙ ap (λ (p : Place). p.root) there.is in
     (place_from fixed other root (sym parts), split ∙ ap (λ (ps : List PathTree). ps ++ last) none)
 
-pub one_fixed : (ranges : List Range) (path fixed other : Place) (rest last : List PathTree) → IsFixed ranges path fixed rest
+pub one_fixed : (ranges : List PlacedRange) (path fixed other : Place) (rest last : List PathTree) → IsFixed ranges path fixed rest
     → IsFixed ranges path other last → (fixed ≡ other) × (rest ≡ last)
 one_fixed ranges path fixed other rest last here there =
     let parts : fixed.parts ++ rest ≡ other.parts ++ last = sym (ap (λ (p : Place). p.parts) here.is) ∙ ap (λ (p : Place). p.parts) there.is in
@@ -51,12 +51,12 @@ one_fixed ranges path fixed other rest last here there =
 
 -- ---- some longest prefix
 -- the longest way on from a place by these parts to that of a range
-record IsFurthest (ranges : List Range) (place : Place) (parts further rest : List PathTree) : Type 0 where
+record IsFurthest (ranges : List PlacedRange) (place : Place) (parts further rest : List PathTree) : Type 0 where
   is : parts ≡ further ++ rest
   stands : Contains (places ranges) (beyond place further)
   longest : (more others : List PathTree) → rest ≡ more ++ others → Contains (places ranges) (beyond (beyond place further) more) → more ≡ []
 
-abbrev HasNone : List Range → Place → List PathTree → Type 0
+abbrev HasNone : List PlacedRange → Place → List PathTree → Type 0
 HasNone ranges place parts = (further others : List PathTree) → parts ≡ further ++ others → Contains (places ranges) (beyond place further) → ⊥
 
 beyond_none : (place : Place) → beyond place [] ≡ place
@@ -67,7 +67,7 @@ beyond_beyond place first second =
     place_from (beyond (beyond place first) second) (beyond place (first ++ second)) refl (append_assoc place.parts first second)
 
 -- no range is further on by one part and more
-none_through : (ranges : List Range) (place : Place) (part : PathTree) (parts further others : List PathTree)
+none_through : (ranges : List PlacedRange) (place : Place) (part : PathTree) (parts further others : List PathTree)
     → HasNone ranges (beyond place (part ∷ [])) parts → part ∷ parts ≡ further ++ others → Contains (places ranges) (beyond place further)
     → further ≡ []
 none_through ranges place part parts [] others none split at = refl
@@ -77,7 +77,7 @@ none_through ranges place part parts (first ∷ further) others none split at =
     absurd (none further others rest (Contains-same (places ranges) (beyond place (first ∷ further)) (beyond (beyond place (part ∷ [])) further)
     (ap (λ (ps : List PathTree). beyond place ps) same ∙ sym (beyond_beyond place (part ∷ []) further)) at))
 
-furthest : (ranges : List Range) (place : Place) (parts : List PathTree)
+furthest : (ranges : List PlacedRange) (place : Place) (parts : List PathTree)
     → ((further : List PathTree) × (rest : List PathTree) × IsFurthest ranges place parts further rest) ⊎ HasNone ranges place parts
 furthest ranges place [] = elim (told_member told_place (places ranges) (beyond place [])) [
   | inl here ↦ inl ([], [], record { is = refl; stands = here; longest = λ more others split at. nothing_left more others split })
@@ -115,7 +115,7 @@ furthest ranges place (part ∷ parts) = elim (furthest ranges (beyond place (pa
   ]
 ]
 
-pub some_fixed : (ranges : List Range) (path : Place) → (fixed : Place) × (rest : List PathTree) × IsFixed ranges path fixed rest
+pub some_fixed : (ranges : List PlacedRange) (path : Place) → (fixed : Place) × (rest : List PathTree) × IsFixed ranges path fixed rest
 some_fixed ranges path = elim (furthest ranges (at_root path.root) path.parts) [
   | inl far ↦ (
     beyond (at_root path.root) far.0,
@@ -142,7 +142,7 @@ abbrev pub Prefix : Type 0
 Prefix = Place × List PathTree
 
 -- the prefix that a path is fixed at, with what is behind it, is one
-pub listed_fixed : (ranges : List Range) (path : Place) → IsListed (λ (prefix : Prefix). IsFixed ranges path prefix.0 prefix.1)
+pub listed_fixed : (ranges : List PlacedRange) (path : Place) → IsListed (λ (prefix : Prefix). IsFixed ranges path prefix.0 prefix.1)
 listed_fixed ranges path =
     let some = some_fixed ranges path in
     let own : Prefix = (some.0, some.1) in
@@ -154,7 +154,7 @@ listed_fixed ranges path =
     (listed_one own)
 
 -- ---- whether a place is used
-told_fixed : (ranges : List Range) (paths : List Place) (place : Place)
+told_fixed : (ranges : List PlacedRange) (paths : List Place) (place : Place)
     → IsTold ((path : Place) × (rest : List PathTree) × Contains paths path × IsFixed ranges path place rest)
 told_fixed ranges [] place = inr (λ h. Contains-none h.0 h.2)
 told_fixed ranges (path ∷ paths) place =
@@ -171,7 +171,7 @@ told_fixed ranges (path ∷ paths) place =
       ]
     ]
 
-pub told_used : (query : SelectTree) (ranges : List Range) (place : Place) → IsTold (IsUsed query ranges place)
+pub told_used : (query : SelectTree) (ranges : List PlacedRange) (place : Place) → IsTold (IsUsed query ranges place)
 told_used query ranges place =
     told_either (told_member told_place (cell_places query) place)
     (told_either (told_needed query ranges place) (told_fixed ranges (cond_places query) place))
@@ -181,7 +181,7 @@ has_some_fused query plain gathered = some_fused (IsUsed query plain) (told_used
 
 -- ---- by length
 -- a prefix of so many parts is fixed where it is a range, or none, and no longer one is a range
-pub fixed_at : (ranges : List Range) (path : Place) (len : ℕ) → (len ≡ 0) ⊎ Contains (places ranges) (prefix_of len path)
+pub fixed_at : (ranges : List PlacedRange) (path : Place) (len : ℕ) → (len ≡ 0) ⊎ Contains (places ranges) (prefix_of len path)
     → ((longer : ℕ) → len < longer → longer ≤ length path.parts → Contains (places ranges) (prefix_of longer path) → ⊥)
     → len ≤ length path.parts → IsFixed ranges path (prefix_of len path) (drop len path.parts)
 fixed_at ranges path len stands none within = record {

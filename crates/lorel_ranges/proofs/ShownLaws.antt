@@ -10,7 +10,7 @@ use Rattle.lore_base.proofs.MemberLaws.{Contains-none, Contains-head, Contains-t
 use Rattle.lorel_trees.specs.Trees.{FromTree, ItemTree, SelectTree}
 use Rattle.lorel_trees.specs.Trees as t
 use Rattle.lorel_ranges.specs.Places.{ranged, Place, at_root, Scope, place_of, scope_behind, scope_of, item_places, cell_places, item_path_variables, path_variables, CellPlace, object, word, word_place, item_cells, cells_of}
-use Rattle.lorel_ranges.specs.Ranges.{Range, path_ranges, from_item_ranges, from_ranges, places, ArePlain, IsNeededForWord}
+use Rattle.lorel_ranges.specs.Ranges.{PlacedRange, path_ranges, from_item_ranges, from_ranges, places, ArePlain, IsNeededForWord}
 use Rattle.lore_base.proofs.ToldLaws.{IsTold, told_same, told_both, told_either, told_member}
 use Rattle.list_laws.proofs.MemberLaws.{Contains-from_map}
 use Rattle.lorel_bound.proofs.ListedLaws.{listed_members, told_some}
@@ -102,7 +102,7 @@ variables_ranged scope [] name place here = absurd (Contains-none (name, place) 
 variables_ranged scope (item ∷ items) name place here =
     let own = from_item_ranges item.variable (place_of scope item.path) in
     let others = from_ranges (scope_behind item.variable scope) items in
-    let all = map-append (λ (r : Range). r.place) own others in
+    let all = map-append (λ (r : PlacedRange). r.place) own others in
     subst (λ (ps : List Place). Contains ps place) (sym all)
     (elim (Contains-append_cases (item_path_variables item.word item.variable) (path_variables items) (name, place) here) [
       | inl first ↦ Contains-append_left (places own) (places others) place
@@ -112,26 +112,26 @@ variables_ranged scope (item ∷ items) name place here =
     ])
 
 -- the word that a cell shows is that of a plain range
-pub word_found : (query : SelectTree) (plain : List Range) → ArePlain query plain → (place : Place) → Contains (cells_of query) (word place)
+pub word_found : (query : SelectTree) (plain : List PlacedRange) → ArePlain query plain → (place : Place) → Contains (cells_of query) (word place)
     → Contains (places plain) place
 word_found query plain gathered place here =
     let from = from_ranges [] query.tail.ranges in
     let others = flat_map path_ranges (cell_places query) in
     let own = words_shown (scope_of [] query.tail.ranges) (path_variables query.tail.ranges) query.items place here in
-    let all = map-append (λ (r : Range). r.place) from others in
+    let all = map-append (λ (r : PlacedRange). r.place) from others in
     made_within query plain gathered place
     (subst (λ (ps : List Place). Contains ps place) (sym all)
     (Contains-append_left (places from) (places others) place (variables_ranged [] query.tail.ranges own.0 place own.1)))
 
 -- which is needed for it
-pub word_range : (query : SelectTree) (plain : List Range) → ArePlain query plain → (place : Place) → Contains (cells_of query) (word place)
+pub word_range : (query : SelectTree) (plain : List PlacedRange) → ArePlain query plain → (place : Place) → Contains (cells_of query) (word place)
     → IsNeededForWord query plain place
 word_range query plain gathered place here =
-    let own = Contains-from_map (λ (r : Range). r.place) plain place (word_found query plain gathered place here) in
+    let own = Contains-from_map (λ (r : PlacedRange). r.place) plain place (word_found query plain gathered place here) in
     (own.0, own.1, subst (λ (p : Place). Contains (cells_of query) (word p)) (sym own.2) here, inl own.2)
 
 -- ---- whether a place is needed for a word
-pub told_needed : (query : SelectTree) (ranges : List Range) (place : Place) → IsTold (IsNeededForWord query ranges place)
+pub told_needed : (query : SelectTree) (ranges : List PlacedRange) (place : Place) → IsTold (IsNeededForWord query ranges place)
 told_needed query ranges place =
     told_same (λ h. (h.0, h.1, h.2.0, h.2.1)) (λ h. (h.0, h.1, (h.2, h.3)))
     (told_some (Contains ranges) (λ range. Contains (cells_of query) (word range.place) × ((range.place ≡ place) ⊎ (range.start ≡ place)))

@@ -38,12 +38,12 @@ abbrev pub texts : List (Bor (List ℕ)) → List (List ℕ)
 texts list = map (λ text. text.now) list
 
 -- a range of the program as plain data
-abbrev pub range_of : TextRange → r.Range
+abbrev pub range_of : TextRange → r.PlacedRange
 range_of range = record {
   start = place_tree range.start;
   parts = map (λ part. path_tree part.now) range.parts.items;
   place = place_tree range.place;
 }
 
-abbrev pub ranges_of : List TextRange → List r.Range
+abbrev pub ranges_of : List TextRange → List r.PlacedRange
 ranges_of ranges = map range_of ranges

@@ -1,7 +1,7 @@
 ghost use Rattle.std.specs.Prelude.{◌≡◌, ◌≤◌, [], ◌∷◌, ◌++◌, length, drop};
 ghost use Rattle.std.specs.Prelude.{Some, slice_get, All, Contains, IfSome, IfNone, OnOk, List};
 ghost use Rattle.lorel_ranges.specs.Places.{ranged, at_root};
-ghost use Rattle.lorel_ranges.specs.Ranges.{Range, IsFixed, places};
+ghost use Rattle.lorel_ranges.specs.Ranges.{PlacedRange, IsFixed, places};
 ghost use Rattle.lorel_ranges.specs.Views.{place_tree, place_trees, prefix_of};
 ghost use Rattle.lorel_ranges.specs.inside.Indexes.{IsVariable, IsPrefix};
 
@@ -92,7 +92,7 @@ impl<'q> PlainPlaces<'q> {
     /// How many parts of a path make its longest prefix that is a range; 0 where none is.
     pub fn fixed_len(&self, path: Place<'q>) -> usize
         ensures within { result ≤ length path.entry.parts.now }
-        ensures fixed { (ranges : List Range) → places ranges ≡ place_trees self.now
+        ensures fixed { (ranges : List PlacedRange) → places ranges ≡ place_trees self.now
             → IsFixed ranges (place_tree path.entry) (prefix_of result (place_tree path.entry))
             (drop result (place_tree path.entry).parts) }
     {

@@ -1,4 +1,4 @@
-ghost use Rattle.std.specs.Prelude.{◌≡◌, ◌↔◌, true, Some, Contains, slice_get, IsTrue, IfSome};
+ghost use Rattle.std.specs.Prelude.{◌≡◌, ◌↔◌, true, Contains, IsTrue, IfSome};
 ghost use Rattle.member_clues.specs.Clues.{IsGivenBy, IsStartGiven, IsEndGiven};
 
 use crate::clues::{Clue, Comparison, End, Given};
@@ -6,6 +6,7 @@ use crate::sides::is_probed;
 use index_traits::Values;
 use lore_base::limits::RANGES;
 use lorel_bound::BoundStart;
+use lorel_eval::is_marked;
 
 /// Where more objects are at the end of a clue, those of the slot are tested one by one: the way
 /// back from so many may cost more.
@@ -112,15 +113,6 @@ fn is_start_given(start: BoundStart, known: &[bool; RANGES]) -> bool
         BoundStart::Slot(slot) => is_marked(known, slot),
         BoundStart::Named(_) => true,
         BoundStart::Quantified(_) => false,
-    }
-}
-
-fn is_marked(known: &[bool; RANGES], slot: u32) -> bool
-    ensures { IsTrue result → slice_get known.now slot ≡ Some true }
-{
-    match known.get(slot as usize) {
-        Some(mark) => *mark,
-        None => false,
     }
 }
 

@@ -6,7 +6,7 @@ use Rattle.lore_base.specs.TargetSets.{ListsInOrder}
 use Rattle.lore_base.proofs.MemberLaws.{Contains-same, Contains-filter, unfiltered}
 use Rattle.list_laws.proofs.MemberLaws.{Contains-map, Contains-from_map}
 use Rattle.list_laws.proofs.OrderLaws.{less_from_cmp}
-use Rattle.graph_search.specs.Closures.{IsMet, LeadAlong, LeadsOn, IsClosure, Lists}
+use Rattle.graph_search.specs.Closures.{IsMet, LeadAlong, LeadsFromPlace, IsClosure, Lists}
 use Rattle.object_search.specs.Types.{Oid, Label, Edge, Met}
 use Rattle.object_search.specs.Reached.{IsWalkedFrom}
 use Rattle.object_search.specs.inside.Searches.{HasMark, met_at, HasChild, same_oid}
@@ -15,7 +15,7 @@ use Rattle.object_search.proofs.CostLaws.{met_object}
 -- the children of an object are what it leads to
 pub leads_to_children : (edges : List Edge) (oid : Oid) (met : Met) (old new : List (Oid × Met))
     → new ≡ old ++ map (λ edge. (edge.child, met)) (out_of oid edges)
-    → Lists HasMark (LeadsOn HasMark (HasChild edges) (oid, met)) old new
+    → Lists HasMark (LeadsFromPlace HasMark (HasChild edges) (oid, met)) old new
 leads_to_children edges oid met old new is = record {
   more = map (λ edge. (edge.child, met)) (out_of oid edges);
   is = is;

@@ -1,5 +1,5 @@
 ghost use Rattle.std.specs.Prelude.{◌≡◌, ℕ, ◌+◌, List, ◌++◌, map, OnOk};
-ghost use Rattle.graph_search.specs.Closures.{LeadsOn, Lists};
+ghost use Rattle.graph_search.specs.Closures.{LeadsFromPlace, Lists};
 ghost use Rattle.object_search.specs.Types.{Oid as TheOid, Edge as TheEdge};
 ghost use Rattle.object_search.specs.inside.Searches.{HasMark, HasChild, same_oid};
 
@@ -48,7 +48,7 @@ impl<'a, A: OutArcs<C>, C: Counter> Space<C> for Children<'a, A> {
         out: &mut Vec<(Oid, Met)>,
         steps: &mut C,
     ) -> Result<(), NoMemory>
-        ensures next { OnOk result (Lists HasMark (LeadsOn HasMark
+        ensures next { OnOk result (Lists HasMark (LeadsFromPlace HasMark
             (HasChild (A.edges self.old.arcs.now)) place) out.old.items out.new.items) }
         ensures steps { OnOk result (C.count steps.new
             ≡ C.count steps.old + A.cost self.old.arcs.now place.0) }

@@ -5,3 +5,4 @@ pub mod ReadLaws
 pub mod ChangeLaws
 pub mod PlanLaws
 pub mod SampleLaws
+pub mod ObjectLaws

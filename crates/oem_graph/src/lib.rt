@@ -11,7 +11,9 @@ pub use edge_layers::Overlay;
 pub use graph_plan::GraphPlan;
 pub use graph_then::GraphThen;
 pub use linked_graph::Graph;
+pub use live_objects::{live_value, oid_at};
 
 mod graph_plan;
 mod graph_then;
 mod linked_graph;
+mod live_objects;

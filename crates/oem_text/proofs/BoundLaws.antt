@@ -3,8 +3,8 @@ use Rattle.std.proofs.Common.{Option, ◌≡◌, ℕ, ◌+◌, ◌<◌, ◌≤�
 use Rattle.std.proofs.lemmas.Option.{slice_get_within}
 use Rattle.std.proofs.lemmas.List.Elements.{All-nil, All-cons, All-append, All-weaker, All-contains, All-contains_itself, All-map}
 use Rattle.lorel_trees.specs.Trees.{LiteralTree, local, atom, node, MemberTrees, none, more}
-use Rattle.oem_text.specs.Literals.{Body, Arc, Target, placed, called, target, bodies, member_bodies, arcs, member_arcs, arcs_of, place_of}
-use Rattle.oem_text.specs.Layouts.{IsBelow, placed_arc}
+use Rattle.oem_text.specs.Literals.{Body, Arc, Target, placed, called, target, bodies, member_bodies, arcs, member_arcs, arcs_of, target_place}
+use Rattle.oem_text.specs.Layouts.{JoinsBelow, placed_arc}
 use Rattle.oem_text.specs.inside.Places.{ArePlaces, IsFound}
 use Rattle.oem_text.proofs.PlaceLaws.{place_found}
 
@@ -37,7 +37,7 @@ mutual
       (members_below count parent next others low (omega (arith, sizes, fits))))
 
 place_below : (xs : List Body) (places : ℕ → Option ℕ) (goal : Target) → ArePlaces xs places → ((place : ℕ) → goal ≡ placed place → place < length xs)
-    → ((number : ℕ) → goal ≡ called number → (place : ℕ) × (places number ≡ Some place)) → place_of xs goal < length xs
+    → ((number : ℕ) → goal ≡ called number → (place : ℕ) × (places number ≡ Some place)) → target_place xs goal < length xs
 place_below xs places (placed place) are low found = low place refl
 place_below xs places (called number) are low found =
     let there = found number refl in
@@ -48,12 +48,12 @@ place_below xs places (called number) are low found =
 
 -- the edges between places
 pub joined : (literal : LiteralTree) (places : ℕ → Option ℕ) → ArePlaces (bodies literal) places → All (IsFound places) (arcs_of literal)
-    → All (IsBelow (length (bodies literal))) (map (placed_arc (bodies literal)) (arcs_of literal))
+    → All (JoinsBelow (length (bodies literal))) (map (placed_arc (bodies literal)) (arcs_of literal))
 joined literal places are found =
     let xs = bodies literal in
     let below = arcs_below (length xs) 0 literal (omega arith) in
-    All-map (IsBelow (length xs)) (placed_arc xs) (arcs_of literal)
-    (All-weaker (Contains (arcs_of literal)) (λ (arc : Arc). IsBelow (length xs) (placed_arc xs arc))
+    All-map (JoinsBelow (length xs)) (placed_arc xs) (arcs_of literal)
+    (All-weaker (Contains (arcs_of literal)) (λ (arc : Arc). JoinsBelow (length xs) (placed_arc xs arc))
     (λ arc at.
     let low = All-contains (IsArcBelow (length xs)) (arcs_of literal) arc below at in
     let known = All-contains (IsFound places) (arcs_of literal) arc found at in

@@ -2,7 +2,7 @@
 use Rattle.std.proofs.Common.{◌≡◌, ℕ, zero, suc, ◌+◌, ◌-◌, ◌%◌, ◌<◌, ◌≤◌, Bool, false, List, ◌∷◌, refl, sym, ap, ◌∙◌, arith, eq-eqb, ne_eqb}
 use Rattle.std.specs.Prelude.{◌==◌}
 use Rattle.std.specs.List.{filter}
-use Rattle.oem_text.specs.Generated.{numbers_from, members_of}
+use Rattle.oem_text.specs.Generated.{numbers_from, club_members}
 
 -- those of club c from person i on
 abbrev pub members_from : (count c i : ℕ) → List ℕ
@@ -31,7 +31,7 @@ same_digit : (i j : ℕ) → i < j → j < i + 10 → j % 10 ≡ i % 10 → ⊥
 same_digit i j low below same = omega (arith, low, below, same)
 
 -- the first member is one of the first ten persons
-pub members_first : (count c i : ℕ) → i % 10 ≡ c → 1 ≤ i → i ≤ 10 → members_from count c i ≡ members_of count c
+pub members_first : (count c i : ℕ) → i % 10 ≡ c → 1 ≤ i → i ≤ 10 → members_from count c i ≡ club_members count c
 members_first count c i digit some low =
     let test : ℕ → Bool = λ k. k % 10 == c in
     let here : 1 + (i - 1) ≡ i = omega (arith, some) in

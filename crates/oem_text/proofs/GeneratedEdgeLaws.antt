@@ -4,7 +4,7 @@ use Rattle.std.proofs.lemmas.List.{map-append, get_or-map}
 use Rattle.oem_text.specs.Types.{Label, Edge}
 use Rattle.oem_labels.specs.Labels.{label_in}
 use Rattle.oem_text.specs.Layouts.{PlacedArc, edge_from}
-use Rattle.oem_text.specs.Generated.{numbers_from, person_arc, arcs_of_person, club_arc, members_of, member_arc, leader_arc, arcs_of_club, ring_arc, next_arc, generated_arcs, generated_labels}
+use Rattle.oem_text.specs.Generated.{numbers_from, person_arc, arcs_of_person, club_arc, club_members, member_arc, leader_arc, arcs_of_club, ring_arc, next_arc, generated_arcs, generated_labels}
 use Rattle.oem_text.proofs.GeneratedObjectLaws.{map_longer, flat_longer}
 use Rattle.oem_text.proofs.GeneratedClubs.{members_from, members_next}
 use Rattle.oem_text.proofs.LaidLaws.{edge_own}
@@ -61,11 +61,11 @@ member_more next table before after all count c i edge digit low is own step =
 
 -- the edges of a club, its leader last
 pub club_edges : (next : ℕ) (table : List (List ℕ)) (old members after : List Edge) (count c : ℕ) (edge : Edge)
-    → members ≡ old ++ map (edge_from next table) (map (member_arc count c) (members_of count c))
+    → members ≡ old ++ map (edge_from next table) (map (member_arc count c) (club_members count c))
     → edge ≡ edge_from next table (leader_arc count c) → after ≡ members ++ edge ∷ []
     → after ≡ old ++ map (edge_from next table) (arcs_of_club count c)
 club_edges next table old members after count c edge is own step =
-    edges_longer next table old members after (edge ∷ []) (map (member_arc count c) (members_of count c)) (leader_arc count c ∷ []) is
+    edges_longer next table old members after (edge ∷ []) (map (member_arc count c) (club_members count c)) (leader_arc count c ∷ []) is
     (ap (λ (e : Edge). e ∷ []) own) step
 
 -- ---- all of them

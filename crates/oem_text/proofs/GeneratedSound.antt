@@ -16,7 +16,7 @@ use Rattle.oem_labels.specs.Labels.{place_in}
 use Rattle.oem_text.specs.Types.{Edge, Value, Complex}
 use Rattle.oem_text.specs.Literals.{numbered}
 use Rattle.oem_text.specs.Layouts.{PlacedArc, LaidOut, edge_from, edges_from}
-use Rattle.oem_text.specs.Generated.{numbers_from, generated_values, person_place, club_place, link_place, joined, boss_arcs, person_arc, arcs_of_person, club_arc, members_of, member_arc, leader_arc, arcs_of_club, ring_arc, next_arc, generated_arcs, generated_labels, generated_layout}
+use Rattle.oem_text.specs.Generated.{numbers_from, generated_values, person_place, club_place, link_place, arc_between, boss_arcs, person_arc, arcs_of_person, club_arc, club_members, member_arc, leader_arc, arcs_of_club, ring_arc, next_arc, generated_arcs, generated_labels, generated_layout}
 use Rattle.oem_text.proofs.GeneratedPlaces.{All-numbers_from, All-flat_map, generated_length, person_at, club_at, link_at, generated_sized}
 
 -- the root is complex, and so is each parent; values have their forms, edges lead to objects, and labels are in the list
@@ -57,7 +57,7 @@ module _ (seed count : ℕ) (enough : 20 ≤ count) where
 
   boss_sound : (i : ℕ) → 1 ≤ i → i ≤ count → All IsSound (boss_arcs i)
   boss_sound i first low =
-      let boss = joined (person_place i) (codes "boss") (person_place (i / 2)) in
+      let boss = arc_between (person_place i) (codes "boss") (person_place (i / 2)) in
       let half = div-le_self i 2 in
       elim (nat_le 2 i) as (λ b. All IsSound (if b then (boss ∷ []) else [])) [
         | true ↦ All-from_recursion IsSound (boss ∷ []) (
@@ -109,8 +109,8 @@ module _ (seed count : ℕ) (enough : 20 ≤ count) where
   arcs_of_club_sound c digit =
       let sound : ℕ → Type 0 = λ i. IsSound (member_arc count c i) in
       let each = All-numbers_from sound 1 count (λ i first below. member_sound c i digit (omega (arith, below))) in
-      All-append IsSound (map (member_arc count c) (members_of count c)) (leader_arc count c ∷ [])
-      (All-map IsSound (member_arc count c) (members_of count c) (All-filter (λ (i : ℕ). i % 10 == c) sound (numbers_from 1 count) each))
+      All-append IsSound (map (member_arc count c) (club_members count c)) (leader_arc count c ∷ [])
+      (All-map IsSound (member_arc count c) (club_members count c) (All-filter (λ (i : ℕ). i % 10 == c) sound (numbers_from 1 count) each))
       (All-cons IsSound (leader_arc count c) [] (leader_sound c digit) (All-nil IsSound))
 
   ring_sound : IsSound (ring_arc count)

@@ -11,7 +11,7 @@ use Rattle.lorel_trees.specs.declared.literals.Literal.{Literal}
 use Rattle.oem_labels.specs.Labels.{first_uses, label_in}
 use Rattle.oem_text.specs.declared.flat.Link.{Link}
 use Rattle.oem_text.specs.Literals.{Body, bodies, arcs_of, numbered}
-use Rattle.oem_text.specs.Layouts.{PlacedArc, LaidOut, IsBelow, IsJoined, layout_of, placed_arc, edge_from, NumberedTexts, table_of, with_texts, count_with}
+use Rattle.oem_text.specs.Layouts.{PlacedArc, LaidOut, JoinsBelow, IsJoined, layout_of, placed_arc, edge_from, NumberedTexts, table_of, with_texts, count_with}
 use Rattle.oem_text.specs.inside.Views.{body_of, bodies_of, link_arcs, placed_of, laid_out}
 use Rattle.oem_text.specs.inside.Places.{ArePlaces, IsFound}
 use Rattle.oem_text.proofs.BoundLaws.{joined, some_body}
@@ -38,7 +38,7 @@ laid_joined literal places other are found =
     let some = some_body literal other in
     record {
       some = omega (arith, size, some);
-      joined = subst (λ (n : ℕ). All (IsBelow n) (map (placed_arc (bodies literal)) (arcs_of literal))) (sym size) (joined literal places are found);
+      joined = subst (λ (n : ℕ). All (JoinsBelow n) (map (placed_arc (bodies literal)) (arcs_of literal))) (sym size) (joined literal places are found);
     }
 
 -- ---- one object more has its number
@@ -69,11 +69,11 @@ arc_here links arcs i link is low here =
     (take_more (map placed_of links) i (placed_of link) (omega (arith, size, low)) ∙ ap (λ (a : PlacedArc). take i (map placed_of links) ++ a ∷ []) read)
 
 -- its places are among those of the objects
-pub link_below : (links : List Link) (count i : ℕ) (link : Link) → All (IsBelow count) (map placed_of links) → i < length links → link ≡ get_or links i link → IsBelow count (placed_of link)
+pub link_below : (links : List Link) (count i : ℕ) (link : Link) → All (JoinsBelow count) (map placed_of links) → i < length links → link ≡ get_or links i link → JoinsBelow count (placed_of link)
 link_below links count i link below low here =
     let size = length-map links placed_of in
-    subst (λ (a : PlacedArc). IsBelow count a) (get_or-map placed_of links i link (placed_of link) low ∙ ap placed_of (sym here))
-    (All-get_or (IsBelow count) (map placed_of links) i (placed_of link) (omega (arith, size, low)) below)
+    subst (λ (a : PlacedArc). JoinsBelow count a) (get_or-map placed_of links i link (placed_of link) low ∙ ap placed_of (sym here))
+    (All-get_or (JoinsBelow count) (map placed_of links) i (placed_of link) (omega (arith, size, low)) below)
 
 pub edge_own : (edge : Edge) (next : ℕ) (table : List (List ℕ)) (arc : PlacedArc) → edge.parent.0 ≡ next + arc.parent → edge.label ≡ label_in table arc.label → edge.child.0 ≡ next + arc.child
     → edge ≡ edge_from next table arc

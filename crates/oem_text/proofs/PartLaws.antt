@@ -8,7 +8,7 @@ use Rattle.oem_text.specs.Types.{Oid, Edge, Value, LABELS, NEXT_NUMBER}
 use Rattle.oem_text.specs.Types.refusals
 use Rattle.oem_text.specs.Literals.{Body, bodies, labels_of, numbered, objects_of, edges_of}
 use Rattle.oem_text.specs.Layouts.{LaidOut, layout_of, texts_of, edges_from, NumberedTexts, table_of, with_texts, count_with}
-use Rattle.oem_text.specs.Parts.{LocalCause, local_order, Cause, order}
+use Rattle.oem_text.specs.Parts.{LocalCause, local_order, PartCause, part_order}
 use Rattle.oem_text.proofs.LayoutLaws.{edges-of_layout, texts-of_layout}
 use Rattle.oem_text.proofs.LaidLaws.{with_first, count_first}
 
@@ -51,13 +51,13 @@ labels_counted table literal layout start is first =
     ap (λ (n : NumberedTexts). count_with n (texts_of layout)) first ∙ ap (count_with (first_numbers table)) (ap texts_of is ∙ texts-of_layout literal) ∙ count_first table (labels_of literal)
 
 pub told_labels : (table : List (List ℕ)) (next : ℕ) (literal : LiteralTree) → IsClear (LocalCause literal) local_order → next + length (bodies literal) ≤ NEXT_NUMBER
-    → LABELS < length table + length (first_uses table (labels_of literal)) → IsFirst (Cause table next literal) order refusals.TooManyLabels
+    → LABELS < length table + length (first_uses table (labels_of literal)) → IsFirst (PartCause table next literal) part_order refusals.TooManyLabels
 told_labels table next literal clear numbers many =
     inr (clear.0, inr (clear.1.0, inr ((λ past. absurd (omega (arith, past, numbers))), inl (many, refl))))
 
 pub clear_all : (table : List (List ℕ)) (next : ℕ) (literal : LiteralTree) (layout : LaidOut) (start numbers : NumberedTexts) → IsClear (LocalCause literal) local_order
     → next + length (bodies literal) ≤ NEXT_NUMBER → layout ≡ layout_of literal → start ≡ first_numbers table → numbers ≡ with_texts start (texts_of layout)
-    → length (table_of numbers) ≤ LABELS → IsClear (Cause table next literal) order
+    → length (table_of numbers) ≤ LABELS → IsClear (PartCause table next literal) part_order
 clear_all table next literal layout start numbers clear few is first step within =
     let same = numbered_by table literal layout start numbers is first step in
     let size = ap (λ (n : NumberedTexts). length (table_of n)) same ∙ length-append table (first_uses table (labels_of literal)) in

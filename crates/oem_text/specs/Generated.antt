@@ -58,48 +58,48 @@ link_place count j = 4 * count + 11 + j
 
 -- Edges.
 
-abbrev pub joined : ℕ → List ℕ → ℕ → PlacedArc
-joined parent label child = record { parent = parent; label = label; child = child }
+abbrev pub arc_between : ℕ → List ℕ → ℕ → PlacedArc
+arc_between parent label child = record { parent = parent; label = label; child = child }
 
 -- the edge from the root to person i
 abbrev pub person_arc : ℕ → PlacedArc
-person_arc i = joined 0 (codes "person") (person_place i)
+person_arc i = arc_between 0 (codes "person") (person_place i)
 
 -- its boss: the person with half its number
 abbrev pub boss_arcs : ℕ → List PlacedArc
-boss_arcs i = if nat_le 2 i then (joined (person_place i) (codes "boss") (person_place (i / 2)) ∷ []) else []
+boss_arcs i = if nat_le 2 i then (arc_between (person_place i) (codes "boss") (person_place (i / 2)) ∷ []) else []
 
 -- its atoms and its boss
 abbrev pub arcs_of_person : ℕ → List PlacedArc
 arcs_of_person i =
-    joined (person_place i) (codes "id") (person_place i + 1)
-    ∷ joined (person_place i) (codes "name") (person_place i + 2)
-    ∷ joined (person_place i) (codes "age") (person_place i + 3)
+    arc_between (person_place i) (codes "id") (person_place i + 1)
+    ∷ arc_between (person_place i) (codes "name") (person_place i + 2)
+    ∷ arc_between (person_place i) (codes "age") (person_place i + 3)
     ∷ boss_arcs i
 
 -- the edge from the root to club c
 abbrev pub club_arc : (count c : ℕ) → PlacedArc
-club_arc count c = joined 0 (codes "club") (club_place count c)
+club_arc count c = arc_between 0 (codes "club") (club_place count c)
 
 -- its members, the persons whose numbers end in the digit c, and its leader
-abbrev pub members_of : (count c : ℕ) → List ℕ
-members_of count c = filter (λ i. i % 10 == c) (numbers_from 1 count)
+abbrev pub club_members : (count c : ℕ) → List ℕ
+club_members count c = filter (λ i. i % 10 == c) (numbers_from 1 count)
 
 abbrev pub member_arc : (count c i : ℕ) → PlacedArc
-member_arc count c i = joined (club_place count c) (codes "member") (person_place i)
+member_arc count c i = arc_between (club_place count c) (codes "member") (person_place i)
 
 abbrev pub leader_arc : (count c : ℕ) → PlacedArc
-leader_arc count c = joined (club_place count c) (codes "leader") (person_place (10 + c))
+leader_arc count c = arc_between (club_place count c) (codes "leader") (person_place (10 + c))
 
 abbrev pub arcs_of_club : (count c : ℕ) → List PlacedArc
-arcs_of_club count c = map (member_arc count c) (members_of count c) ++ leader_arc count c ∷ []
+arcs_of_club count c = map (member_arc count c) (club_members count c) ++ leader_arc count c ∷ []
 
 -- the ring of the root, and the link behind link j
 abbrev pub ring_arc : (count : ℕ) → PlacedArc
-ring_arc count = joined 0 (codes "ring") (link_place count 0)
+ring_arc count = arc_between 0 (codes "ring") (link_place count 0)
 
 abbrev pub next_arc : (count j : ℕ) → PlacedArc
-next_arc count j = joined (link_place count j) (codes "next") (link_place count ((j + 1) % 100))
+next_arc count j = arc_between (link_place count j) (codes "next") (link_place count ((j + 1) % 100))
 
 -- all edges: those that leave the root, then persons, clubs and links
 abbrev pub generated_arcs : (count : ℕ) → List PlacedArc

@@ -5,7 +5,7 @@ use Rattle.oem_text.specs.Types.{Edge, Value}
 use Rattle.lore_base.specs.Walks.{oid_of, edge_of}
 use Rattle.lorel_trees.specs.Trees.{LiteralTree}
 use Rattle.oem_labels.specs.Labels.{first_uses, label_in}
-use Rattle.oem_text.specs.Literals.{Body, Arc, bodies, arcs_of, place_of}
+use Rattle.oem_text.specs.Literals.{Body, Arc, bodies, arcs_of, target_place}
 
 -- an edge between places, with its label's text
 pub record PlacedArc : Type 0 where
@@ -20,7 +20,7 @@ pub record LaidOut : Type 0 where
 
 -- an edge of a literal between places
 abbrev pub placed_arc : List Body → Arc → PlacedArc
-placed_arc places arc = record { parent = arc.parent; label = arc.label; child = place_of places arc.target }
+placed_arc places arc = record { parent = arc.parent; label = arc.label; child = target_place places arc.target }
 
 -- the literal laid out
 abbrev pub layout_of : LiteralTree → LaidOut
@@ -30,14 +30,14 @@ layout_of literal = record {
 }
 
 -- the edge joins places below this one
-pub record IsBelow (count : ℕ) (arc : PlacedArc) : Type 0 where
+pub record JoinsBelow (count : ℕ) (arc : PlacedArc) : Type 0 where
   pub parent : arc.parent < count
   pub child : arc.child < count
 
 -- there is an object, and each edge joins places of objects
 pub record IsJoined (layout : LaidOut) : Type 0 where
   pub some : 0 < length layout.values
-  pub joined : All (IsBelow (length layout.values)) layout.arcs
+  pub joined : All (JoinsBelow (length layout.values)) layout.arcs
 
 -- the texts of the labels, edge by edge
 abbrev pub texts_of : LaidOut → List (List ℕ)

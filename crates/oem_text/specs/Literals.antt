@@ -77,13 +77,13 @@ pub record HasDouble (literal : LiteralTree) : Type 0 where
   pub other : IsMarkedAt (bodies literal) number second
 
 -- the literal uses the local: as a whole, or as a member
-abbrev pub IsUsed : LiteralTree → ℕ → Type 0
-IsUsed literal number = Contains (target 0 literal ∷ map (λ arc. arc.target) (arcs_of literal)) (called number)
+abbrev pub UsesLocal : LiteralTree → ℕ → Type 0
+UsesLocal literal number = Contains (target 0 literal ∷ map (λ arc. arc.target) (arcs_of literal)) (called number)
 
 -- the literal uses a local that marks no object
 pub record HasUndefined (literal : LiteralTree) : Type 0 where
   pub number : ℕ
-  pub used : IsUsed literal number
+  pub used : UsesLocal literal number
   pub unmarked : (place : ℕ) → IsMarkedAt (bodies literal) number place → ⊥
 
 -- whether the mark is this local
@@ -97,9 +97,9 @@ marked_place [] number = 0
 marked_place (body ∷ others) number = if is_mark number body.mark then 0 else (1 + marked_place others number)
 
 -- the place of what an edge leads to
-abbrev pub place_of : List Body → Target → ℕ
-place_of places (placed place) = place
-place_of places (called number) = marked_place places number
+abbrev pub target_place : List Body → Target → ℕ
+target_place places (placed place) = place
+target_place places (called number) = marked_place places number
 
 -- objects with these values, numbered from `next` on
 abbrev pub numbered : ℕ → List Value → List (Oid × Value)
@@ -113,7 +113,7 @@ objects_of next literal = numbered next (map (λ body. body.value) (bodies liter
 -- its edges then, by the labels of this table
 abbrev pub edge_at : ℕ → List (List ℕ) → List Body → Arc → Edge
 edge_at next table places arc =
-    edge_of (oid_of (next + arc.parent)) (label_in table arc.label) (oid_of (next + place_of places arc.target))
+    edge_of (oid_of (next + arc.parent)) (label_in table arc.label) (oid_of (next + target_place places arc.target))
 
 abbrev pub edges_of : ℕ → List (List ℕ) → LiteralTree → List Edge
 edges_of next table literal = map (edge_at next table (bodies literal)) (arcs_of literal)

@@ -22,15 +22,15 @@ LocalCause literal refusals.UndefinedLocal = HasUndefined literal
 LocalCause literal _ = ⊥
 
 -- the cause of each refusal of a literal that is numbered from `next` on, where the table has these texts
-abbrev pub Cause : List (List ℕ) → ℕ → LiteralTree → Refusal → Type 0
-Cause table next literal refusals.OidsSpent = NEXT_NUMBER < next + length (bodies literal)
-Cause table next literal refusals.TooManyLabels = LABELS < length table + length (first_uses table (labels_of literal))
-Cause table next literal refusal = LocalCause literal refusal
+abbrev pub PartCause : List (List ℕ) → ℕ → LiteralTree → Refusal → Type 0
+PartCause table next literal refusals.OidsSpent = NEXT_NUMBER < next + length (bodies literal)
+PartCause table next literal refusals.TooManyLabels = LABELS < length table + length (first_uses table (labels_of literal))
+PartCause table next literal refusal = LocalCause literal refusal
 
 -- the order in which causes are tried: those of its locals alone, and all of them
 abbrev pub local_order : List Refusal
 local_order = refusals.DuplicateLocal ∷ refusals.UndefinedLocal ∷ []
 
-abbrev pub order : List Refusal
-order =
+abbrev pub part_order : List Refusal
+part_order =
     refusals.DuplicateLocal ∷ refusals.UndefinedLocal ∷ refusals.OidsSpent ∷ refusals.TooManyLabels ∷ []

@@ -201,7 +201,7 @@ fn put_members(
     requires numbers { next + (4 * count + 111) ≤ 2 ^ 32 }
     ensures { OnOk result ((table : List (List ℕ)) → label ≡ label_in table (codes "member")
         → edges.new ≡ edges.old
-        ++ map (edge_from next table) (map (spec.member_arc count c) (spec.members_of count c))) }
+        ++ map (edge_from next table) (map (spec.member_arc count c) (spec.club_members count c))) }
 {
     let parent = club(next, count, c);
     let mut i = first_member(c);

@@ -1,7 +1,7 @@
 ghost use Rattle.std.specs.Prelude.{IfOk, IfErr, OnOk};
 ghost use Rattle.lore_base.specs.Verdicts.{IsClear, IsToldBy};
 ghost use Rattle.lorel_trees.specs.Trees.{literal_tree};
-ghost use Rattle.oem_text.specs.Parts.{IsPart, LocalCause, Cause, local_order, order};
+ghost use Rattle.oem_text.specs.Parts.{IsPart, LocalCause, PartCause, local_order, part_order};
 ghost use Rattle.oem_text.specs.Faults.{local_refusal, text_refusal};
 
 use crate::faults::{LocalFault, TextFault};
@@ -37,10 +37,10 @@ pub fn instantiate(
     labels: &LabelTable,
 ) -> Result<Part, TextFault>
     ensures part { IfOk result (λ part. IsPart labels.now next (literal_tree literal.now) part) }
-    ensures ok { let cause = Cause labels.now next (literal_tree literal.now) in
-        OnOk result (IsClear cause order) }
-    ensures err { let cause = Cause labels.now next (literal_tree literal.now) in
-        IfErr result (λ fault. IsToldBy cause order (text_refusal fault)) }
+    ensures ok { let cause = PartCause labels.now next (literal_tree literal.now) in
+        OnOk result (IsClear cause part_order) }
+    ensures err { let cause = PartCause labels.now next (literal_tree literal.now) in
+        IfErr result (λ fault. IsToldBy cause part_order (text_refusal fault)) }
 {
     let layout = match lay_out(alloc, literal) {
         Ok(layout) => layout,

@@ -12,7 +12,7 @@ use Rattle.list_laws.proofs.SumLaws.{distinct_no_longer}
 use Rattle.block_rounds.specs.Partitions.{IsNumbered, IsInOrder}
 use Rattle.block_rounds.proofs.MapLaws.{Contains-count}
 use Rattle.one_index.specs.Types.{Oid, Label, Edge, Block}
-use Rattle.one_index.specs.Blocks.{NamedGraph, IsSound, BelongTogether, IsMember, HasEdge, IsLinkedTo, IsBefore, IsOrdered, AreBlocksOf, cost_of}
+use Rattle.one_index.specs.Blocks.{NamedGraph, IsSound, BelongTogether, IsMember, HasEdge, IsLinkedTo, IsBefore, IsOrderedBlock, AreBlocksOf, cost_of}
 use Rattle.read_costs.specs.ReadCosts.{out_reads, in_reads}
 use Rattle.one_index.specs.inside.Places.{IsAt}
 use Rattle.one_index.specs.inside.Linked.{IsEdgeAt}
@@ -102,7 +102,7 @@ module _ (graph : NamedGraph) (numbers heads : List ℕ) (blocks : List Block) (
     }),
   )
 
-  pub AreBlocksOf-built : All IsOrdered blocks
+  pub AreBlocksOf-built : All IsOrderedBlock blocks
       → ((from : ℕ) (label : Label) (to : ℕ) → HasEdge blocks from label to ↔ IsEdgeAt graph.edges graph.objects numbers from label to)
       → AreBlocksOf graph blocks
   AreBlocksOf-built ordered edges = record {

@@ -9,7 +9,7 @@ use Rattle.block_rounds.proofs.SignatureLaws.{same_number, left, right}
 use Rattle.block_rounds.specs.Gathered.{AreGathered}
 use Rattle.block_rounds.proofs.GatherLaws.{gathered_members}
 use Rattle.one_index.specs.Types.{Oid, Label, Edge, Block}
-use Rattle.one_index.specs.Blocks.{IsMember, HasEdge, IsOrdered}
+use Rattle.one_index.specs.Blocks.{IsMember, HasEdge, IsOrderedBlock}
 use Rattle.one_index.specs.inside.Places.{IsAt}
 use Rattle.one_index.specs.inside.Linked.{IsEdgeAt, AreLinks}
 use Rattle.one_index.specs.inside.Filled.{IsFilled, AreFilled}
@@ -107,7 +107,7 @@ module _ (objects : List Oid) (numbers : List ℕ) (count : ℕ) (members : List
         (block.0, block.1, (own.exact (label, to)).1 ((gathered_members links rows gathered from (label, to)).1 ((are (from, (label, to))).1 is))),
   )
 
-  pub ordered-told : All IsOrdered blocks
+  pub ordered-told : All IsOrderedBlock blocks
   ordered-told k d below =
       let own = filled.each k (get_or blocks k d) (slice_get-get_or blocks k d below) in
       record { members = own.members.ascending; edges = own.edges_in_order.ascend }

@@ -12,7 +12,7 @@ use Rattle.list_laws.proofs.AscentLaws.{never_less}
 use Rattle.list_laws.proofs.MemberLaws.{Contains-map, Contains-from_map}
 use Rattle.list_laws.proofs.PlaceLaws.{Contains-from_place, place_of_member, pair_at}
 use Rattle.one_index.specs.Types.{Oid, Label, Block}
-use Rattle.one_index.specs.Blocks.{NamedGraph, IsMember, HasEdge, IsBefore, IsOrdered, AreBlocksOf, row_cmp}
+use Rattle.one_index.specs.Blocks.{NamedGraph, IsMember, HasEdge, IsBefore, IsOrderedBlock, AreBlocksOf, block_edge_cmp}
 use Rattle.one_index.specs.BlockLaws.{OneListOfBlocks}
 
 -- lists that have the same at each place are one
@@ -44,7 +44,7 @@ pub least_in : (oids : List Oid) → oids ≢ [] → Contains oids (get_or oids 
 least_in [] some = absurd (some refl)
 least_in (x ∷ xs) some = (0, omega arith, refl)
 
-pub row_total : IsTotalOrder row_cmp
+pub row_total : IsTotalOrder block_edge_cmp
 row_total = then_total (on_total (λ (e : Label × ℕ). e.0.0) nat_cmp_total) (on_total (λ (e : Label × ℕ). e.1) nat_cmp_total)
 
 abbrev sets_of : List Block → List (List Oid)
@@ -56,8 +56,8 @@ LeastFirst a b = least a < least b
 oids_once : (x y : Oid) → x.0 < y.0 → y.0 < x.0 → ⊥
 oids_once x y less more = omega (arith, less, more)
 
-rows_once : (a b : Label × ℕ) → row_cmp a b ≡ Less → row_cmp b a ≡ Less → ⊥
-rows_once a b less more = never_less row_cmp row_total a (row_total.trans a b a less more)
+rows_once : (a b : Label × ℕ) → block_edge_cmp a b ≡ Less → block_edge_cmp b a ≡ Less → ⊥
+rows_once a b less more = never_less block_edge_cmp row_total a (row_total.trans a b a less more)
 
 lists_once : (a b : List Oid) → LeastFirst a b → LeastFirst b a → ⊥
 lists_once a b less more = omega (arith, less, more)
@@ -96,7 +96,7 @@ module _ (graph : NamedGraph) where
       let before = pair_at IsBefore blocks i j one.0 other.0 are.order less one.1 other.1 in
       let some = all_at (λ (block : Block). block.members ≢ []) blocks are.some j other.0 other.1 in
       let bottom = before (get_or other.0.members 0 (oid_of 0)) (least_in other.0.members some) in
-      let ordered = all_at IsOrdered blocks are.ordered i one.0 one.1 in
+      let ordered = all_at IsOrderedBlock blocks are.ordered i one.0 one.1 in
       let low = least_below one.0.members bottom.0 ordered.members bottom.1 in
       let below : least one.0.members < least other.0.members = omega (arith, low, bottom.2) in
       subst (λ (l : List Oid). least l < least b) one.2 (subst (λ (l : List Oid). least one.0.members < least l) other.2 below))
@@ -119,8 +119,8 @@ module _ (graph : NamedGraph) where
       let x : Oid = get_or from.0.members 0 (oid_of 0) in
       let here : IsMember one place.0 x = (from.0, place.1, least_in from.0.members some) in
       let there = second.every x (first.live place.0 x here) in
-      let ordered = all_at IsOrdered one first.ordered place.0 from.0 place.1 in
-      let ordered_there = all_at IsOrdered other second.ordered there.0 there.1.0 there.1.1 in
+      let ordered = all_at IsOrderedBlock one first.ordered place.0 from.0 place.1 in
+      let ordered_there = all_at IsOrderedBlock other second.ordered there.0 there.1.0 there.1.1 in
       let same : there.1.0.members ≡ from.0.members =
       AllPairs-unique (λ (a b : Oid). a.0 < b.0) oids_once there.1.0.members from.0.members ordered_there.members ordered.members (λ y. (
         λ held. in_block one place.0 from.0 y place.1
@@ -178,10 +178,10 @@ module _ (graph : NamedGraph) where
       → slice_get one k ≡ Some block → slice_get other k ≡ Some block
   block_there one other first second k block at =
       let found = same_block one other first second k block at in
-      let ordered = all_at IsOrdered one first.ordered k block at in
-      let ordered_there = all_at IsOrdered other second.ordered k found.there found.at in
+      let ordered = all_at IsOrderedBlock one first.ordered k block at in
+      let ordered_there = all_at IsOrderedBlock other second.ordered k found.there found.at in
       let edges : found.there.edges ≡ block.edges =
-      AllPairs-unique (λ (a b : Label × ℕ). row_cmp a b ≡ Less) rows_once found.there.edges block.edges ordered_there.edges ordered.edges (λ edge. (
+      AllPairs-unique (λ (a b : Label × ℕ). block_edge_cmp a b ≡ Less) rows_once found.there.edges block.edges ordered_there.edges ordered.edges (λ edge. (
         λ held. edge_in one k block edge at (same_edge other one second first k edge.0 edge.1 (found.there, found.at, held)),
         λ held. edge_in other k found.there edge found.at (same_edge one other first second k edge.0 edge.1 (block, at, held)),
       )) in

@@ -10,23 +10,23 @@ use Rattle.list_laws.proofs.AscentLaws.{IsOrder, IsSetOf, total_ordered, some_or
 use Rattle.list_laws.proofs.MemberLaws.{Contains-map, Contains-from_map, none_in, All-from_members}
 use Rattle.list_laws.proofs.PlaceLaws.{Contains-from_place, place_of_member, pair_at}
 use Rattle.one_index.specs.Types.{Oid, Label, Edge, Block}
-use Rattle.one_index.specs.Blocks.{NamedGraph, IsSound, BelongTogether, IsMember, HasEdge, IsLinkedTo, IsBefore, IsOrdered, AreBlocksOf, row_cmp}
+use Rattle.one_index.specs.Blocks.{NamedGraph, IsSound, BelongTogether, IsMember, HasEdge, IsLinkedTo, IsBefore, IsOrderedBlock, AreBlocksOf, block_edge_cmp}
 use Rattle.one_index.specs.BlockLaws.{BlocksExist}
 use Rattle.one_index.proofs.PlaceLaws.{place_once, position, position_at, position_is}
 use Rattle.one_index.proofs.OneBlocks.{least, least_below, least_in, row_total, pairs_from_places, mapped_at, unmapped_at}
 use Rattle.one_index.proofs.GreatestLaws.{IsGreatest, told_all, some_greatest, told_together, together_through, together_back}
 
-equal_rows : (a b : Label × ℕ) → row_cmp a b ≡ Equal → a ≡ b
+equal_rows : (a b : Label × ℕ) → block_edge_cmp a b ≡ Equal → a ≡ b
 equal_rows a b level =
     let label : a.0.0 ≡ b.0.0 = grind (arith, nat_tests) in
     let number : a.1 ≡ b.1 = grind (arith, nat_tests) in
     λ i. (record { 0 = label i }, number i)
 
 abbrev RowLess : Label × ℕ → Label × ℕ → Type 0
-RowLess a b = row_cmp a b ≡ Less
+RowLess a b = block_edge_cmp a b ≡ Less
 
 rows_ordered : IsOrder RowLess
-rows_ordered = total_ordered row_cmp row_total equal_rows
+rows_ordered = total_ordered block_edge_cmp row_total equal_rows
 
 one_oid : (a b : Oid) → (a.0 < b.0 → ⊥) → (b.0 < a.0 → ⊥) → a ≡ b
 one_oid a b below above = elim (cases_lt a.0 b.0) [
@@ -178,10 +178,10 @@ module _ (graph : NamedGraph) (sound : IsSound graph) (pairs : List (Oid × Oid)
       let from = Contains-from_map block_of leaders block at in
       subst (λ (b : Block). b.members ≢ []) from.2 (group_some from.0 ((in_leaders from.0).0 from.1).0))
 
-  blocks_ordered : All IsOrdered blocks
-  blocks_ordered = All-from_members IsOrdered blocks (λ block at.
+  blocks_ordered : All IsOrderedBlock blocks
+  blocks_ordered = All-from_members IsOrderedBlock blocks (λ block at.
       let from = Contains-from_map block_of leaders block at in
-      subst (λ (b : Block). IsOrdered b) from.2
+      subst (λ (b : Block). IsOrderedBlock b) from.2
       (record { members = group_ascends from.0; edges = (links from.0).1.ascend }))
 
   blocks_in_order : AllPairs IsBefore blocks

@@ -14,8 +14,8 @@ pub record NamedGraph : Type 0 where
   pub objects : List Oid
   pub edges : List Edge
 
-abbrev pub graph_of : List (List ℕ × Oid) → List Oid → List Edge → NamedGraph
-graph_of names objects edges = record { names = names; objects = objects; edges = edges }
+abbrev pub named_graph_of : List (List ℕ × Oid) → List Oid → List Edge → NamedGraph
+named_graph_of names objects edges = record { names = names; objects = objects; edges = edges }
 
 -- objects ascend, names and edges have live objects at their ends, and no name has two objects
 pub record IsSound (graph : NamedGraph) : Type 0 where
@@ -74,19 +74,19 @@ IsBefore block other =
     (y : Oid) → Contains other.members y → (x : Oid) × Contains block.members x × (x.0 < y.0)
 
 -- labels with blocks in order
-abbrev pub row_cmp : Label × ℕ → Label × ℕ → Ordering
-row_cmp a b = ordering_then (nat_cmp a.0.0 b.0.0) (nat_cmp a.1 b.1)
+abbrev pub block_edge_cmp : Label × ℕ → Label × ℕ → Ordering
+block_edge_cmp a b = ordering_then (nat_cmp a.0.0 b.0.0) (nat_cmp a.1 b.1)
 
 -- the members of a block ascend, and its edges ascend by label and block
-pub record IsOrdered (block : Block) : Type 0 where
+pub record IsOrderedBlock (block : Block) : Type 0 where
   pub members : AllPairs (λ a b. a.0 < b.0) block.members
-  pub edges : AllPairs (λ a b. row_cmp a b ≡ Less) block.edges
+  pub edges : AllPairs (λ a b. block_edge_cmp a b ≡ Less) block.edges
 
 -- the blocks of a graph: the objects that belong together, in the order of their least objects, and the edges
 -- between them
 pub record AreBlocksOf (graph : NamedGraph) (blocks : List Block) : Type 0 where
   pub some : All (λ block. block.members ≢ []) blocks
-  pub ordered : All IsOrdered blocks
+  pub ordered : All IsOrderedBlock blocks
   pub order : AllPairs IsBefore blocks
   pub every : (x : Oid) → Contains graph.objects x → (number : ℕ) × IsMember blocks number x
   pub live : (number : ℕ) (x : Oid) → IsMember blocks number x → Contains graph.objects x

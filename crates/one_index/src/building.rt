@@ -3,7 +3,7 @@ ghost use Rattle.std.specs.Prelude.{All, AllPairs, Contains, IfOk, OnOk};
 ghost use Rattle.std.specs.List.{sum_by};
 ghost use Rattle.read_costs.specs.ReadCosts.{in_reads, out_reads};
 ghost use Rattle.one_index.specs.Types.{Oid as TheOid, Label as TheLabel, Edge as TheEdge};
-ghost use Rattle.one_index.specs.Blocks.{graph_of, IsSound, IsOrdered, AreBlocksOf};
+ghost use Rattle.one_index.specs.Blocks.{named_graph_of, IsSound, IsOrderedBlock, AreBlocksOf};
 ghost use Rattle.one_index.specs.Blocks.{IsMember, HasEdge, cost_of};
 ghost use Rattle.one_index.specs.inside.Places.{IsAt};
 ghost use Rattle.one_index.specs.inside.Linked.{IsEdgeAt};
@@ -33,8 +33,9 @@ fn partition_of<K: Links, L: Ledger>(
 ) -> Result<Partition, NoMemory>
     requires { AllPairs (λ a b. a.0 < b.0) objects.now }
     ensures parted { IfOk result (λ partition. (edges : List TheEdge)
-        → AreSameEdges (K.edges links.now) edges → IsSound (graph_of names.now objects.now edges)
-        → IsParted (graph_of names.now objects.now edges) partition.numbers.items) }
+        → AreSameEdges (K.edges links.now) edges
+        → IsSound (named_graph_of names.now objects.now edges)
+        → IsParted (named_graph_of names.now objects.now edges) partition.numbers.items) }
     ensures numbered { IfOk result (λ partition.
         IsNumbered (length objects.now) partition.numbers.items partition.heads.items) }
     ensures order { IfOk result (λ partition.
@@ -69,7 +70,7 @@ fn blocks_by<A: Adjacent, L: Ledger>(
     ensures edges { IfOk result (λ blocks. (from : ℕ) (label : TheLabel) (to : ℕ)
         → HasEdge blocks.items from label to
         ↔ IsEdgeAt (A.edges graph.now) objects.now numbers.now from label to) }
-    ensures ordered { IfOk result (λ blocks. All IsOrdered blocks.items) }
+    ensures ordered { IfOk result (λ blocks. All IsOrderedBlock blocks.items) }
     ensures steps { OnOk result (steps.new ≡ steps.old
         + sum_by (out_reads (A.edges graph.now)) objects.now) }
 {
@@ -105,12 +106,12 @@ impl Blocks {
         names: &Names,
         steps: &mut Steps<L>,
     ) -> Result<Blocks, NoMemory>
-        requires sound { IsSound (graph_of names.now objects.now (A.edges graph.now)) }
+        requires sound { IsSound (named_graph_of names.now objects.now (A.edges graph.now)) }
         requires same { (edge : TheEdge)
             → Contains (K.edges links.now) edge ↔ Contains (A.edges graph.now) edge }
         requires few { length objects.now < 2 ^ 32 }
         ensures blocks { IfOk result
-            (AreBlocksOf (graph_of names.now objects.now (A.edges graph.now))) }
+            (AreBlocksOf (named_graph_of names.now objects.now (A.edges graph.now))) }
         ensures few { IfOk result (λ blocks. length blocks ≤ length objects.now) }
         ensures steps { OnOk result (steps.new ≤ steps.old
             + sum_by (cost_of (A.edges graph.now)) objects.now) }

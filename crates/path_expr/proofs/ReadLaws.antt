@@ -5,14 +5,14 @@ use Rattle.std.proofs.lemmas.Option.{slice_get_within}
 use Rattle.std.proofs.lemmas.List.{append_assoc, append-nil, length-append}
 use Rattle.lore_base.specs.Paths.{PathTree, PathTrees, step, any, seq, alt, opt, star, plus, none, more, leaves, leaves_of, Times, Spells, SpellInTurn, SomeSpells}
 use Rattle.path_expr.specs.Types.{Label, States, Leaf, One, AnyLabel}
-use Rattle.path_expr.specs.Machines.{Machine, IsIn, Takes, Moves, Runs, StandsFor}
+use Rattle.path_expr.specs.Machines.{Machine, IsIn, Takes, Moves, MovesThrough, Recognises}
 use Rattle.path_expr.specs.inside.Compiled.{Begins, BeginsInTurn, BeginsSome, IsLeaf, Compiled, CompiledInTurn, CompiledEach, IsSet, Grows, LaysPath}
 use Rattle.path_expr.proofs.BeginLaws.{Begins-again}
 use Rattle.path_expr.proofs.CompiledLaws.{Compiled-grown}
 
 -- the word is read from some state of a kind to the end
 abbrev IsReadFrom : List (List ℕ) → Machine → (ℕ → Type 0) → List Label → Type 0
-IsReadFrom labels machine From word = (state : ℕ) × From state × Runs labels machine state word 64
+IsReadFrom labels machine From word = (state : ℕ) × From state × MovesThrough labels machine state word 64
 
 -- a word that passes, and then what is read from a state of a kind
 abbrev IsReadOn : List (List ℕ) → Machine → (List Label → Type 0) → (ℕ → Type 0) → List Label → Type 0
@@ -51,7 +51,7 @@ module _ (labels : List (List ℕ)) (machine : Machine) (few : length machine.le
 
   -- a step of the path
   step_read : (place : ℕ) (leaf : Leaf) (After : ℕ → Type 0) → IsLeaf machine place leaf After
-      → (word : List Label) → Runs labels machine place word 64
+      → (word : List Label) → MovesThrough labels machine place word 64
       → (label : Label) × (rest : List Label) × (word ≡ label ∷ rest) × Takes labels leaf label × IsReadFrom labels machine After rest
   step_read place leaf After is [] run = absurd (omega (arith, leaf_before_end place leaf After is, run))
   step_read place leaf After is (label ∷ word) run =
@@ -60,13 +60,13 @@ module _ (labels : List (List ℕ)) (machine : Machine) (few : length machine.le
 
   -- any word
   any_read : (place : ℕ) (After : ℕ → Type 0) → IsLeaf machine place AnyLabel (λ s. (s ≡ place) ⊎ After s)
-      → (word : List Label) → Runs labels machine place word 64
+      → (word : List Label) → MovesThrough labels machine place word 64
       → (first : List Label) × (rest : List Label) × (word ≡ first ++ rest) × (length rest < length word) × IsReadFrom labels machine After rest
   any_read place After is [] run = absurd (omega (arith, leaf_before_end place AnyLabel (λ s. (s ≡ place) ⊎ After s) is, run))
   any_read place After is (label ∷ word) run =
       elim ((leaf_read place AnyLabel (λ s. (s ≡ place) ⊎ After s) is label run.0 run.1).1) [
         | inl same ↦
-            let later = any_read place After is word (subst (λ (s : ℕ). Runs labels machine s word 64) same run.2) in
+            let later = any_read place After is word (subst (λ (s : ℕ). MovesThrough labels machine s word 64) same run.2) in
             (label ∷ later.0, later.1, ap (λ (w : List Label). label ∷ w) later.2, omega (arith, later.3), later.4)
         | inr after ↦ (label ∷ [], word, refl, omega arith, (run.0, after, run.2))
       ]
@@ -80,7 +80,7 @@ module _ (labels : List (List ℕ)) (machine : Machine) (few : length machine.le
 
   -- rounds of a part, as long as they last
   rounds_read : (part : PathTree) (base : ℕ) (After : ℕ → Type 0) (Passes : List Label → Type 0)
-      → ((state : ℕ) (word : List Label) → Begins part base After state → Runs labels machine state word 64
+      → ((state : ℕ) (word : List Label) → Begins part base After state → MovesThrough labels machine state word 64
       → IsReadHere labels machine Passes After (λ s. Begins part base After s ⊎ After s) state word)
       → (bound : ℕ) (word : List Label) → length word ≤ bound → IsReadFrom labels machine (λ s. Begins part base After s ⊎ After s) word
       → IsReadOn labels machine (λ w. (count : ℕ) × Times Passes count w) After word
@@ -107,26 +107,26 @@ module _ (labels : List (List ℕ)) (machine : Machine) (few : length machine.le
       → (count : ℕ) (first rest : List Label) → Times Passes count first → IsReadFrom labels machine After rest
       → IsReadFrom labels machine (λ s. Begins part base After s ⊎ After s) (first ++ rest)
   rounds_whole part base After Passes whole zero first rest empty read =
-      (read.0, inr read.1, subst (λ (w : List Label). Runs labels machine read.0 (w ++ rest) 64) (sym empty) read.2)
+      (read.0, inr read.1, subst (λ (w : List Label). MovesThrough labels machine read.0 (w ++ rest) 64) (sym empty) read.2)
   rounds_whole part base After Passes whole (suc count) first rest times read =
       let later = rounds_whole part base After Passes whole count times.1 rest times.4 read in
       let all = whole times.0 (times.1 ++ rest) times.3 later in (
         all.0,
         inl all.1,
-        subst (λ (w : List Label). Runs labels machine all.0 w 64)
+        subst (λ (w : List Label). MovesThrough labels machine all.0 w 64)
             (sym (append_assoc times.0 times.1 rest) ∙ ap (λ (w : List Label). w ++ rest) (sym times.2)) all.2,
       )
 
   mutual
     -- what is read from where a path begins
     path_read : (path : PathTree) (base : ℕ) (After : ℕ → Type 0) → Compiled machine path base After
-        → (Here : ℕ → Type 0) (state : ℕ) (word : List Label) → Begins path base Here state → Runs labels machine state word 64
+        → (Here : ℕ → Type 0) (state : ℕ) (word : List Label) → Begins path base Here state → MovesThrough labels machine state word 64
         → IsReadHere labels machine (Spells labels path) Here After state word
     path_read (step pattern) base After is Here state word begins run =
-        let read = step_read base (One pattern) After is word (subst (λ (s : ℕ). Runs labels machine s word 64) begins run) in
+        let read = step_read base (One pattern) After is word (subst (λ (s : ℕ). MovesThrough labels machine s word 64) begins run) in
         inr (read.0 ∷ [], read.1, read.2, omega (arith, ap (λ (w : List Label). length w) read.2), (read.0, refl, read.3), read.4)
     path_read any base After is Here state word (inl same) run =
-        let read = any_read base After is word (subst (λ (s : ℕ). Runs labels machine s word 64) same run) in
+        let read = any_read base After is word (subst (λ (s : ℕ). MovesThrough labels machine s word 64) same run) in
         inr (read.0, read.1, read.2, read.3, tt, read.4)
     path_read any base After is Here state word (inr here) run = inl (tt, here)
     path_read (seq parts) base After is Here state word begins run = in_turn_read parts base After is Here state word begins run
@@ -167,7 +167,7 @@ module _ (labels : List (List ℕ)) (machine : Machine) (few : length machine.le
         ]
 
     in_turn_read : (parts : PathTrees) (base : ℕ) (After : ℕ → Type 0) → CompiledInTurn machine parts base After
-        → (Here : ℕ → Type 0) (state : ℕ) (word : List Label) → BeginsInTurn parts base Here state → Runs labels machine state word 64
+        → (Here : ℕ → Type 0) (state : ℕ) (word : List Label) → BeginsInTurn parts base Here state → MovesThrough labels machine state word 64
         → IsReadHere labels machine (SpellInTurn labels parts) Here After state word
     in_turn_read none base After is Here state word here run = inl (refl, here)
     in_turn_read (more part parts) base After is Here state word begins run =
@@ -190,7 +190,7 @@ module _ (labels : List (List ℕ)) (machine : Machine) (few : length machine.le
         ]
 
     some_read : (parts : PathTrees) (base : ℕ) (After : ℕ → Type 0) → CompiledEach machine parts base After
-        → (Here : ℕ → Type 0) (state : ℕ) (word : List Label) → BeginsSome parts base Here state → Runs labels machine state word 64
+        → (Here : ℕ → Type 0) (state : ℕ) (word : List Label) → BeginsSome parts base Here state → MovesThrough labels machine state word 64
         → IsReadHere labels machine (SomeSpells labels parts) Here After state word
     some_read none base After is Here state word begins run = absurd begins
     some_read (more part parts) base After is Here state word (inl begins) run =
@@ -212,7 +212,7 @@ module _ (labels : List (List ℕ)) (machine : Machine) (few : length machine.le
     path_whole (seq parts) base After is first rest spells read = in_turn_whole parts base After is first rest spells read
     path_whole (alt parts) base After is first rest spells read = some_whole parts base After is first rest spells read
     path_whole (opt part) base After is first rest (inl empty) read =
-        (read.0, inr read.1, subst (λ (w : List Label). Runs labels machine read.0 (w ++ rest) 64) (sym empty) read.2)
+        (read.0, inr read.1, subst (λ (w : List Label). MovesThrough labels machine read.0 (w ++ rest) 64) (sym empty) read.2)
     path_whole (opt part) base After is first rest (inr spells) read =
         let all = path_whole part base After is first rest spells read in
         (all.0, inl all.1, all.2)
@@ -229,7 +229,7 @@ module _ (labels : List (List ℕ)) (machine : Machine) (few : length machine.le
         let all = path_whole part base (λ s. Begins part base After s ⊎ After s) is spells.1.0 (spells.1.1 ++ rest) spells.1.3 others in (
           all.0,
           (Begins-again part base After all.0).0 all.1,
-          subst (λ (w : List Label). Runs labels machine all.0 w 64)
+          subst (λ (w : List Label). MovesThrough labels machine all.0 w 64)
               (sym (append_assoc spells.1.0 spells.1.1 rest) ∙ ap (λ (w : List Label). w ++ rest) (sym spells.1.2)) all.2,
         )
 
@@ -237,13 +237,13 @@ module _ (labels : List (List ℕ)) (machine : Machine) (few : length machine.le
         → (first rest : List Label) → SpellInTurn labels parts first → IsReadFrom labels machine After rest
         → IsReadFrom labels machine (BeginsInTurn parts base After) (first ++ rest)
     in_turn_whole none base After is first rest empty read =
-        (read.0, read.1, subst (λ (w : List Label). Runs labels machine read.0 (w ++ rest) 64) (sym empty) read.2)
+        (read.0, read.1, subst (λ (w : List Label). MovesThrough labels machine read.0 (w ++ rest) 64) (sym empty) read.2)
     in_turn_whole (more part parts) base After is first rest spells read =
         let later = in_turn_whole parts base After is.1 spells.1 rest spells.4 read in
         let all = path_whole part (base + leaves_of parts) (BeginsInTurn parts base After) is.0 spells.0 (spells.1 ++ rest) spells.3 later in (
           all.0,
           all.1,
-          subst (λ (w : List Label). Runs labels machine all.0 w 64)
+          subst (λ (w : List Label). MovesThrough labels machine all.0 w 64)
               (sym (append_assoc spells.0 spells.1 rest) ∙ ap (λ (w : List Label). w ++ rest) (sym spells.2)) all.2,
         )
 
@@ -260,7 +260,7 @@ module _ (labels : List (List ℕ)) (machine : Machine) (few : length machine.le
 
 -- nothing is read at the end but the empty word
 end_reads_nothing : (labels : List (List ℕ)) (machine : Machine) → length machine.leaves ≤ 64 → (state : ℕ) → state ≡ 64
-    → (word : List Label) → Runs labels machine state word 64 → word ≡ []
+    → (word : List Label) → MovesThrough labels machine state word 64 → word ≡ []
 end_reads_nothing labels machine few state same [] run = refl
 end_reads_nothing labels machine few state same (label ∷ word) run =
     absurd (omega (arith, slice_get_within machine.leaves state run.1.0.0 run.1.0.1))
@@ -268,7 +268,7 @@ end_reads_nothing labels machine few state same (label ∷ word) run =
 -- a path compiled into a machine that begins where the path does, with the end after it
 stands_for : (machine : Machine) (path : PathTree) (final : States) → length machine.leaves ≤ 64
     → ((s : ℕ) → IsIn final s ↔ (s ≡ 64)) → Compiled machine path 0 (IsIn final)
-    → ((s : ℕ) → IsIn machine.start s ↔ Begins path 0 (IsIn final) s) → StandsFor machine path
+    → ((s : ℕ) → IsIn machine.start s ↔ Begins path 0 (IsIn final) s) → Recognises machine path
 stands_for machine path final few ends is begins labels word = (
   λ accepts. elim (path_read labels machine few path 0 (IsIn final) is (IsIn final) accepts.0 word ((begins accepts.0).0 accepts.1) accepts.2) [
     | inl here ↦
@@ -281,13 +281,13 @@ stands_for machine path final few ends is begins labels word = (
   ],
   λ spells.
       let all = path_whole labels machine few path 0 (IsIn final) is word [] spells (64, (ends 64).1 refl, refl) in
-      (all.0, (begins all.0).1 all.1, subst (λ (w : List Label). Runs labels machine all.0 w 64) (append-nil word) all.2),
+      (all.0, (begins all.0).1 all.1, subst (λ (w : List Label). MovesThrough labels machine all.0 w 64) (append-nil word) all.2),
 )
 
 -- a path laid into an empty machine, which then begins where the path does
 pub built : (path : PathTree) (final start : States) (old new machine : Machine) → LaysPath path final start old new
     → length old.leaves ≡ 0 → machine.leaves ≡ new.leaves → machine.follow ≡ new.follow → machine.start ≡ start
-    → length machine.leaves ≤ 64 → ((s : ℕ) → IsIn final s ↔ (s ≡ 64)) → StandsFor machine path
+    → length machine.leaves ≤ 64 → ((s : ℕ) → IsIn final s ↔ (s ≡ 64)) → Recognises machine path
 built path final start old new machine laid empty leaves follow begins few ends =
     let grows : Grows new machine = record {
       leaves = λ place leaf is. subst (λ (ls : List Leaf). slice_get ls place ≡ Some leaf) (sym leaves) is;

@@ -7,7 +7,7 @@ use Rattle.std.proofs.lemmas.Option.{slice_get_within, slice_get-get_or}
 use Rattle.std.proofs.lemmas.List.Elements.{All-push}
 use Rattle.list_laws.proofs.PlaceLaws.{slice_get-push_cases}
 use Rattle.path_expr.specs.Types.{Label, States, Leaf}
-use Rattle.path_expr.specs.Machines.{Machine, IsIn, Reads, Follows, Runs, Accepts, UpToEnd}
+use Rattle.path_expr.specs.Machines.{Machine, IsIn, Reads, Follows, MovesThrough, Accepts, UpToEnd}
 use Rattle.path_expr.specs.inside.Reverses.{Precedes, Reverses}
 use Rattle.path_expr.specs.inside.Compiled.{IsSet}
 
@@ -73,33 +73,33 @@ module _ (labels : List (List ℕ)) (machine back : Machine) (few : length machi
 
   -- what is read backwards to the end, and then forwards to the end
   backwards : length machine.follow ≡ length machine.leaves → (word read : List Label) (state next : ℕ) → Precedes machine state next
-      → Runs labels back state word 64 → Runs labels machine next read 64
-      → (start : ℕ) × IsIn machine.start start × Runs labels machine start (reverse word ++ read) 64
+      → MovesThrough labels back state word 64 → MovesThrough labels machine next read 64
+      → (start : ℕ) × IsIn machine.start start × MovesThrough labels machine start (reverse word ++ read) 64
   backwards paired [] read state next precedes run ahead =
       (next, at_end paired next (subst (λ (s : ℕ). Precedes machine s next) run precedes), ahead)
   backwards paired (label ∷ word) read state next precedes run ahead =
       let follows = (turned.follows state run.0).0 run.1.1 in
       let all = backwards paired word (label ∷ read) run.0 state follows.1 run.2
       (next, (reads_same state label run.1.0, before_end state next (omega (arith, follows.0)) precedes), ahead) in
-      (all.0, all.1, subst (λ (w : List Label). Runs labels machine all.0 w 64) (sym (reverse_first label word read)) all.2)
+      (all.0, all.1, subst (λ (w : List Label). MovesThrough labels machine all.0 w 64) (sym (reverse_first label word read)) all.2)
 
   -- what is read forwards to the end, and then backwards to the end
   forwards : (word read : List Label) (state next : ℕ) → Precedes machine state next
-      → Runs labels back state read 64 → Runs labels machine next word 64
-      → (last : ℕ) × Precedes machine last 64 × Runs labels back last (reverse word ++ read) 64
+      → MovesThrough labels back state read 64 → MovesThrough labels machine next word 64
+      → (last : ℕ) × Precedes machine last 64 × MovesThrough labels back last (reverse word ++ read) 64
   forwards [] read state next precedes run same = (state, subst (λ (s : ℕ). Precedes machine state s) same precedes, run)
   forwards (label ∷ word) read state next precedes run ahead =
       let within = slice_get_within machine.leaves next ahead.1.0.0 ahead.1.0.1 in
       let all = forwards word (label ∷ read) next ahead.0 (inl ahead.1.1)
       (state, (reads_back next label ahead.1.0, (turned.follows next state).1 (within, precedes)), run) ahead.2 in
-      (all.0, all.1, subst (λ (w : List Label). Runs labels back all.0 w 64) (sym (reverse_first label word read)) all.2)
+      (all.0, all.1, subst (λ (w : List Label). MovesThrough labels back all.0 w 64) (sym (reverse_first label word read)) all.2)
 
   pub accepts_backwards : length machine.follow ≡ length machine.leaves → (word : List Label) → Accepts labels back word ↔ Accepts labels machine (reverse word)
   accepts_backwards paired word = (
     λ accepts.
         let all = backwards paired word [] accepts.0 64 ((turned.starts accepts.0).0 accepts.1) accepts.2 refl in
-        (all.0, all.1, subst (λ (w : List Label). Runs labels machine all.0 w 64) (append-nil (reverse word)) all.2),
+        (all.0, all.1, subst (λ (w : List Label). MovesThrough labels machine all.0 w 64) (append-nil (reverse word)) all.2),
     λ accepts.
         let all = forwards (reverse word) [] 64 accepts.0 (inr (refl, accepts.1)) refl accepts.2 in
-        (all.0, (turned.starts all.0).1 all.1, subst (λ (w : List Label). Runs labels back all.0 w 64) (append-nil (reverse (reverse word)) ∙ reverse-reverse word) all.2),
+        (all.0, (turned.starts all.0).1 all.1, subst (λ (w : List Label). MovesThrough labels back all.0 w 64) (append-nil (reverse (reverse word)) ∙ reverse-reverse word) all.2),
   )

@@ -1,10 +1,10 @@
 -- Stepping through a word: the states that are left are those that the word leads to.
 use Rattle.std.proofs.Common.{◌↔◌, ℕ, List, [], ◌∷◌, refl, sym, subst}
 use Rattle.path_expr.specs.Types.{Label, States}
-use Rattle.path_expr.specs.Machines.{Machine, IsIn, Runs, StepsThrough, IsAcceptedByStepping}
+use Rattle.path_expr.specs.Machines.{Machine, IsIn, MovesThrough, StepsThrough, IsAcceptedByStepping}
 
 steps_run : (labels : List (List ℕ)) (machine : Machine) (word : List Label) (states last : States) → StepsThrough labels machine states word last
-    → IsIn last 64 ↔ ((state : ℕ) × IsIn states state × Runs labels machine state word 64)
+    → IsIn last 64 ↔ ((state : ℕ) × IsIn states state × MovesThrough labels machine state word 64)
 steps_run labels machine [] states last same = (
   λ h. (64, subst (λ (s : States). IsIn s 64) (sym same) h, refl),
   λ h. subst (λ (s : States). IsIn s 64) same (subst (λ (k : ℕ). IsIn states k) h.2 h.1),

@@ -40,18 +40,18 @@ abbrev pub Moves : List (List ℕ) → Machine → ℕ → Label → ℕ → Typ
 Moves labels machine state label next = Reads labels machine state label × Follows machine state next
 
 -- reading a word leads from one state to another
-abbrev pub Runs : List (List ℕ) → Machine → ℕ → List Label → ℕ → Type 0
-Runs labels machine state [] last = state ≡ last
-Runs labels machine state (label ∷ word) last =
-    (next : ℕ) × Moves labels machine state label next × Runs labels machine next word last
+abbrev pub MovesThrough : List (List ℕ) → Machine → ℕ → List Label → ℕ → Type 0
+MovesThrough labels machine state [] last = state ≡ last
+MovesThrough labels machine state (label ∷ word) last =
+    (next : ℕ) × Moves labels machine state label next × MovesThrough labels machine next word last
 
 -- reading a word leads from a start to the end
 abbrev pub Accepts : List (List ℕ) → Machine → List Label → Type 0
-Accepts labels machine word = (state : ℕ) × IsIn machine.start state × Runs labels machine state word END
+Accepts labels machine word = (state : ℕ) × IsIn machine.start state × MovesThrough labels machine state word END
 
--- a machine accepts what a path spells, whatever the table of labels
-abbrev pub StandsFor : Machine → PathTree → Type 0
-StandsFor machine path =
+-- a machine recognises a path: it accepts what the path spells, and no more, whatever the table of labels
+abbrev pub Recognises : Machine → PathTree → Type 0
+Recognises machine path =
     (labels : List (List ℕ)) (word : List Label) → Accepts labels machine word ↔ Spells labels path word
 
 -- a machine accepts the words that another one accepts when they are read backwards

@@ -2,7 +2,7 @@ ghost use Rattle.std.specs.Prelude.{◌≡◌, ◌↔◌, ℕ, ◌≤◌, ◌<�
 ghost use Rattle.path_expr.specs.Types.{LEAVES, END};
 ghost use Rattle.lore_base.specs.Paths.{seq, path_tree, path_trees, trees_of, leaves as leaf_count};
 ghost use Rattle.path_expr.specs.Machines.{IsIn, Reads, Follows, Moves, ReadsBackwards};
-ghost use Rattle.path_expr.specs.Machines.{StandsFor, IsBounded, IsStep, UpToEnd};
+ghost use Rattle.path_expr.specs.Machines.{Recognises, IsBounded, IsStep, UpToEnd};
 ghost use Rattle.path_expr.specs.inside.Compiled.{IsSet, Pushes};
 ghost use Rattle.path_expr.specs.inside.Reverses.{Precedes};
 
@@ -44,7 +44,7 @@ impl Automaton {
     /// most 64 leaves.
     pub fn build(alloc: Global, path: &Path) -> Result<Automaton, NoMemory>
         requires { leaf_count (path_tree path.now) ≤ LEAVES }
-        ensures { IfOk result (λ machine. StandsFor machine (path_tree path.now)) }
+        ensures { IfOk result (λ machine. Recognises machine (path_tree path.now)) }
     {
         let mut automaton = Automaton::empty(alloc);
         let start = compile(alloc, path, States::one(END), &mut automaton)?;
@@ -57,7 +57,7 @@ impl Automaton {
     pub fn in_turn(alloc: Global, parts: &PathList) -> Result<Automaton, NoMemory>
         requires { leaf_count (seq (trees_of (path_trees parts.now))) ≤ LEAVES }
         ensures { IfOk result (λ machine.
-            StandsFor machine (seq (trees_of (path_trees parts.now)))) }
+            Recognises machine (seq (trees_of (path_trees parts.now)))) }
     {
         let mut automaton = Automaton::empty(alloc);
         let start = compile_in_turn(alloc, parts, States::one(END), &mut automaton)?;

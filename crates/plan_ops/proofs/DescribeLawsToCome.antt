@@ -9,9 +9,9 @@ use Rattle.lorel_bound.specs.Plans.{StepTree, forward, from_value, check, along,
 use Rattle.plan_ops.specs.Types.{Oid, Label, Value, Start, PlanKind, PartialRow}
 use Rattle.plan_ops.specs.Types.starts
 use Rattle.plan_ops.specs.Types.plan_kinds
-use Rattle.plan_ops.specs.Steps.{StepsOver, Finishes, in_eight, IsSought, Agrees}
+use Rattle.plan_laws.specs.Steps.{StepsOver, Finishes, in_eight, IsSought, Agrees}
 use Rattle.plan_ops.specs.Rows.{ComesOf, IsToCome, AreSame, WalksOrTests}
-use Rattle.plan_ops.proofs.DescribeLaws.{top_describes, plan_describes}
+use Rattle.plan_laws.proofs.DescribeLaws.{top_describes, plan_describes}
 
 -- ---- steps that walk forward alone are those from the top
 walked_step : (start : Start) (path : PathTree) (slot : ℕ) → WalksOrTests (guided_step start path slot)

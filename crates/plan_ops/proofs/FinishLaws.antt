@@ -10,8 +10,8 @@ use Rattle.lorel_bound.specs.SlotRows.{StartsAt}
 use Rattle.lorel_bound.specs.Plans.{StepTree, forward, from_guide, from_value, backward, check, filter}
 use Rattle.plan_ops.specs.Types.{Oid, Start, RANGES}
 use Rattle.plan_ops.specs.Types.starts
-use Rattle.plan_ops.specs.Steps.{StepsOver, Meets, IsLeft, Finishes, slot_of}
-use Rattle.plan_ops.specs.inside.Orders.{IsSettled, IsThere, Stands}
+use Rattle.plan_laws.specs.Steps.{StepsOver, Meets, IsLeft, Finishes, slot_of}
+use Rattle.plan_laws.specs.Orders.{IsSettled, IsThere, Stands}
 use Rattle.plan_ops.specs.inside.Offers.{IsVariant, AreOffered, AreKept}
 use Rattle.row_hints.proofs.SlotLaws.{same_places, filled_there, filled_elsewhere}
 

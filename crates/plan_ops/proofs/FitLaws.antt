@@ -7,11 +7,11 @@ use Rattle.lorel_bound.specs.Plans.{StepTree, filter}
 use Rattle.row_hints.specs.Thinned.{FailsWith}
 use Rattle.row_hints.proofs.ThinLaws.{thinned_one}
 use Rattle.plan_ops.specs.Types.{Oid, RANGES}
-use Rattle.plan_ops.specs.Steps.{StepsOver}
+use Rattle.plan_laws.specs.Steps.{StepsOver}
 use Rattle.plan_ops.specs.Rows.{AreQuiet}
 use Rattle.plan_ops.specs.declared.offers.Offer.{Offer}
 use Rattle.plan_ops.specs.inside.Offers.{Fill, Lend, One, Keep, Reject, IsOffer, IsKeptOffer, IsOfferAt, IsKeptAt, HasObjects, one_unless}
-use Rattle.plan_ops.specs.inside.Orders.{AreInOrder}
+use Rattle.plan_laws.specs.Orders.{AreStepsInOrder}
 use Rattle.plan_ops.specs.inside.Narrowing.{IsFilledBy, AreHintedAt}
 use Rattle.plan_ops.specs.inside.Ready.{ReadyStep, ready_tree}
 use Rattle.plan_ops.proofs.NarrowLaws.{narrowed_at, not_quiet, offer_kept}
@@ -64,7 +64,7 @@ kept_lent over steps at slot row oids Reject has kept step later cut = absurd ha
 
 -- an offer of one object: it may fail
 pub one_narrowed : (over : StepsOver) (Hints : List Oid → Type 0) (steps : List StepTree) (at slot : ℕ) (row : List Oid) (oid : Oid) (known : List Bool) (out : Bool)
-    → AreInOrder steps → length row ≡ RANGES → Contains (drop (at + 1) steps) filter
+    → AreStepsInOrder steps → length row ≡ RANGES → Contains (drop (at + 1) steps) filter
     → ((own : ℕ) → slice_get known own ≡ Some true → IsFilledBy (take at steps) own)
     → IsOfferAt over steps at row (One slot oid) → AreHintedAt over Hints steps at row → (IsTrue out → FailsWith Hints known slot row oid)
     → IsKeptAt over steps at row (one_unless out slot oid)

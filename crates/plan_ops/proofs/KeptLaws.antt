@@ -10,7 +10,7 @@ use Rattle.list_laws.proofs.PlaceLaws.{Contains-from_place}
 use Rattle.word_walks.specs.WordWalks.{IsReachedBy}
 use Rattle.row_hints.proofs.SlotLaws.{filled_there, filled_elsewhere}
 use Rattle.plan_ops.specs.Types.{Oid}
-use Rattle.plan_ops.specs.Steps.{StepsOver}
+use Rattle.plan_laws.specs.Steps.{StepsOver}
 use Rattle.plan_ops.specs.inside.Ready.{ReadyStep}
 use Rattle.plan_ops.specs.declared.ready_steps.ReadyStep.TheVariants as ready
 use Rattle.plan_ops.specs.inside.Keeping.{Kept, IsNothing, IsKept, IsKeptBy, AreKeptBy}

@@ -5,7 +5,7 @@ use Rattle.std.proofs.lemmas.List.{take-map}
 use Rattle.std.proofs.lemmas.List.Elements.{Contains-append_left, Contains-push}
 use Rattle.list_laws.proofs.PartLaws.{map_more_read}
 use Rattle.lorel_bound.specs.Plans.{StepTree}
-use Rattle.plan_ops.specs.Steps.{slot_of}
+use Rattle.plan_laws.specs.Steps.{slot_of}
 use Rattle.plan_ops.specs.inside.Ready.{ReadyStep, ready_tree}
 use Rattle.plan_ops.specs.inside.Narrowing.{IsFilledBy}
 

@@ -1,6 +1,3 @@
-pub mod DescribeLaws
-pub mod DescribeLawsProbe
-pub mod DescribeLawsRows
 pub mod DescribeLawsToCome
 pub mod FinishLaws
 pub mod FitLaws
@@ -8,8 +5,6 @@ pub mod KeptLaws
 pub mod KnownSlotLaws
 pub mod NarrowLaws
 pub mod OfferLaws
-pub mod OrderLaws
-pub mod OrderLawsRanges
 pub mod ReadyLaws
 pub mod StackLaws
 pub mod TurnLaws

@@ -11,11 +11,11 @@ use Rattle.lorel_bound.specs.Plans.{StepTree, filter}
 use Rattle.row_hints.specs.Thinned.{FailsWith, AreThinned}
 use Rattle.row_hints.proofs.SlotLaws.{filled_there, filled_elsewhere}
 use Rattle.plan_ops.specs.Types.{Oid, RANGES}
-use Rattle.plan_ops.specs.Steps.{StepsOver, Meets, Finishes, IsLeft, slot_of}
+use Rattle.plan_laws.specs.Steps.{StepsOver, Meets, Finishes, IsLeft, slot_of}
 use Rattle.plan_ops.specs.Rows.{AreQuiet, IsGuided}
 use Rattle.plan_ops.specs.declared.offers.Offer.{Offer}
 use Rattle.plan_ops.specs.inside.Offers.{Fill, IsVariant, IsHopeless, IsOffer, IsKeptOffer, IsOfferAt, IsKeptAt, offered}
-use Rattle.plan_ops.specs.inside.Orders.{IsSettled, Stands, AreInOrder}
+use Rattle.plan_laws.specs.Orders.{IsSettled, Stands, AreStepsInOrder}
 use Rattle.plan_ops.specs.inside.Narrowing.{IsFilledBy, AreHintedAt}
 use Rattle.plan_ops.specs.inside.Ready.{ReadyStep, ready_tree}
 use Rattle.plan_ops.proofs.FinishLaws.{settles, finishes_through, all_kept}
@@ -36,7 +36,7 @@ test_behind ready at last within more is tests =
     (step_at ready (length ready - 1) last is ∙ ap Some tests)
 
 -- the slots that the first steps fill are filled by none of the others
-filled_left : (steps : List StepTree) (at own : ℕ) → AreInOrder steps → IsFilledBy (take at steps) own → IsLeft (drop at steps) own
+filled_left : (steps : List StepTree) (at own : ℕ) → AreStepsInOrder steps → IsFilledBy (take at steps) own → IsLeft (drop at steps) own
 filled_left steps zero own order filled = absurd (Contains-none filled.0 filled.1)
 filled_left [] (suc at) own order filled = absurd (Contains-none filled.0 filled.1)
 filled_left (first ∷ others) (suc at) own order filled = elim (Contains-cases first (take at others) filled.0 filled.1) [
@@ -96,14 +96,14 @@ thinned_offer over step later slot row oids kept long offers thin = record {
 }
 
 pub narrowed_at : (over : StepsOver) (Hints : List Oid → Type 0) (steps : List StepTree) (at slot : ℕ) (row oids kept : List Oid) (known : List Bool)
-    → AreInOrder steps → length row ≡ RANGES → Contains (drop (at + 1) steps) filter
+    → AreStepsInOrder steps → length row ≡ RANGES → Contains (drop (at + 1) steps) filter
     → ((own : ℕ) → slice_get known own ≡ Some true → IsFilledBy (take at steps) own)
     → IsOfferAt over steps at row (Fill slot oids) → AreHintedAt over Hints steps at row → AreThinned (FailsWith Hints known slot row) oids kept
     → IsKeptAt over steps at row (Fill slot kept)
 narrowed_at over Hints steps at slot row oids kept known order long tests marked offers hinted thin step later cut =
     let offer = offers step later cut in
     let behind : drop (at + 1) steps ≡ later = sym (drop-drop 1 at steps) ∙ ap (drop 1) cut in
-    let ordered : AreInOrder (step ∷ later) = subst AreInOrder cut (ordered_at steps at order) in
+    let ordered : AreStepsInOrder (step ∷ later) = subst AreStepsInOrder cut (ordered_at steps at order) in
     let settled : IsSettled later slot = settles step later slot ordered.0 offer.own in
     thinned_offer over step later slot row oids kept long offer
     (thinned_for (FailsWith Hints known slot row) (λ oid. IsHopeless over later (set row slot oid)) oids kept (λ oid there.

@@ -6,13 +6,11 @@ use Rattle.std.proofs.lemmas.Option.{none-some, same_Some, slice_get-get_or}
 use Rattle.std.proofs.lemmas.List.{length-set, length-map, get_or-map}
 use Rattle.std.proofs.lemmas.List.Elements.{All-head}
 use Rattle.lore_base.specs.Walks.{Walk, oid_of}
-use Rattle.lore_base.specs.Lists.{ExtendsBy}
 use Rattle.lore_base.specs.Paths.{PathTree, Reaches}
 use Rattle.lore_base.specs.TargetSets.{ListsInOrder}
 use Rattle.lore_base.proofs.MemberLaws.{Contains-none, Contains-head, Contains-cases}
 use Rattle.lore_base.proofs.TargetLaws.{ListsInOrder-same}
 use Rattle.list_laws.proofs.MemberLaws.{Contains-map, Contains-from_map}
-use Rattle.index_traits.specs.Entries.{IsFound}
 use Rattle.product_walk.specs.ProductWalks.{ReachesInto}
 use Rattle.word_walks.specs.declared.only_words.OnlyWord.{OnlyWord}
 use Rattle.word_walks.specs.declared.only_words.OnlyWord.TheVariants.{Labels, Lacking}
@@ -20,12 +18,12 @@ use Rattle.word_walks.specs.WordWalks.{IsItsWord, IsReachedBy}
 use Rattle.lorel_bound.specs.Runnable.{IsWithin}
 use Rattle.lorel_bound.specs.SlotRows.{StartsAt}
 use Rattle.lorel_bound.specs.Plans.{StepTree, forward, from_guide, from_value, backward, check, IsCandidate}
-use Rattle.plan_ops.specs.Types.{Oid, Label, Edge, Value, Op, ValueEntry, Start, RANGES}
+use Rattle.plan_ops.specs.Types.{Oid, Label, Edge, Value, Op, Start, RANGES}
 use Rattle.plan_ops.specs.Types.starts
-use Rattle.plan_ops.specs.Steps.{StepsOver, Meets, Connects, slot_of}
+use Rattle.plan_laws.specs.Steps.{StepsOver, Meets, Connects, slot_of}
 use Rattle.plan_ops.specs.Rows.{AreQuiet, IsGuided}
 use Rattle.plan_ops.specs.declared.offers.Offer.{Offer}
-use Rattle.plan_ops.specs.inside.Orders.{IsThere, Stands}
+use Rattle.plan_laws.specs.Orders.{IsThere, Stands}
 use Rattle.plan_ops.specs.inside.Offers.{Fill, Lend, One, Keep, Reject, IsVariant, IsOffer, HasObjects, PutsAll, PutsThose, tested}
 use Rattle.row_hints.proofs.SlotLaws.{same_places, filled_there, filled_elsewhere}
 
@@ -289,17 +287,3 @@ leading_one labels edges path to none ends oids empty is lists =
       ],
       λ h. (to, subst (λ (l : List Oid). Contains l to) (sym whole) (Contains-head to []), h),
     )) lists
-
-pub some_candidates : (entries : List ValueEntry) (label : Option Label) (own : Label) (op : Op) (value : Value) (old new : List Oid) → label ≡ Some own
-    → old ≡ [] → ExtendsBy (ListsInOrder (IsFound entries own op value)) old new → ListsInOrder (IsCandidate entries label op value) new
-some_candidates entries label own op value old new is empty extends =
-    let whole : new ≡ extends.0 = extends.1 ∙ ap (λ (l : List Oid). l ++ extends.0) empty in
-    subst (λ (o : Option Label). ListsInOrder (IsCandidate entries o op value) new) (sym is)
-    (subst (ListsInOrder (IsFound entries own op value)) (sym whole) extends.2)
-
-pub no_candidates : (entries : List ValueEntry) (label : Option Label) (op : Op) (value : Value) (oids : List Oid) → label ≡ None → oids ≡ []
-    → ListsInOrder (IsCandidate entries label op value) oids
-no_candidates entries label op value oids is empty =
-    subst (λ (o : Option Label). ListsInOrder (IsCandidate entries o op value) oids) (sym is)
-    (subst (ListsInOrder (λ oid. ⊥)) (sym empty)
-    (record { ascending = λ i j d less within. absurd (omega (arith, within)); exact = λ oid. (Contains-none oid, λ h. absurd h) }))

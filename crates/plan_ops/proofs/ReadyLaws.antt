@@ -17,13 +17,14 @@ use Rattle.row_hints.specs.Told.{AreTold}
 use Rattle.plan_ops.specs.Types.{Oid, Label, Start, LEAVES, RANGES, PlanKind, PartialRow}
 use Rattle.plan_ops.specs.Types.starts
 use Rattle.plan_ops.specs.Types.plan_kinds
-use Rattle.plan_ops.specs.Steps.{StepsOver, Finishes, in_eight}
+use Rattle.plan_laws.specs.Steps.{StepsOver, Finishes, in_eight}
 use Rattle.plan_ops.specs.Rows.{AreApart}
 use Rattle.plan_ops.specs.inside.Offers.{partial_at}
-use Rattle.plan_ops.specs.inside.Ready.{ReadyStep, ready_tree, HasFound, CanBeReady}
+use Rattle.plan_laws.specs.Orders.{CanBeReady}
+use Rattle.plan_ops.specs.inside.Ready.{ReadyStep, ready_tree, HasFound}
 use Rattle.plan_ops.specs.inside.Keeping.{Kept, AreKeptBy}
 use Rattle.plan_ops.specs.inside.Machines.{IsReadyMachine}
-use Rattle.plan_ops.proofs.OrderLaws.{steps_in_order}
+use Rattle.plan_laws.proofs.OrderLaws.{steps_in_order}
 use Rattle.plan_ops.proofs.DescribeLawsToCome.{AreFirst, finished_to_come}
 
 abbrev HasFew : RangeTree → Type 0

@@ -16,12 +16,12 @@ use Rattle.lore_base.specs.Paths.{PathTree}
 use Rattle.lorel_bound.specs.Plans.{StepTree, forward, from_guide, from_value, backward, check, filter}
 use Rattle.plan_ops.specs.Types.{Oid, Start, PartialRow, RANGES}
 use Rattle.plan_ops.specs.Types.starts
-use Rattle.plan_ops.specs.Steps.{StepsOver, Meets, Finishes, IsLeft, slot_of}
+use Rattle.plan_laws.specs.Steps.{StepsOver, Meets, Finishes, IsLeft, slot_of}
 use Rattle.plan_ops.specs.Rows.{ComesOf, IsToCome, AreSame, Gives, AreQuiet, IsGuided, FindsNothing, ReadNothing, left_of, work_left}
 use Rattle.plan_ops.specs.declared.offers.Offer.{Offer}
 use Rattle.plan_ops.specs.inside.Offers.{FillsSlot, IsOffer, IsKeptOffer, IsOfferAt, IsKeptAt, IsReplaced, offered, partial_at}
-use Rattle.plan_ops.specs.inside.Orders.{IsThere, Stands, AreInOrder}
-use Rattle.plan_ops.specs.inside.Ready.{ReadyStep, ready_tree, HasFound, CanBeReady}
+use Rattle.plan_laws.specs.Orders.{IsThere, Stands, AreStepsInOrder, CanBeReady}
+use Rattle.plan_ops.specs.inside.Ready.{ReadyStep, ready_tree, HasFound}
 use Rattle.plan_ops.specs.declared.ready_steps.ReadyStep.TheVariants as ready_steps
 use Rattle.plan_ops.specs.inside.Keeping.{Kept, IsKeptBy, AreKeptBy}
 use Rattle.plan_ops.specs.inside.Machines.{AreHinted, IsMachine, IsPopped}
@@ -38,7 +38,7 @@ drop_at (first ∷ others) (suc n) step at =
     let next : suc (n + 1) ≡ suc n + 1 = omega arith in
     drop_at others n step at ∙ ap (λ (k : ℕ). step ∷ drop k (first ∷ others)) next
 
-pub ordered_at : (steps : List StepTree) (n : ℕ) → AreInOrder steps → AreInOrder (drop n steps)
+pub ordered_at : (steps : List StepTree) (n : ℕ) → AreStepsInOrder steps → AreStepsInOrder (drop n steps)
 ordered_at steps zero order = order
 ordered_at [] (suc n) order = order
 ordered_at (first ∷ others) (suc n) order = ordered_at others n order.1
@@ -123,7 +123,7 @@ module _ (over : StepsOver) (steps : List StepTree) (old new front : List Partia
   cut = drop_at steps last.step step at
 
   stands_well : Stands step later
-  stands_well = (subst AreInOrder cut (ordered_at steps last.step machine.in_order)).0
+  stands_well = (subst AreStepsInOrder cut (ordered_at steps last.step machine.in_order)).0
 
   there : Contains old last
   there = subst (λ (l : List PartialRow). Contains l last) (sym was) (Contains-push front last)
@@ -322,12 +322,12 @@ stands_alone (backward child path parent) later stands =
 stands_alone (check child path named) later stands = (stands.0, All-nil (λ step. slot_of step ≢ Some child))
 stands_alone filter later stands = refl
 
-pub stands_there : (ready : List ReadyStep) (n : ℕ) (step : ReadyStep) → AreInOrder (map ready_tree ready) → slice_get ready n ≡ Some step
+pub stands_there : (ready : List ReadyStep) (n : ℕ) (step : ReadyStep) → AreStepsInOrder (map ready_tree ready) → slice_get ready n ≡ Some step
     → Stands (ready_tree step) []
 stands_there ready n step order at =
     let steps = map ready_tree ready in
     stands_alone (ready_tree step) (drop (n + 1) steps)
-    (subst AreInOrder (drop_at steps n (ready_tree step) (step_at ready n step at)) (ordered_at steps n order)).0
+    (subst AreStepsInOrder (drop_at steps n (ready_tree step) (step_at ready n step at)) (ordered_at steps n order)).0
 
 pub found_there : (labels : List (List ℕ)) (reaches : PathTree → Oid → Oid → Type 0) (ready : List ReadyStep) (n : ℕ) (step : ReadyStep)
     → All (HasFound labels reaches) ready → slice_get ready n ≡ Some step → HasFound labels reaches step

@@ -2,7 +2,7 @@
 use Rattle.std.specs.Prelude.{◌≡◌, ◌≢◌, ◌↔◌, ℕ, suc, ◌+◌, ◌-◌, ◌*◌, ◌^◌, zero, ◌⊎◌, List, ◌∷◌, drop, sum_by, Option, Some, None, All, AllPairs, Contains}
 use Rattle.lorel_bound.specs.Plans.{StepTree, forward, from_guide, from_value, filter, IsCandidate}
 use Rattle.plan_ops.specs.Types.{Oid, Plan, PartialRow}
-use Rattle.plan_ops.specs.Steps.{StepsOver, Finishes}
+use Rattle.plan_laws.specs.Steps.{StepsOver, Finishes}
 
 -- what rows come of: what a plan's steps are taken over, the plan, and partial rows, each with the number of the step
 -- that is to be taken next

@@ -9,7 +9,6 @@ pub use rows::Rows;
 
 mod kept;
 mod known_slots;
-pub mod laws;
 mod machine;
 mod narrowing;
 mod offers;

@@ -7,8 +7,8 @@ ghost use Rattle.plan_ops.specs.Rows.{work_left};
 ghost use Rattle.plan_ops.specs.inside.Keeping.{AreKeptBy};
 ghost use Rattle.plan_ops.specs.inside.Machines.{AreHinted, IsMachine, IsPopped};
 ghost use Rattle.plan_ops.specs.inside.Offers.{IsOfferAt};
-ghost use Rattle.plan_ops.specs.inside.Orders.{AreInOrder};
-ghost use Rattle.plan_ops.specs.inside.Ready.{CanBeReady, HasFound, ready_tree};
+ghost use Rattle.plan_laws.specs.Orders.{AreStepsInOrder, CanBeReady};
+ghost use Rattle.plan_ops.specs.inside.Ready.{HasFound, ready_tree};
 
 use crate::kept::Kept;
 use crate::narrowing::{Turn, narrowed_offer};
@@ -89,7 +89,7 @@ fn taken<'r, S: Offers, L: Ledger>(
     requires at { at < length ready.now }
     requires room { at < length kept.old.items }
     requires eight { length row.now ≡ THE_RANGES }
-    requires in_order { AreInOrder (map ready_tree ready.now) }
+    requires in_order { AreStepsInOrder (map ready_tree ready.now) }
     requires can { All CanBeReady (map ready_tree ready.now) }
     requires found { let over = S.over sources.now in
         All (HasFound over.labels over.reaches) ready.now }

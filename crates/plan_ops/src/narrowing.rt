@@ -6,7 +6,7 @@ ghost use Rattle.row_hints.specs.Told.{AreTold};
 ghost use Rattle.plan_ops.specs.Types.{RANGES as THE_RANGES};
 ghost use Rattle.plan_ops.specs.Rows.{AreQuiet};
 ghost use Rattle.plan_ops.specs.inside.Offers.{Fill, One, HasObjects, IsOfferAt, IsKeptAt};
-ghost use Rattle.plan_ops.specs.inside.Orders.{AreInOrder};
+ghost use Rattle.plan_laws.specs.Orders.{AreStepsInOrder};
 ghost use Rattle.plan_ops.specs.inside.Ready.{ready_tree};
 ghost use Rattle.plan_ops.specs.inside.Narrowing.{AreHintedAt};
 
@@ -15,7 +15,7 @@ use crate::offers::{Offer, Offers};
 use crate::ready_steps::ReadyStep;
 use index_traits::Row;
 use lore_base::{NoMemory, Oid, OidBuf, Steps};
-use row_hints::{Hints, Learned, MANY, Place, is_left_out, kept_or, leaves_all, narrowed};
+use row_hints::{Hints, Learned, MANY, RowPlace, is_left_out, kept_or, leaves_all, narrowed};
 use std::alloc::Global;
 use std::sync::ledger::Ledger;
 
@@ -40,7 +40,7 @@ pub(crate) fn narrowed_offer<'r, S: Offers + Hints, L: Ledger>(
 ) -> Result<Offer<'r>, NoMemory>
     requires at { turn.now.at < length turn.now.ready.now }
     requires eight { length turn.now.row.now ≡ THE_RANGES }
-    requires in_order { AreInOrder (map ready_tree turn.now.ready.now) }
+    requires in_order { AreStepsInOrder (map ready_tree turn.now.ready.now) }
     requires offer { IsOfferAt (S.over turn.now.sources.now) (map ready_tree turn.now.ready.now)
         turn.now.at turn.now.row.now offer }
     requires told { AreTold (S.hints turn.now.sources.now) learned.old.told.items }
@@ -90,7 +90,7 @@ fn one_left<'r, S: Offers + Hints, L: Ledger>(
 ) -> Result<Offer<'r>, NoMemory>
     requires at { turn.now.at < length turn.now.ready.now }
     requires eight { length turn.now.row.now ≡ THE_RANGES }
-    requires in_order { AreInOrder (map ready_tree turn.now.ready.now) }
+    requires in_order { AreStepsInOrder (map ready_tree turn.now.ready.now) }
     requires offer { IsOfferAt (S.over turn.now.sources.now) (map ready_tree turn.now.ready.now)
         turn.now.at turn.now.row.now (One slot oid) }
     requires told { AreTold (S.hints turn.now.sources.now) learned.old.told.items }
@@ -111,7 +111,7 @@ fn one_left<'r, S: Offers + Hints, L: Ledger>(
         return Ok(Offer::One { slot, oid });
     }
     let known = slots_before(turn.ready, turn.at);
-    let place = Place {
+    let place = RowPlace {
         sources: turn.sources,
         known: &known,
         slot,
@@ -133,7 +133,7 @@ fn objects_left<S: Offers + Hints, L: Ledger>(
 ) -> Result<Option<OidBuf>, NoMemory>
     requires at { turn.now.at < length turn.now.ready.now }
     requires eight { length turn.now.row.now ≡ THE_RANGES }
-    requires in_order { AreInOrder (map ready_tree turn.now.ready.now) }
+    requires in_order { AreStepsInOrder (map ready_tree turn.now.ready.now) }
     requires offer { IsOfferAt (S.over turn.now.sources.now) (map ready_tree turn.now.ready.now)
         turn.now.at turn.now.row.now (Fill slot oids.now) }
     requires told { AreTold (S.hints turn.now.sources.now) learned.old.told.items }
@@ -155,7 +155,7 @@ fn objects_left<S: Offers + Hints, L: Ledger>(
         return Ok(None);
     }
     let known = slots_before(turn.ready, turn.at);
-    let place = Place {
+    let place = RowPlace {
         sources: turn.sources,
         known: &known,
         slot,

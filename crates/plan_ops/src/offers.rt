@@ -1,11 +1,11 @@
 ghost use Rattle.std.specs.Prelude.{◌≡◌, [], ◌∷◌, length, IfOk, OnOk};
 ghost use Rattle.plan_ops.specs.Types.{RANGES as THE_RANGES};
-ghost use Rattle.plan_ops.specs.Steps.{StepsOver};
+ghost use Rattle.plan_laws.specs.Steps.{StepsOver};
 ghost use Rattle.plan_ops.specs.Rows.{AreQuiet};
 ghost use Rattle.plan_ops.specs.inside.Offers.{IsOffer, one_unless, tested};
 ghost use Rattle.plan_ops.specs.inside.Keeping.{IsKeptBy};
-ghost use Rattle.plan_ops.specs.inside.Orders.{Stands};
-ghost use Rattle.plan_ops.specs.inside.Ready.{CanBeReady, HasFound, ready_tree};
+ghost use Rattle.plan_laws.specs.Orders.{Stands, CanBeReady};
+ghost use Rattle.plan_ops.specs.inside.Ready.{HasFound, ready_tree};
 
 use crate::kept::Kept;
 use crate::ready_steps::ReadyStep;

@@ -1,7 +1,8 @@
 ghost use Rattle.std.specs.Prelude.{◌≡◌, map, All, IsTrue, IfOk};
 ghost use Rattle.lorel_bound.specs.Plans.{filter, step_tree};
-ghost use Rattle.plan_ops.specs.Steps.{slot_of};
-ghost use Rattle.plan_ops.specs.inside.Ready.{CanBeReady, HasFound, ready_tree};
+ghost use Rattle.plan_laws.specs.Steps.{slot_of};
+ghost use Rattle.plan_laws.specs.Orders.{CanBeReady};
+ghost use Rattle.plan_ops.specs.inside.Ready.{HasFound, ready_tree};
 
 use crate::step_objects::selected;
 use index_traits::Paths;

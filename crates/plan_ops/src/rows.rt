@@ -5,7 +5,7 @@ ghost use Rattle.lorel_bound.specs.Bound.{bound_tree};
 ghost use Rattle.lorel_bound.specs.Runnable.{IsRunnable};
 ghost use Rattle.lorel_bound.specs.Plans.{IsPlanOf, steps_of};
 ghost use Rattle.plan_ops.specs.Types.{Oid as TheOid, Value as TheValue};
-ghost use Rattle.plan_ops.specs.Steps.{steps_over, Agrees, Finishes, IsSought, in_eight};
+ghost use Rattle.plan_laws.specs.Steps.{steps_over, Agrees, Finishes, IsSought, in_eight};
 ghost use Rattle.plan_ops.specs.Rows.{IsToCome, AreSame, AnswersNext, AreQuiet, ReadNothing};
 ghost use Rattle.plan_ops.specs.Rows.{WalksOrTests};
 ghost use Rattle.plan_ops.specs.Rows.{HasTheSamePlan, work_left};
@@ -41,7 +41,7 @@ impl<'a, A: Adjacent, K: Links, V: Values, P: Paths, T: RowTest> Model for Rows<
     ghost use Rattle.std.specs.Coded.{codes};
     ghost use Rattle.lore_base.specs.contracts.paths.Path as path_contract;
     ghost use Rattle.lorel_bound.specs.Plans.{steps_of};
-    ghost use Rattle.plan_ops.specs.Steps.{steps_over};
+    ghost use Rattle.plan_laws.specs.Steps.{steps_over};
     ghost use Rattle.plan_ops.specs.Rows.{RowsLeft};
     ghost use Rattle.plan_ops.specs.inside.Machines.{IsReadyMachine};
 

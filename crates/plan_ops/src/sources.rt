@@ -1,6 +1,6 @@
 ghost use Rattle.std.specs.Prelude.{IfOk, IfSome};
 ghost use Rattle.index_traits.specs.PartRows.{AreAllThatFit};
-ghost use Rattle.plan_ops.specs.Steps.{steps_over};
+ghost use Rattle.plan_laws.specs.Steps.{steps_over};
 
 use crate::kept::Kept;
 use crate::offers::{Offer, Offers};

@@ -15,10 +15,10 @@ use Rattle.lore_base.proofs.TargetLaws.{ListsInOrder-same}
 use Rattle.lore_base.proofs.MemberLaws.{Contains-none, Contains-head, Contains-cases}
 use Rattle.lore_base.proofs.WalkLaws.{Walk-push}
 use Rattle.list_laws.proofs.OrderLaws.{less_from_cmp}
-use Rattle.graph_search.specs.Closures.{IsMet, LeadAlong, IsLedTo, LeadsOn, IsClosure, Lists}
+use Rattle.graph_search.specs.Closures.{IsMet, LeadAlong, IsLedTo, LeadsFromPlace, IsClosure, Lists}
 use Rattle.graph_search.proofs.MeetingLaws.{IsMet-none, IsMet-one, IsMet-append_left, IsMet-append_right, IsMet-append_cases}
 use Rattle.graph_search.proofs.PriceLaws.{IsPriced, sum_by-places}
-use Rattle.path_expr.specs.Machines.{Machine, IsIn, IsBounded, Moves, Runs, Accepts, ReadsBackwards, StepsTo, IsStep, reads_on}
+use Rattle.path_expr.specs.Machines.{Machine, IsIn, IsBounded, Moves, MovesThrough, Accepts, ReadsBackwards, StepsTo, IsStep, reads_on}
 use Rattle.path_expr.proofs.ReadsOnLaws.{reads_on-false, reads_on-true}
 use Rattle.product_walk.specs.Types.{Oid, Label, Edge, States, StateMarks, END}
 use Rattle.product_walk.specs.ProductWalks.{IsWalked, WalksInto, IsAcceptedFrom, IsAcceptedInto, TakesReads}
@@ -101,7 +101,7 @@ ended_more places place old new earlier now oid = (
 module _ (labels : List (List ℕ)) (machine : Machine) (goes : Oid → Label → Oid → Type 0) where
   -- what the edges of an object lead to is what the place leads to
   pub leads_on-arcs : (far : Edge → Oid) (oid : Oid) (states : States) (edges : List Edge) (old new : List (Oid × StateMarks)) → AreArcs goes far oid edges
-      → Lists HasState (IsNext labels machine far edges states) old new → Lists HasState (LeadsOn HasState (Leads labels machine goes) (oid, marks states)) old new
+      → Lists HasState (IsNext labels machine far edges states) old new → Lists HasState (LeadsFromPlace HasState (Leads labels machine goes) (oid, marks states)) old new
   leads_on-arcs far oid states edges old new arcs lists = record {
     more = lists.more;
     is = lists.is;
@@ -117,7 +117,7 @@ module _ (labels : List (List ℕ)) (machine : Machine) (goes : Oid → Label �
 
   -- at the end alone nothing is led to
   pub leads_on-end : (oid : Oid) (states : States) (out : List (Oid × StateMarks)) → IsBounded machine → reads_on states ≡ false
-      → Lists HasState (LeadsOn HasState (Leads labels machine goes) (oid, marks states)) out out
+      → Lists HasState (LeadsFromPlace HasState (Leads labels machine goes) (oid, marks states)) out out
   leads_on-end oid states out bounded ended = record {
     more = [];
     is = sym (append-nil out);
@@ -132,14 +132,14 @@ module _ (labels : List (List ℕ)) (machine : Machine) (goes : Oid → Label �
 
   -- a way through the product is a walk and a run
   word_of : (way : List (Oid × ℕ)) (here there : Oid × ℕ) → LeadAlong (Leads labels machine goes) here way there
-      → (word : List Label) × Runs labels machine here.1 word there.1 × WalkBy goes here.0 word there.0
+      → (word : List Label) × MovesThrough labels machine here.1 word there.1 × WalkBy goes here.0 word there.0
   word_of [] here there same = ([], ap (λ p. p.1) same, ap (λ p. p.0) same)
   word_of (next ∷ way) here there along =
       let step = along.0 in
       let rest = word_of way next there along.1 in
       (step.0 ∷ rest.0, (next.1, step.2, rest.1), (next.0, step.1, rest.2))
 
-  way_of : (word : List Label) (here there : Oid × ℕ) → Runs labels machine here.1 word there.1 → WalkBy goes here.0 word there.0
+  way_of : (word : List Label) (here there : Oid × ℕ) → MovesThrough labels machine here.1 word there.1 → WalkBy goes here.0 word there.0
       → (way : List (Oid × ℕ)) × LeadAlong (Leads labels machine goes) here way there
   way_of [] here there runs walked = ([], λ i. (walked i, runs i))
   way_of (label ∷ word) here there runs walked =

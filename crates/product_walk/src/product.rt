@@ -1,5 +1,5 @@
 ghost use Rattle.std.specs.Prelude.{◌≡◌, ◌↔◌, ◌==◌, not, cond, ℕ, ◌+◌, true, List, IsTrue, OnOk};
-ghost use Rattle.graph_search.specs.Closures.{LeadsOn, Lists};
+ghost use Rattle.graph_search.specs.Closures.{LeadsFromPlace, Lists};
 ghost use Rattle.path_expr.specs.Machines.{IsIn, reads_on};
 ghost use Rattle.product_walk.specs.Types.{Oid as TheOid};
 ghost use Rattle.product_walk.specs.inside.Products.{Product as TheProduct, product_of, Leads, IsNext};
@@ -76,7 +76,7 @@ impl<'a, D: Direction, T: LabelTest, L: Ledger> Space<Steps<L>> for Product<'a, 
         out: &mut Vec<(Oid, StateMarks)>,
         steps: &mut Steps<L>,
     ) -> Result<(), NoMemory>
-        ensures next { OnOk result (Lists HasState (LeadsOn HasState
+        ensures next { OnOk result (Lists HasState (LeadsFromPlace HasState
             (Leads self.old.mover.labels self.old.mover.machine
             (D.goes (D.edges self.old.direction))) place) out.old.items out.new.items) }
         ensures steps { OnOk result (steps.new ≡ steps.old
@@ -122,7 +122,7 @@ impl<'a, T: LabelTest> Space<()> for Product<'a, Listed<'a>, T> {
         out: &mut Vec<(Oid, StateMarks)>,
         steps: &mut (),
     ) -> Result<(), NoMemory>
-        ensures next { OnOk result (Lists HasState (LeadsOn HasState
+        ensures next { OnOk result (Lists HasState (LeadsFromPlace HasState
             (Leads self.old.mover.labels self.old.mover.machine
             (along self.old.direction.list.now)) place) out.old.items out.new.items) }
         ensures steps { OnOk result

@@ -102,31 +102,42 @@ fn passes<T: RowTest + Drop, L: Ledger>(
 
 fn holds_in<L: Ledger>(
     alloc: Global,
+    cond: &BoundCond,
+    scene: &Scene,
+    steps: &mut Steps<L>,
+) -> Result<bool, NoMemory>
+    requires { rest_leaves (paths_of (bound_cond cond.now)) ≤ LEAVES }
+{
+    let test = Test::new(Some(cond), &scene.graph, &scene.values, &scene.labels);
+    passes(alloc, test, &scene.row, steps)
+}
+
+// Whether a word leads from the object 1 to this number.
+fn holds<L: Ledger>(
+    alloc: Global,
     number: i64,
     scene: &Scene,
     steps: &mut Steps<L>,
 ) -> Result<bool, NoMemory> {
     let cond = leading_to(number);
-    let test = Test::new(Some(&cond), &scene.graph, &scene.values, &scene.labels);
-    passes(alloc, test, &scene.row, steps)
-}
-
-// Whether a word leads from the object 1 to this number.
-fn holds<L: Ledger>(alloc: Global, number: i64, blank: Blank) -> Result<bool, NoMemory>
-    requires name { blank.name ≡ L.name }
-    requires parts { blank.parts ≡ L.parts }
-    requires some { 0 < blank.parts }
-{
-    let scene = edge_scene(alloc)?;
-    holds_in(alloc, number, &scene, &mut Steps::<L>::new(blank))
+    let answer = holds_in(alloc, &cond, scene, steps);
+    drop(cond);
+    answer
 }
 
 const TESTED: [(i64, bool); 2] = [(30, true), (31, false)];
 
-#[test]
-fn a_condition_is_tested_unready(rt: HostRuntime) -> Result<(), Fail> {
-    for (number, wanted) in TESTED {
-        assert_eq!(rt; holds::<Brand>(rt.alloc(), number, Blank::new(1))?, wanted);
+// A condition is tested whose paths aren't made ready.
+fn check_tested<L: Ledger>(
+    alloc: Global,
+    scene: &Scene,
+    table: &[(i64, bool)],
+    steps: &mut Steps<L>,
+) -> Result<(), Fail> {
+    for (number, wanted) in table {
+        if holds(alloc, *number, scene, steps)? != *wanted {
+            return Err(Fail::new("a condition holds otherwise"));
+        }
     }
     Ok(())
 }
@@ -146,11 +157,12 @@ fn rules_out<T: RowTest, L: Ledger>(
 
 fn tells<T: RowTest + Drop, L: Ledger>(
     alloc: Global,
-    test: T,
+    test: Result<T, NoMemory>,
     is_known: bool,
     row: &Row,
     steps: &mut Steps<L>,
 ) -> Result<bool, NoMemory> {
+    let test = test?;
     let answer = rules_out(alloc, &test, is_known, row, steps);
     drop(test);
     answer
@@ -158,13 +170,15 @@ fn tells<T: RowTest + Drop, L: Ledger>(
 
 fn is_ruled_out_in<L: Ledger>(
     alloc: Global,
-    (number, is_known): (i64, bool),
+    cond: &BoundCond,
+    is_known: bool,
     scene: &Scene,
     steps: &mut Steps<L>,
-) -> Result<bool, NoMemory> {
+) -> Result<bool, NoMemory>
+    requires { rest_leaves (paths_of (bound_cond cond.now)) ≤ LEAVES }
+{
     let (graph, values, labels) = (&scene.graph, &scene.values, &scene.labels);
-    let cond = leading_to(number);
-    let test = Test::ready(alloc, Some(&cond), graph, values, labels)?;
+    let test = Test::ready(alloc, Some(cond), graph, values, labels);
     tells(alloc, test, is_known, &scene.row, steps)
 }
 
@@ -172,15 +186,14 @@ fn is_ruled_out_in<L: Ledger>(
 // object is known, or isn't.
 fn is_ruled_out<L: Ledger>(
     alloc: Global,
-    asked: (i64, bool),
-    blank: Blank,
-) -> Result<bool, NoMemory>
-    requires name { blank.name ≡ L.name }
-    requires parts { blank.parts ≡ L.parts }
-    requires some { 0 < blank.parts }
-{
-    let scene = edge_scene(alloc)?;
-    is_ruled_out_in(alloc, asked, &scene, &mut Steps::<L>::new(blank))
+    (number, is_known): (i64, bool),
+    scene: &Scene,
+    steps: &mut Steps<L>,
+) -> Result<bool, NoMemory> {
+    let cond = leading_to(number);
+    let answer = is_ruled_out_in(alloc, &cond, is_known, scene, steps);
+    drop(cond);
+    answer
 }
 
 const TOLD: [((i64, bool), bool); 3] = [
@@ -189,13 +202,17 @@ const TOLD: [((i64, bool), bool); 3] = [
     ((31, false), false),
 ];
 
-#[test]
-fn a_condition_is_told_by_known_slots(rt: HostRuntime) -> Result<(), Fail> {
-    for (asked, wanted) in TOLD {
-        assert_eq!(rt;
-            is_ruled_out::<Brand>(rt.alloc(), asked, Blank::new(1))?,
-            wanted
-        );
+// A condition is told by known slots.
+fn check_told<L: Ledger>(
+    alloc: Global,
+    scene: &Scene,
+    table: &[((i64, bool), bool)],
+    steps: &mut Steps<L>,
+) -> Result<(), Fail> {
+    for (asked, wanted) in table {
+        if is_ruled_out(alloc, *asked, scene, steps)? != *wanted {
+            return Err(Fail::new("a row is ruled out otherwise"));
+        }
     }
     Ok(())
 }
@@ -217,6 +234,13 @@ impl RowTest for Never {
     }
 }
 
+fn is_none<T: Drop>(found: Result<Option<T>, NoMemory>) -> Result<bool, NoMemory> {
+    let found = found?;
+    let is_none = found.is_none();
+    drop(found);
+    Ok(is_none)
+}
+
 // Whether a test tells nothing of rows of which some slots are filled.
 fn is_silent<T: RowTest, L: Ledger>(
     alloc: Global,
@@ -228,20 +252,36 @@ fn is_silent<T: RowTest, L: Ledger>(
     if test.rules_out(alloc, &filled, row, steps)? {
         return Ok(false);
     }
-    Ok(test.fitting(alloc, &filled, 0, row, steps)?.is_none())
+    is_none(test.fitting(alloc, &filled, 0, row, steps))
 }
 
-fn tells_nothing<L: Ledger>(alloc: Global, blank: Blank) -> Result<bool, NoMemory>
+// A test tells nothing of part of a row by itself.
+fn check_silent<L: Ledger>(alloc: Global, row: &Row, steps: &mut Steps<L>) -> Result<(), Fail> {
+    if is_silent(alloc, &Never {}, row, steps)? {
+        Ok(())
+    } else {
+        Err(Fail::new("a test tells something"))
+    }
+}
+
+fn check_in<L: Ledger>(alloc: Global, scene: &Scene, steps: &mut Steps<L>) -> Result<(), Fail> {
+    check_tested(alloc, scene, &TESTED, steps)?;
+    check_told(alloc, scene, &TOLD, steps)?;
+    check_silent(alloc, &scene.row, steps)
+}
+
+fn check<L: Ledger>(alloc: Global, blank: Blank) -> Result<(), Fail>
     requires name { blank.name ≡ L.name }
     requires parts { blank.parts ≡ L.parts }
     requires some { 0 < blank.parts }
 {
-    let row = row(alloc);
-    is_silent(alloc, &Never {}, &row, &mut Steps::<L>::new(blank))
+    let scene = edge_scene(alloc)?;
+    let checked = check_in(alloc, &scene, &mut Steps::<L>::new(blank));
+    drop(scene);
+    checked
 }
 
 #[test]
-fn a_test_tells_nothing_of_part_of_a_row(rt: HostRuntime) -> Result<(), Fail> {
-    assert!(rt; tells_nothing::<Brand>(rt.alloc(), Blank::new(1))?);
-    Ok(())
+fn a_condition_is_asked_of_a_row(rt: HostRuntime) -> Result<(), Fail> {
+    check::<Brand>(rt.alloc(), Blank::new(1))
 }

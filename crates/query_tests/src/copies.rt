@@ -21,7 +21,20 @@ fn is_copied<T: TryCopy + AsMade + Drop>(alloc: Global, value: T) -> Result<bool
     let copy = value.try_copy(alloc);
     drop(value);
     let copy = copy?;
-    Ok(copy.is_as_made())
+    let is_as_made = copy.is_as_made();
+    drop(copy);
+    Ok(is_as_made)
+}
+
+fn check_copied<T: TryCopy + AsMade + Drop>(
+    alloc: Global,
+    made: Result<T, NoMemory>,
+) -> Result<(), Fail> {
+    if is_copied(alloc, made?)? {
+        Ok(())
+    } else {
+        Err(Fail::new("a copy is otherwise than what was copied"))
+    }
 }
 
 // A list of one item.
@@ -51,11 +64,15 @@ fn boxed<T: Drop>(alloc: Global, value: T) -> Result<Box<T>, NoMemory> {
     Ok(Box::new(alloc, value)?)
 }
 
-fn tokens_of(alloc: Global, chunk: &[u8]) -> Result<TokenList, Fail> {
+// A chunk that has none counts as want of memory.
+fn tokens_of(alloc: Global, chunk: &[u8]) -> Result<TokenList, NoMemory> {
     if chunk.len() > CHUNK_BYTES {
-        return Err(Fail::new("the chunk is too long"));
+        return Err(NoMemory);
     }
-    Ok(tokens(alloc, chunk)?)
+    match tokens(alloc, chunk) {
+        Ok(tokens) => Ok(tokens),
+        Err(_) => Err(NoMemory),
+    }
 }
 
 fn digit(kind: &Kind) -> u64 {
@@ -88,9 +105,8 @@ impl AsMade for TokenList {
 
 #[test]
 fn tokens_are_copied(rt: HostRuntime) -> Result<(), Fail> {
-    let tokens = tokens_of(rt.alloc(), b"ab 'c d' %x \"t\" -5 &7 path-of @")?;
-    assert!(rt; is_copied(rt.alloc(), tokens)?);
-    Ok(())
+    let tokens = tokens_of(rt.alloc(), b"ab 'c d' %x \"t\" -5 &7 path-of @");
+    check_copied(rt.alloc(), tokens)
 }
 
 fn cells(alloc: Global) -> Result<CellList, NoMemory> {
@@ -131,8 +147,7 @@ impl AsMade for Bound {
 
 #[test]
 fn a_bound_select_is_copied(rt: HostRuntime) -> Result<(), Fail> {
-    assert!(rt; is_copied(rt.alloc(), select(rt.alloc())?)?);
-    Ok(())
+    check_copied(rt.alloc(), select(rt.alloc()))
 }
 
 // The steps of a plan: one range is walked, and the condition tested.
@@ -154,19 +169,21 @@ impl AsMade for PlanSteps {
 
 #[test]
 fn steps_of_a_plan_are_copied(rt: HostRuntime) -> Result<(), Fail> {
-    assert!(rt; is_copied(rt.alloc(), plan_steps(rt.alloc())?)?);
-    Ok(())
+    check_copied(rt.alloc(), plan_steps(rt.alloc()))
 }
 
 fn word(alloc: Global) -> Result<Word, NoMemory> {
     two(alloc, Label(1), Label(0))
 }
 
-fn row(alloc: Global) -> Result<AnswerRow, NoMemory> {
-    let word = word(alloc)?;
-    let mut row = AnswerRow::new(alloc);
+fn put_cells(alloc: Global, row: &mut AnswerRow) -> Result<(), NoMemory> {
     row.push(Cell::Object(Oid(2)))?;
-    row.push(Cell::Path(word))?;
+    row.push(Cell::Path(word(alloc)?))
+}
+
+fn row(alloc: Global) -> Result<AnswerRow, NoMemory> {
+    let mut row = AnswerRow::new(alloc);
+    put_cells(alloc, &mut row)?;
     Ok(row)
 }
 
@@ -204,6 +221,5 @@ impl AsMade for Answer {
 
 #[test]
 fn an_answer_is_copied(rt: HostRuntime) -> Result<(), Fail> {
-    assert!(rt; is_copied(rt.alloc(), answer(rt.alloc())?)?);
-    Ok(())
+    check_copied(rt.alloc(), answer(rt.alloc()))
 }

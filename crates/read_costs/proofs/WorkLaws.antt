@@ -65,6 +65,43 @@ module _ (before : OemGraph) (changes : Changes) (between : List Edge) (after : 
   work_prepared t0 t1 t2 t3 dead guide entries =
       work_sum t0 t1 t2 t3 t3 dead guide entries (IsSpent-none (IsConcerned before changes between) (out_reads between) t3)
 
+  -- the vanished are searched for, objects concerned are read by the edges that enter them, the guide explores, and objects
+  -- concerned are read so once more
+  pub work_told : (t0 t1 t2 t3 t4 : ℕ) → IsSpent (IsInDoubt before changes between) (λ oid. 2 * link_reads between oid) t0 t1
+      → IsSpent (IsConcerned before changes between) (in_reads between) t1 t2
+      → IsSpent (IsTouched before changes after) (set_reads between) t2 t3
+      → IsSpent (IsConcerned before changes between) (in_reads between) t3 t4
+      → IsWithinWork 4 before changes between after t0 t4
+  work_told t0 t1 t2 t3 t4 dead cut guide entries =
+      let C = IsConcerned before changes between in
+      let twice = λ (oid : Oid). 2 * link_reads between oid in
+      let first = IsSpent-wider (IsInDoubt before changes between) C twice twice t0 t1 in_doubt_concerned (λ oid. omega arith) dead in
+      let start = t0 + sum_by twice first.paid in
+      let second = IsSpent-from C (in_reads between) t1 t2 start cut in
+      let then = start + sum_by (in_reads between) cut.paid in
+      let third = IsSpent-from C (in_reads between) t3 t4 then entries in
+      let end = then + sum_by (in_reads between) entries.paid in
+      let two = IsSpent-both told_oid C twice (in_reads between) t0 start then (IsSpent-from C twice t0 t1 t0 first) second in
+      let three = IsSpent-both told_oid C (λ oid. 2 * link_reads between oid + in_reads between oid) (in_reads between) t0 then end two third in
+      let four = IsSpent-wider C C (λ oid. (2 * link_reads between oid + in_reads between oid) + in_reads between oid) (λ oid. 4 * link_reads between oid)
+      t0 end (λ oid is. is) (λ oid. omega arith) three in
+      record {
+        sets = guide.paid;
+        sets_apart = guide.apart;
+        touched = guide.among;
+        oids = four.paid;
+        oids_apart = four.apart;
+        concerned = four.among;
+        within = omega (arith, first.within, cut.within, guide.within, entries.within, four.within, sum_by-times 4 (link_reads between) four.paid);
+      }
+
+  -- and one that was refused for its guide
+  pub work_told_explored : (t0 t1 t2 t3 : ℕ) → IsSpent (IsInDoubt before changes between) (λ oid. 2 * link_reads between oid) t0 t1
+      → IsSpent (IsConcerned before changes between) (in_reads between) t1 t2
+      → IsSpent (IsTouched before changes after) (set_reads between) t2 t3 → IsWithinWork 4 before changes between after t0 t3
+  work_told_explored t0 t1 t2 t3 dead cut guide =
+      work_told t0 t1 t2 t3 t3 dead cut guide (IsSpent-none (IsConcerned before changes between) (in_reads between) t3)
+
   -- one that was refused for its guide
   pub work_explored : (t0 t1 t2 : ℕ) → IsSpent (IsInDoubt before changes between) (λ oid. 2 * link_reads between oid) t0 t1
       → IsSpent (IsTouched before changes after) (set_reads between) t1 t2 → IsWithinWork 4 before changes between after t0 t2

@@ -6,7 +6,7 @@ use Rattle.lorel_trees.specs.Trees as t
 use Rattle.lorel_trees.specs.Trees.{StatementTree}
 use Rattle.doem_history.specs.Moments.{Moment, IsInOrder}
 use Rattle.statements.specs.Types.{Changes}
-use Rattle.statements.specs.Statements.{Performs}
+use Rattle.statements.specs.Statements.{Fulfils}
 use Rattle.lore_db.specs.Types.{Reply}
 use Rattle.lore_db.specs.States.{database_at, IsRestore}
 
@@ -30,7 +30,7 @@ changes_grow before after changes is = record {
 
 -- all that statements do makes them grow, unless a dump is restored
 pub grown : (before : Database) (statement : StatementTree) (reply : Reply) (after : Database) → (IsRestore statement → ⊥)
-    → Performs before statement reply after → Grows before after
+    → Fulfils before statement reply after → Grows before after
 grown before (t.select query) reply after stays does = alike_grows before after before does.0 refl refl
 grown before (t.explain query) reply after stays does = alike_grows before after before does.0 refl refl
 grown before t.guide reply after stays does = alike_grows before after before does.0 refl refl

@@ -20,7 +20,7 @@ use Rattle.statements.specs.Types.{Oid, Cell, Mode, Refusal}
 use Rattle.lore_db.specs.Types.{Reply, Changed, Rows, Lines, Refused}
 use Rattle.statements.specs.Blocks.{named_graph}
 use Rattle.statements.specs.Effects.{effects}
-use Rattle.statements.specs.Statements.{Cause, cause_order, Counts, MakesItsChanges, Shows, ShowsBlocks, Browses, Samples, Limits, ChoosesBy, Dumps, Restores, Performs, Refuses}
+use Rattle.statements.specs.Statements.{Cause, cause_order, Counts, MakesItsChanges, Shows, ShowsBlocks, Browses, Samples, Limits, ChoosesBy, Dumps, Restores, Fulfils, Refuses}
 use Rattle.reply_laws.specs.Laws.{ExecutesOnce}
 use Rattle.statements.proofs.CauseLaws.{one_rows}
 use Rattle.statements.proofs.ExplainLaws.{one_explained}
@@ -99,8 +99,8 @@ one_chosen before mode reply other after later h k =
     (same_counted after later reply other same h.1 k.1, same)
 
 pub one_performed : (before : Database) (statement : StatementTree) (reply other : Reply) (after later : Database)
-    → Performs before statement reply after
-    → Performs before statement other later → (reply ≡ other) × (after ≡ later)
+    → Fulfils before statement reply after
+    → Fulfils before statement other later → (reply ≡ other) × (after ≡ later)
 one_performed before (select query) reply other after later h k =
     let same = has_one_answer before query h.1.0 k.1.0 h.1.2 k.1.2 in
     (h.1.1 ∙ ap (λ (rows : List (List Cell)). Rows rows) same ∙ sym k.1.1, h.0 ∙ sym k.0)

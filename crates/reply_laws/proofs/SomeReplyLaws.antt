@@ -47,7 +47,7 @@ use Rattle.statements.specs.Blocks.{named_graph}
 use Rattle.statements.specs.Effects.{object_cells, AreRowsOf, effects}
 use Rattle.statements.specs.Statements.{IsUnbound, HasTooManyRows, IsNotOne, IsOutOfRange, IsNotFresh, IsNoDump, ChangesCause}
 use Rattle.statements.specs.Statements.{OfBinds, OfCounted}
-use Rattle.statements.specs.Statements.{Cause, cause_order, MakesItsChanges, Performs}
+use Rattle.statements.specs.Statements.{Cause, cause_order, MakesItsChanges, Fulfils}
 use Rattle.reply_laws.specs.Laws.{ExecutesAlways}
 use Rattle.statements.specs.inside.Stages.{fit_order}
 use Rattle.reply_laws.proofs.TurnLaws.{AreTold, some_verdict, told_from_verdict, told_of_none, told_append}
@@ -91,10 +91,10 @@ told_unbound db statement = inr (λ h. h)
 
 -- the causes that the select of a statement is refused for before it runs
 told_read : (names : List (List ℕ × Oid)) (read : Option SelectTree)
-    → AreTold (λ refusal. MatchOption read ⊥ (λ query. binding.Cause names query refusal)) binding.order
-told_read names None = told_of_none (λ refusal. ⊥) (λ refusal h. h) binding.order
+    → AreTold (λ refusal. MatchOption read ⊥ (λ query. binding.BindCause names query refusal)) binding.bind_order
+told_read names None = told_of_none (λ refusal. ⊥) (λ refusal h. h) binding.bind_order
 told_read names (Some query) =
-    told_from_verdict (binding.Cause names query) binding.order (has_some_verdict names query)
+    told_from_verdict (binding.BindCause names query) binding.bind_order (has_some_verdict names query)
 
 told_made : (Has : LiteralTree → Type 0) → ((literal : LiteralTree) → IsTold (Has literal))
     → (made : Option LiteralTree) → IsTold (MatchOption made ⊥ Has)
@@ -363,7 +363,7 @@ module _ (db : Database) (valid : IsValid db) (statement : StatementTree) (forme
 
 -- a limit is set
 some_limited : (db : Database) → IsValid db → (nodes : ℤ) → GivesLimit db nodes
-    → (reply : Reply) × (after : Database) × Performs db (set_nodes nodes) reply after × IsValid after
+    → (reply : Reply) × (after : Database) × Fulfils db (set_nodes nodes) reply after × IsValid after
 some_limited db valid nodes is =
     let all = target_sets_exist db.graph.names db.graph.edges in (
       Changed (length db.graph.objects) (length db.graph.edges) (length all.0),
@@ -374,7 +374,7 @@ some_limited db valid nodes is =
 
 -- a mode is set
 some_chosen : (db : Database) → IsValid db → (mode : Mode)
-    → (reply : Reply) × (after : Database) × Performs db (set_plan mode) reply after × IsValid after
+    → (reply : Reply) × (after : Database) × Fulfils db (set_plan mode) reply after × IsValid after
 some_chosen db valid mode =
     let all = target_sets_exist db.graph.names db.graph.edges in (
       Changed (length db.graph.objects) (length db.graph.edges) (length all.0),
@@ -400,7 +400,7 @@ some_changed db valid statement formed changing clear =
 
 pub some_performed : (db : Database) → IsValid db → (statement : StatementTree) → IsFormedStatement statement
     → (IsOfSession statement → ⊥) → IsClear (Cause db statement) cause_order
-    → (reply : Reply) × (after : Database) × Performs db statement reply after × IsValid after
+    → (reply : Reply) × (after : Database) × Fulfils db statement reply after × IsValid after
 some_performed db valid (select query) formed plain clear =
     let found = some_read db (select query) clear.1.0 clear.1.1.0 query refl in
     (Rows found.0, db, (refl, (found.0, refl, found.1)), valid)

@@ -10,7 +10,7 @@ pub use hints::Hints;
 pub use known::mark;
 pub use learned::{Learned, MANY, leaves_all};
 pub use lists::is_among;
-pub use narrowing::{Place, is_left_out, kept_or, narrowed};
+pub use narrowing::{RowPlace, is_left_out, kept_or, narrowed};
 pub use tallies::Tally;
 pub use told::Told;
 

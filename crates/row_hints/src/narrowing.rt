@@ -19,7 +19,7 @@ use std::sync::ledger::Ledger;
 
 /// The slot that is filled next, of a row in which the objects in the known slots stay.
 #[derive(Drop)]
-pub struct Place<'p, S> {
+pub struct RowPlace<'p, S> {
     pub sources: &'p S,
     pub known: &'p [bool; RANGES],
     pub slot: u32,
@@ -32,7 +32,7 @@ pub struct Place<'p, S> {
 /// in the others, or by a test of the row with it.
 pub fn is_left_out<S: Hints, L: Ledger>(
     alloc: Global,
-    place: &Place<'_, S>,
+    place: &RowPlace<'_, S>,
     oid: Oid,
     learned: &mut Learned,
     steps: &mut Steps<L>,
@@ -51,7 +51,7 @@ pub fn is_left_out<S: Hints, L: Ledger>(
 }
 
 // Whether what is told of the slot leaves the object out.
-fn is_told_out<S: Hints>(place: &Place<'_, S>, oid: Oid, told: &[Told]) -> bool
+fn is_told_out<S: Hints>(place: &RowPlace<'_, S>, oid: Oid, told: &[Told]) -> bool
     requires { AreTold (S.hints place.now.sources.now) told.now }
     ensures { IsTrue result → FailsWith (S.hints place.now.sources.now) place.now.known.now
         place.now.slot place.now.row.now oid }
@@ -69,7 +69,7 @@ fn is_told_out<S: Hints>(place: &Place<'_, S>, oid: Oid, told: &[Told]) -> bool
 /// stands in the others, and by tests; None where all are.
 pub fn narrowed<S: Hints, L: Ledger>(
     alloc: Global,
-    place: &Place<'_, S>,
+    place: &RowPlace<'_, S>,
     oids: &OidBuf,
     learned: &mut Learned,
     steps: &mut Steps<L>,
@@ -96,7 +96,7 @@ pub fn narrowed<S: Hints, L: Ledger>(
 // would be gone through for each row.
 fn narrowed_by_row<S: Hints, L: Ledger>(
     alloc: Global,
-    place: &Place<'_, S>,
+    place: &RowPlace<'_, S>,
     oids: &OidBuf,
     told: &[Told],
     tallies: &mut Vec<Tally>,
@@ -139,7 +139,7 @@ fn most_left(told: &[Told], slot: u32, count: usize) -> usize {
 // The objects that are left by what is told of the slot, and then by tests; None where all are.
 fn narrowed_by_slot<S: Hints, L: Ledger>(
     alloc: Global,
-    place: &Place<'_, S>,
+    place: &RowPlace<'_, S>,
     oids: &OidBuf,
     told: &[Told],
     tallies: &mut Vec<Tally>,
@@ -164,7 +164,7 @@ fn narrowed_by_slot<S: Hints, L: Ledger>(
 // slot; None where that isn't told, and where it isn't worth to ask for so many objects.
 fn fitting_row<S: Hints, L: Ledger>(
     alloc: Global,
-    place: &Place<'_, S>,
+    place: &RowPlace<'_, S>,
     count: usize,
     steps: &mut Steps<L>,
 ) -> Result<Option<OidBuf>, NoMemory>
@@ -187,7 +187,7 @@ fn fitting_row<S: Hints, L: Ledger>(
 // where the test of the whole condition is next, and where such tests ruled out few.
 fn narrowed_by_tests<S: Hints, L: Ledger>(
     alloc: Global,
-    place: &Place<'_, S>,
+    place: &RowPlace<'_, S>,
     oids: &OidBuf,
     tallies: &mut Vec<Tally>,
     steps: &mut Steps<L>,
@@ -212,7 +212,7 @@ fn narrowed_by_tests<S: Hints, L: Ledger>(
 // The objects with which in the slot the row isn't ruled out.
 fn not_ruled_out<S: Hints, L: Ledger>(
     alloc: Global,
-    place: &Place<'_, S>,
+    place: &RowPlace<'_, S>,
     oids: &[Oid],
     tallies: &mut Vec<Tally>,
     steps: &mut Steps<L>,
@@ -235,7 +235,7 @@ fn not_ruled_out<S: Hints, L: Ledger>(
 // few.
 fn is_out<S: Hints, L: Ledger>(
     alloc: Global,
-    place: &Place<'_, S>,
+    place: &RowPlace<'_, S>,
     oid: Oid,
     tallies: &mut Vec<Tally>,
     steps: &mut Steps<L>,
@@ -257,7 +257,7 @@ fn is_out<S: Hints, L: Ledger>(
 // Whether the test rules the row out with this object in the slot.
 fn is_ruled_out<S: Hints, L: Ledger>(
     alloc: Global,
-    place: &Place<'_, S>,
+    place: &RowPlace<'_, S>,
     oid: Oid,
     steps: &mut Steps<L>,
 ) -> Result<bool, NoMemory>

@@ -15,7 +15,7 @@ use Rattle.set_explorer.specs.Types.{Oid, Label, Edge, Node, GuideNode}
 use Rattle.lore_base.specs.TargetSets.{LabelPath, IsTargetSet, LeavesTo, LeadsTo, AreTargetSets}
 use Rattle.lore_base.specs.PathOrder.{IsLeastPath, AreInPathOrder, ComesBefore}
 use Rattle.set_explorer.specs.Nodes.{sets_of, HasItsSteps}
-use Rattle.set_explorer.specs.inside.Trails.{Stop, start_path, longer, IsMet, ComesUpTo, IsSearched}
+use Rattle.set_explorer.specs.inside.Trails.{TrailStop, start_path, longer, IsMet, ComesUpTo, IsSearched}
 use Rattle.set_explorer.proofs.PathOrder.{upto-longer, upto-trans}
 use Rattle.set_explorer.proofs.TargetSteps.{walks-leave, step-target}
 use Rattle.set_steps.proofs.PlaceLaws.{at-map, one-place}
@@ -30,7 +30,7 @@ AllZip-maps f g R (x ∷ xs) all =
     (All-head (λ y. R (f y) (g y)) x xs all, AllZip-maps f g R xs (All-tail (λ y. R (f y) (g y)) x xs all))
 
 -- the target set of a path was found, by a path that comes no later
-record IsFound (edges : List Edge) (trail : List Stop) (start : Oid) (path : LabelPath) : Type 0 where
+record IsFound (edges : List Edge) (trail : List TrailStop) (start : Oid) (path : LabelPath) : Type 0 where
   pub set : List Oid
   pub by : LabelPath
   pub found : Contains trail (record { path = by; set = set })
@@ -39,7 +39,7 @@ record IsFound (edges : List Edge) (trail : List Stop) (start : Oid) (path : Lab
 
 module _ (names : List (List ℕ × Oid)) (edges : List Edge) (nodes : List GuideNode)
     (searched : IsSearched names edges nodes (length nodes)) where
-  all_places : (place : ℕ) (stop : Stop) → slice_get searched.trail place ≡ Some stop → place < length nodes
+  all_places : (place : ℕ) (stop : TrailStop) → slice_get searched.trail place ≡ Some stop → place < length nodes
   all_places place stop at =
       let same : length (map set_of searched.trail) ≡ length (sets_of nodes) = ap length searched.is.found in
       omega (
@@ -116,9 +116,9 @@ module _ (names : List (List ℕ × Oid)) (edges : List Edge) (nodes : List Guid
         found.order,
       )
 
-  leads_by : (stop : Stop) → Contains searched.trail stop → LeadsTo names edges stop.path stop.set
+  leads_by : (stop : TrailStop) → Contains searched.trail stop → LeadsTo names edges stop.path stop.set
   leads_by stop there =
-      All-contains (λ (s : Stop). LeadsTo names edges s.path s.set) searched.trail stop searched.is.leads there
+      All-contains (λ (s : TrailStop). LeadsTo names edges s.path s.set) searched.trail stop searched.is.leads there
 
   pub are-targets : AreTargetSets names edges (sets_of nodes)
   are-targets = record {
@@ -137,7 +137,7 @@ module _ (names : List (List ℕ × Oid)) (edges : List Edge) (nodes : List Guid
   }
 
   -- a set was found by one path
-  one-stop : (stop other : Stop) → Contains searched.trail stop → Contains searched.trail other → stop.set ≡ other.set
+  one-stop : (stop other : TrailStop) → Contains searched.trail stop → Contains searched.trail other → stop.set ≡ other.set
       → stop ≡ other
   one-stop stop other first second same =
       let i = place_of_member searched.trail stop first in
@@ -150,25 +150,25 @@ module _ (names : List (List ℕ × Oid)) (edges : List Edge) (nodes : List Guid
       let both : Some stop ≡ Some other = sym i.1 ∙ ap (slice_get searched.trail) place ∙ j.1 in
       cc
 
-  least-by : (stop : Stop) → Contains searched.trail stop → IsLeastPath names edges stop.path stop.set
+  least-by : (stop : TrailStop) → Contains searched.trail stop → IsLeastPath names edges stop.path stop.set
   least-by stop there = record {
     leads = leads_by stop there;
     least = λ other leads. (
         let found = found-led other stop.set leads in
         let same = one-stop (record { path = found.0; set = stop.set }) stop found.1 there refl in
-        subst (λ (s : Stop). ComesUpTo s.path other) same found.2);
+        subst (λ (s : TrailStop). ComesUpTo s.path other) same found.2);
   }
 
   pub in-order : AreInPathOrder names edges (sets_of nodes)
   in-order = record {
-    paths = map (λ (s : Stop). s.path) searched.trail;
+    paths = map (λ (s : TrailStop). s.path) searched.trail;
     least =
-        subst (λ (l : List (List Oid)). AllZip (IsLeastPath names edges) (map (λ (s : Stop). s.path) searched.trail) l)
+        subst (λ (l : List (List Oid)). AllZip (IsLeastPath names edges) (map (λ (s : TrailStop). s.path) searched.trail) l)
         searched.is.found
-        (AllZip-maps (λ (s : Stop). s.path) set_of (IsLeastPath names edges) searched.trail
-        (All-from_members (λ (s : Stop). IsLeastPath names edges s.path s.set) searched.trail least-by));
+        (AllZip-maps (λ (s : TrailStop). s.path) set_of (IsLeastPath names edges) searched.trail
+        (All-from_members (λ (s : TrailStop). IsLeastPath names edges s.path s.set) searched.trail least-by));
     ascending =
-        AllPairs-map (λ (s : Stop). s.path) (λ (a b : Stop). ComesBefore a.path b.path) ComesBefore
+        AllPairs-map (λ (s : TrailStop). s.path) (λ (a b : TrailStop). ComesBefore a.path b.path) ComesBefore
         (λ a b before. before) searched.trail searched.is.ascending;
   }
 

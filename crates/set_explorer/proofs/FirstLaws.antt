@@ -12,7 +12,7 @@ use Rattle.set_explorer.specs.Types.{Oid, Label, Edge}
 use Rattle.lore_base.specs.TargetSets.{LabelPath, IsTargetSet, IsStep, LeavesTo, LeadsTo}
 use Rattle.lore_base.specs.PathOrder.{ComesBefore, IsLeastPath}
 use Rattle.lore_base.specs.GuideLimits.{AreFirstSets}
-use Rattle.set_explorer.specs.inside.Trails.{Stop, start_path, longer, ComesUpTo, IsMet, IsTrail}
+use Rattle.set_explorer.specs.inside.Trails.{TrailStop, start_path, longer, ComesUpTo, IsMet, IsTrail}
 use Rattle.lore_base.proofs.WalkLaws.{Walk-split}
 use Rattle.lore_base.proofs.TargetLaws.{ListsInOrder-unique}
 use Rattle.lore_base.proofs.MemberLaws.{Contains-head}
@@ -28,7 +28,7 @@ use Rattle.set_explorer.proofs.StopLaws.{named_stop, target-none, keys-ascend}
 use Rattle.set_explorer.proofs.DoneLaws.{AllZip-maps}
 
 -- the target set of a path was found, by a path that comes no later
-record IsReached (edges : List Edge) (trail : List Stop) (start : Oid) (path : LabelPath) : Type 0 where
+record IsReached (edges : List Edge) (trail : List TrailStop) (start : Oid) (path : LabelPath) : Type 0 where
   pub set : List Oid
   pub by : LabelPath
   pub found : Contains trail (record { path = by; set = set })
@@ -36,21 +36,21 @@ record IsReached (edges : List Edge) (trail : List Stop) (start : Oid) (path : L
   pub order : ComesUpTo by path
 
 -- where a step of a stop goes: to what was met, or no earlier than the next path
-abbrev pub Advances : List Edge → List Stop → LabelPath → Stop → Label → Type 0
+abbrev pub Advances : List Edge → List TrailStop → LabelPath → TrailStop → Label → Type 0
 Advances edges trail next stop label =
     ((set : List Oid) × IsStep edges stop.set label set × IsMet trail
     (record { path = longer stop.path label; set = set }))
     ⊎ ComesUpTo next (longer stop.path label)
 
-module _ (names : List (List ℕ × Oid)) (edges : List Edge) (table : IsNameTable names) (trail : List Stop)
+module _ (names : List (List ℕ × Oid)) (edges : List Edge) (table : IsNameTable names) (trail : List TrailStop)
     (sets : List (List Oid))
     (is : IsTrail names edges trail sets) (next : LabelPath) (next_set : List Oid)
     (started : (named : List ℕ × Oid) → Contains names named → IsMet trail (named_stop named) ⊎ ComesUpTo next
     (start_path named.0))
-    (advances : (stop : Stop) → Contains trail stop → (label : Label) (oid : Oid) → LeavesTo edges stop.set label oid
+    (advances : (stop : TrailStop) → Contains trail stop → (label : Label) (oid : Oid) → LeavesTo edges stop.set label oid
     → Advances edges trail next stop label)
     (leads : LeadsTo names edges next next_set)
-    (before : (stop : Stop) → Contains trail stop → ComesBefore stop.path next)
+    (before : (stop : TrailStop) → Contains trail stop → ComesBefore stop.path next)
     (fresh : ¬ Contains sets next_set) where
   abbrev Told : Oid → LabelPath → Type 0
   Told start path = IsReached edges trail start path ⊎ ComesUpTo next path
@@ -127,10 +127,10 @@ module _ (names : List (List ℕ × Oid)) (edges : List Edge) (table : IsNameTab
         | inr late ↦ inr late
       ]
 
-  in-sets : (stop : Stop) → Contains trail stop → Contains sets stop.set
+  in-sets : (stop : TrailStop) → Contains trail stop → Contains sets stop.set
   in-sets stop there = subst (λ (l : List (List Oid)). Contains l stop.set) is.found (Contains-map set_of trail stop there)
 
-  same-stop : (stop other : Stop) → Contains trail stop → Contains trail other → stop.set ≡ other.set → stop ≡ other
+  same-stop : (stop other : TrailStop) → Contains trail stop → Contains trail other → stop.set ≡ other.set → stop ≡ other
   same-stop stop other first second same =
       let i = place_of_member trail stop first in
       let j = place_of_member trail other second in
@@ -141,13 +141,13 @@ module _ (names : List (List ℕ × Oid)) (edges : List Edge) (table : IsNameTab
       let both : Some stop ≡ Some other = sym i.1 ∙ ap (slice_get trail) place ∙ j.1 in
       cc
 
-  least-stop : (stop : Stop) → Contains trail stop → IsLeastPath names edges stop.path stop.set
+  least-stop : (stop : TrailStop) → Contains trail stop → IsLeastPath names edges stop.path stop.set
   least-stop stop there = record {
-    leads = All-contains (λ (s : Stop). LeadsTo names edges s.path s.set) trail stop is.leads there;
+    leads = All-contains (λ (s : TrailStop). LeadsTo names edges s.path s.set) trail stop is.leads there;
     least = λ other led. (elim (told-led other stop.set led) [
       | inl found ↦ (
           let same = same-stop (record { path = found.0; set = stop.set }) stop found.1 there refl in
-          subst (λ (s : Stop). ComesUpTo s.path other) same found.2)
+          subst (λ (s : TrailStop). ComesUpTo s.path other) same found.2)
       | inr late ↦ upto-trans stop.path next other (inr (before stop there)) late
     ]);
   }
@@ -174,16 +174,16 @@ module _ (names : List (List ℕ × Oid)) (edges : List Edge) (table : IsNameTab
 
   pub first-sets : AreFirstSets names edges (sets ++ next_set ∷ [])
   first-sets = record {
-    paths = map (λ (s : Stop). s.path) trail ++ next ∷ [];
-    least = AllZip-then (IsLeastPath names edges) (map (λ (s : Stop). s.path) trail) sets next next_set
-        (subst (λ (l : List (List Oid)). AllZip (IsLeastPath names edges) (map (λ (s : Stop). s.path) trail) l) is.found
-        (AllZip-maps (λ (s : Stop). s.path) set_of (IsLeastPath names edges) trail
-        (All-from_members (λ (s : Stop). IsLeastPath names edges s.path s.set) trail least-stop))) least-next;
-    ascending = AllPairs-push ComesBefore (map (λ (s : Stop). s.path) trail) next
-        (AllPairs-map (λ (s : Stop). s.path) (λ (a b : Stop). ComesBefore a.path b.path) ComesBefore
+    paths = map (λ (s : TrailStop). s.path) trail ++ next ∷ [];
+    least = AllZip-then (IsLeastPath names edges) (map (λ (s : TrailStop). s.path) trail) sets next next_set
+        (subst (λ (l : List (List Oid)). AllZip (IsLeastPath names edges) (map (λ (s : TrailStop). s.path) trail) l) is.found
+        (AllZip-maps (λ (s : TrailStop). s.path) set_of (IsLeastPath names edges) trail
+        (All-from_members (λ (s : TrailStop). IsLeastPath names edges s.path s.set) trail least-stop))) least-next;
+    ascending = AllPairs-push ComesBefore (map (λ (s : TrailStop). s.path) trail) next
+        (AllPairs-map (λ (s : TrailStop). s.path) (λ (a b : TrailStop). ComesBefore a.path b.path) ComesBefore
         (λ a b h. h) trail is.ascending)
         (λ path there. (
-        let from = Contains-from_map (λ (s : Stop). s.path) trail path there in
+        let from = Contains-from_map (λ (s : TrailStop). s.path) trail path there in
         subst (λ (p : LabelPath). ComesBefore p next) from.2 (before from.0 from.1)));
     others = λ path set led. (elim (told-led path set led) [
       | inl found ↦ inl (Contains-append_left sets (next_set ∷ []) set
@@ -194,9 +194,9 @@ module _ (names : List (List ℕ × Oid)) (edges : List Edge) (table : IsNameTab
             led in
             inl (Contains-append_right sets (next_set ∷ []) set
             (subst (λ (s : List Oid). Contains (next_set ∷ []) s) one (Contains-head next_set []))))
-        | inr behind ↦ inr (All-push (λ (p : LabelPath). ComesBefore p path) (map (λ (s : Stop). s.path) trail) next
-            (All-from_members (λ (p : LabelPath). ComesBefore p path) (map (λ (s : Stop). s.path) trail) (λ p there. (
-            let from = Contains-from_map (λ (s : Stop). s.path) trail p there in
+        | inr behind ↦ inr (All-push (λ (p : LabelPath). ComesBefore p path) (map (λ (s : TrailStop). s.path) trail) next
+            (All-from_members (λ (p : LabelPath). ComesBefore p path) (map (λ (s : TrailStop). s.path) trail) (λ p there. (
+            let from = Contains-from_map (λ (s : TrailStop). s.path) trail p there in
             subst (λ (q : LabelPath). ComesBefore q path) from.2
             (before-trans from.0.path next path (before from.0 from.1) behind))))
             behind)

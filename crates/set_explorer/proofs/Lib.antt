@@ -14,6 +14,7 @@ pub mod EdgeLaws
 pub mod CleanLaws
 pub mod GainLaws
 pub mod GrowthLaws
+pub mod LossLaws
 pub mod ReadLaws
 pub mod ExpandLaws
 pub mod FirstLaws

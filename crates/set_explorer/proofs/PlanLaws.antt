@@ -21,7 +21,7 @@ use Rattle.lore_base.specs.TargetSets.{IsLedTo, LeadsTo}
 use Rattle.set_explorer.specs.Nodes.{sets_of, HasSet, IsEntry, node_number}
 use Rattle.set_explorer.specs.Touched.{IsTouched, IsRead, ReadsTouched, ReadsSome}
 use Rattle.set_explorer.specs.PlannedNodes.{origin_set, node_then, IsOrigin}
-use Rattle.set_explorer.specs.inside.Trails.{Stop, IsSearched, IsExpanded}
+use Rattle.set_explorer.specs.inside.Trails.{TrailStop, IsSearched, IsExpanded}
 use Rattle.set_explorer.specs.inside.Founds.{found_nodes, found_sets, target_sets, Costs, IsHalted, IsFound}
 use Rattle.set_explorer.specs.PlannedNodes.{KeepsOnce}
 use Rattle.lore_base.proofs.MemberLaws.{Contains-none}
@@ -142,7 +142,7 @@ module _ (kept : List (List Oid)) (dirty grown : List Oid) (edges : List Edge) w
         (sym searched.is.found) in_sets) in (
           from.0.path,
           subst (λ (s : List Oid). LeadsTo names edges from.0.path s) from.2
-              (All-contains (λ (s : Stop). LeadsTo names edges s.path s.set) searched.trail from.0 searched.is.leads
+              (All-contains (λ (s : TrailStop). LeadsTo names edges s.path s.set) searched.trail from.0 searched.is.leads
               from.1),
         )));
     few = omega (

@@ -15,7 +15,7 @@ use Rattle.lore_base.specs.GuideLimits.{AreFirstSets, KeepLimits}
 use Rattle.set_explorer.specs.GuideCauses.{GuideCause}
 use Rattle.set_steps.specs.SetSteps.{AreSteps}
 use Rattle.set_explorer.specs.inside.Entering.{AreEntered}
-use Rattle.set_explorer.specs.inside.Trails.{Stop, start_path, longer, IsMet, IsSearched}
+use Rattle.set_explorer.specs.inside.Trails.{TrailStop, start_path, longer, IsMet, IsSearched}
 use Rattle.set_explorer.specs.inside.Founds.{Passes, StopsAt, AreStopped, IsHalted}
 use Rattle.lore_base.proofs.MemberLaws.{Contains-none, Contains-head, Contains-cases}
 use Rattle.set_explorer.proofs.PathOrder.{before-longer, before-label, before-end}
@@ -164,19 +164,19 @@ module _ (names : List (List ℕ × Oid)) (edges : List Edge) (table : IsNameTab
           ascending = λ i j d less within. absurd (omega (arith, within));
           apart = λ i j d less within. absurd (omega (arith, within));
         })
-        (All-from_members (λ (s : Stop). LeadsTo names edges s.path s.set) (map named_stop cut.front) (λ stop there. (
+        (All-from_members (λ (s : TrailStop). LeadsTo names edges s.path s.set) (map named_stop cut.front) (λ stop there. (
         let from = Contains-from_map named_stop cut.front stop there in
-        subst (λ (s : Stop). LeadsTo names edges s.path s.set) from.2
+        subst (λ (s : TrailStop). LeadsTo names edges s.path s.set) from.2
         (leads-start names edges from.0 (in-front from.0 from.1)))))
         (AllPairs-map named_stop (λ (a b : List ℕ × Oid). bytes_cmp a.0 b.0 ≡ Less)
-        (λ (a b : Stop). ComesBefore a.path b.path)
+        (λ (a b : TrailStop). ComesBefore a.path b.path)
         (λ a b less. inr (refl, inl less)) cut.front (pairs-cut (λ (a b : List ℕ × Oid). bytes_cmp a.0 b.0 ≡ Less)
         cut.front cut.item cut.rest ascends))
         (λ earlier later none there. absurd (Contains-none earlier none))
         (subst (λ (l : List (List Oid)). AreEntered [] l stops.found)
         (sym (map-map named_stop set_of cut.front ∙ cut.fronts)) stops.entered)
 
-    from-front : (stop : Stop) → Contains grown.grown stop → (named : List ℕ × Oid) × Contains cut.front named
+    from-front : (stop : TrailStop) → Contains grown.grown stop → (named : List ℕ × Oid) × Contains cut.front named
         × (named_stop named ≡ stop)
     from-front stop there = elim (grown.from stop there) [
       | inl none ↦ absurd (Contains-none stop none)
@@ -206,7 +206,7 @@ module _ (names : List (List ℕ × Oid)) (edges : List Edge) (table : IsNameTab
           (leads-start names edges cut.item item-there))
           (λ stop there. (
           let from = from-front stop there in
-          subst (λ (s : Stop). ComesBefore s.path (start_path cut.item.0)) from.2 (before-item from.0 from.1)))
+          subst (λ (s : TrailStop). ComesBefore s.path (start_path cut.item.0)) from.2 (before-item from.0 from.1)))
           stops.fresh;
       fit = stops.fit;
       passes = stops.passes;
@@ -220,18 +220,18 @@ module _ (names : List (List ℕ × Oid)) (edges : List Edge) (table : IsNameTab
     abbrev step_set : Label × List Oid → List Oid
     step_set step = step.1
 
-    stop_at : (stop : Stop) × (slice_get searched.trail n ≡ Some stop) × (stop.set ≡ set)
+    stop_at : (stop : TrailStop) × (slice_get searched.trail n ≡ Some stop) × (stop.set ≡ set)
     stop_at = at-unmap set_of searched.trail n set (subst (λ (l : List (List Oid)). slice_get l n ≡ Some set)
         (sym searched.is.found) at)
 
-    abbrev here : Stop
+    abbrev here : TrailStop
     here = stop_at.0
 
     own : AreSteps edges here.set steps
     own = subst (λ (s : List Oid). AreSteps edges s steps) (sym stop_at.2) are
 
     leads_here : LeadsTo names edges here.path here.set
-    leads_here = All-contains (λ (s : Stop). LeadsTo names edges s.path s.set) searched.trail here searched.is.leads
+    leads_here = All-contains (λ (s : TrailStop). LeadsTo names edges s.path s.set) searched.trail here searched.is.leads
         (Contains-from_place searched.trail n here stop_at.1)
 
     cut-steps : IsCut step_set steps stops.done stops.next stops.others
@@ -261,24 +261,24 @@ module _ (names : List (List ℕ × Oid)) (edges : List Edge) (table : IsNameTab
     grown-steps =
         trail-entered names edges (map (stop_of here.path) cut-steps.front) searched.trail (sets_of nodes) stops.found
         searched.is
-        (All-from_members (λ (s : Stop). LeadsTo names edges s.path s.set) (map (stop_of here.path) cut-steps.front)
+        (All-from_members (λ (s : TrailStop). LeadsTo names edges s.path s.set) (map (stop_of here.path) cut-steps.front)
         (λ stop there. (
         let from = Contains-from_map (stop_of here.path) cut-steps.front stop there in
-        subst (λ (s : Stop). LeadsTo names edges s.path s.set) from.2 (leads-by from.0 (in-steps from.0 from.1)))))
+        subst (λ (s : TrailStop). LeadsTo names edges s.path s.set) from.2 (leads-by from.0 (in-steps from.0 from.1)))))
         (AllPairs-map (stop_of here.path) (λ (a b : Label × List Oid). a.0.0 < b.0.0)
-        (λ (a b : Stop). ComesBefore a.path b.path)
+        (λ (a b : TrailStop). ComesBefore a.path b.path)
         (λ a b less. before-label here.path a.0 b.0 less) cut-steps.front
         (pairs-cut (λ (a b : Label × List Oid). a.0.0 < b.0.0) cut-steps.front cut-steps.item cut-steps.rest
         step-ascends))
         (λ earlier later in_trail in_steps. (
         let step = Contains-from_map (stop_of here.path) cut-steps.front later in_steps in
-        subst (λ (s : Stop). ComesBefore earlier.path s.path) step.2
-        (All-contains (λ (s : Stop). ComesBefore s.path (longer here.path step.0.0)) searched.trail earlier
+        subst (λ (s : TrailStop). ComesBefore earlier.path s.path) step.2
+        (All-contains (λ (s : TrailStop). ComesBefore s.path (longer here.path step.0.0)) searched.trail earlier
         (searched.ahead here step.0.0 stop_at.1) in_trail)))
         (subst (λ (l : List (List Oid)). AreEntered (sets_of nodes) l stops.found)
         (sym (map-map (stop_of here.path) set_of cut-steps.front ∙ cut-steps.fronts)) stops.entered)
 
-    old-advances : (stop : Stop) → Contains searched.trail stop → (label : Label) (oid : Oid)
+    old-advances : (stop : TrailStop) → Contains searched.trail stop → (label : Label) (oid : Oid)
         → LeavesTo edges stop.set label oid
         → Advances edges grown-steps.grown next_path stop label
     old-advances stop there label oid leaves =
@@ -294,14 +294,14 @@ module _ (names : List (List ℕ × Oid)) (edges : List Edge) (table : IsNameTab
               ))
           | inr late ↦ elim (cases_lt n place.0) [
             | inl after ↦ inr (inr (before-longer here.path stop.path cut-steps.item.0 label
-                (pair_at (λ (a b : Stop). ComesBefore a.path b.path) searched.trail n place.0 here stop
+                (pair_at (λ (a b : TrailStop). ComesBefore a.path b.path) searched.trail n place.0 here stop
                 searched.is.ascending after stop_at.1 place.1)))
             | inr equal ↦ (
                 let k : n ≡ place.0 = omega (arith, late, equal) in
                 let both : Some here ≡ Some stop = sym stop_at.1 ∙ ap (slice_get searched.trail) k ∙ place.1 in
                 let same : here ≡ stop = cc in
-                subst (λ (s : Stop). Advances edges grown-steps.grown next_path s label) same
-                (here-advances label oid (subst (λ (s : Stop). LeavesTo edges s.set label oid) (sym same) leaves)))
+                subst (λ (s : TrailStop). Advances edges grown-steps.grown next_path s label) same
+                (here-advances label oid (subst (λ (s : TrailStop). LeavesTo edges s.set label oid) (sym same) leaves)))
           ]
         ]
       where
@@ -340,17 +340,17 @@ module _ (names : List (List ℕ × Oid)) (edges : List Edge) (table : IsNameTab
             | inr begun ↦ (
                 let step = Contains-from_map (stop_of here.path) cut-steps.front stop begun in
                 inr (inr (before-longer here.path stop.path cut-steps.item.0 label
-                (subst (λ (s : Stop). ComesBefore here.path s.path) step.2
+                (subst (λ (s : TrailStop). ComesBefore here.path s.path) step.2
                 (before-end here.path here.path step.0.0 (inl refl))))))
           ]))
           (subst (λ (s : List Oid). LeadsTo names edges next_path s) cut-steps.items
           (leads-by cut-steps.item item-step))
           (λ stop there. (elim (grown-steps.from stop there) [
-            | inl old ↦ All-contains (λ (s : Stop). ComesBefore s.path next_path) searched.trail stop
+            | inl old ↦ All-contains (λ (s : TrailStop). ComesBefore s.path next_path) searched.trail stop
                 (searched.ahead here cut-steps.item.0 stop_at.1) old
             | inr begun ↦ (
                 let step = Contains-from_map (stop_of here.path) cut-steps.front stop begun in
-                subst (λ (s : Stop). ComesBefore s.path next_path) step.2
+                subst (λ (s : TrailStop). ComesBefore s.path next_path) step.2
                 (before-label here.path step.0.0 cut-steps.item.0
                 (pairs-front (λ (a b : Label × List Oid). a.0.0 < b.0.0) cut-steps.front cut-steps.item cut-steps.rest
                 step-ascends step.0 step.1)))

@@ -18,7 +18,7 @@ use Rattle.lore_base.specs.PathOrder.{ComesBefore}
 use Rattle.set_explorer.specs.Nodes.{sets_of, HasSet, AscendByLabel}
 use Rattle.set_steps.specs.SetSteps.{AreSteps}
 use Rattle.set_explorer.specs.inside.Entering.{AreEntered}
-use Rattle.set_explorer.specs.inside.Trails.{Stop, longer, IsMet, IsTrail, HasRow, IsDone, IsSearched, IsExpanded}
+use Rattle.set_explorer.specs.inside.Trails.{TrailStop, longer, IsMet, IsTrail, HasRow, IsDone, IsSearched, IsExpanded}
 use Rattle.set_explorer.proofs.PathOrder.{before-longer, before-trans}
 use Rattle.set_steps.proofs.PlaceLaws.{at-grown, at-front, at-map, at-unmap}
 use Rattle.set_steps.proofs.PlaceLaws.{zip-left, zip-right}
@@ -60,13 +60,13 @@ module _ (names : List (List ℕ × Oid)) (edges : List Edge) where
             (λ named there. grown.met (named_stop named) (Contains-map named_stop names named there));
         done = λ place stop less at. absurd (omega (arith, less));
         rows = λ place node less at. absurd (omega (arith, less));
-        ahead = λ stop label at. All-from_members (λ (earlier : Stop). ComesBefore earlier.path (longer stop.path label))
+        ahead = λ stop label at. All-from_members (λ (earlier : TrailStop). ComesBefore earlier.path (longer stop.path label))
             grown.grown
             (λ earlier there. elim (grown.from earlier there) [
               | inl none ↦ absurd (Contains-none earlier none)
               | inr begun ↦ (
                   let named = Contains-from_map named_stop names earlier begun in
-                  subst (λ (s : Stop). ComesBefore s.path (longer stop.path label)) named.2
+                  subst (λ (s : TrailStop). ComesBefore s.path (longer stop.path label)) named.2
                   (inl (omega (arith, length-append stop.path.word (label ∷ [])))))
             ]);
       }
@@ -74,7 +74,7 @@ module _ (names : List (List ℕ × Oid)) (edges : List Edge) where
   module _ (nodes new : List GuideNode) (n : ℕ) (before : IsSearched names edges nodes n)
       (now : IsExpanded edges nodes n new) where
     -- the stop whose steps were entered
-    stop_at : (stop : Stop) × (slice_get before.trail n ≡ Some stop) × (stop.set ≡ now.set)
+    stop_at : (stop : TrailStop) × (slice_get before.trail n ≡ Some stop) × (stop.set ≡ now.set)
     stop_at =
         at-unmap set_of before.trail n now.set (subst (λ (l : List (List Oid)). slice_get l n ≡ Some now.set)
         (sym before.is.found) now.at)
@@ -87,7 +87,7 @@ module _ (names : List (List ℕ × Oid)) (edges : List Edge) where
 
     leads_there : LeadsTo names edges stop_at.0.path stop_at.0.set
     leads_there =
-        All-contains (λ (stop : Stop). LeadsTo names edges stop.path stop.set) before.trail stop_at.0 before.is.leads
+        All-contains (λ (stop : TrailStop). LeadsTo names edges stop.path stop.set) before.trail stop_at.0 before.is.leads
         (Contains-from_place before.trail n stop_at.0 stop_at.1)
 
     grown : IsGrown names edges before.trail (map (stop_of stop_at.0.path) now.steps) (sets_of now.between)
@@ -98,17 +98,17 @@ module _ (names : List (List ℕ × Oid)) (edges : List Edge) where
         (stops-ascend edges stop_at.0.path stop_at.0.set now.steps steps_are)
         (λ earlier later in_trail in_steps.
         let step = Contains-from_map (stop_of stop_at.0.path) now.steps later in_steps in
-        subst (λ (s : Stop). ComesBefore earlier.path s.path) step.2
-        (All-contains (λ (s : Stop). ComesBefore s.path (longer stop_at.0.path step.0.0)) before.trail earlier
+        subst (λ (s : TrailStop). ComesBefore earlier.path s.path) step.2
+        (All-contains (λ (s : TrailStop). ComesBefore s.path (longer stop_at.0.path step.0.0)) before.trail earlier
         (before.ahead stop_at.0 step.0.0 stop_at.1) in_trail))
         (subst (λ (l : List (List Oid)). AreEntered (sets_of nodes) l (sets_of now.between))
         (sym (map-map (stop_of stop_at.0.path) set_of now.steps)) now.entered)
 
-    trail_at : (place : ℕ) (stop : Stop) → place < length before.trail → slice_get grown.grown place ≡ Some stop
+    trail_at : (place : ℕ) (stop : TrailStop) → place < length before.trail → slice_get grown.grown place ≡ Some stop
         → slice_get before.trail place ≡ Some stop
     trail_at place stop less at =
         at-front before.trail grown.extends.0 place stop less
-        (subst (λ (l : List Stop). slice_get l place ≡ Some stop) grown.extends.1 at)
+        (subst (λ (l : List TrailStop). slice_get l place ≡ Some stop) grown.extends.1 at)
 
     stop_stays : slice_get grown.grown n ≡ Some stop_at.0
     stop_stays = at-grown before.trail grown.extends.0 grown.grown n stop_at.0 grown.extends.1 stop_at.1
@@ -124,7 +124,7 @@ module _ (names : List (List ℕ × Oid)) (edges : List Edge) where
               (Contains-map (stop_of stop_at.0.path) now.steps (label, step.0) step.1),
         )
 
-    done-more : (place : ℕ) (stop : Stop) → place < n + 1 → slice_get grown.grown place ≡ Some stop
+    done-more : (place : ℕ) (stop : TrailStop) → place < n + 1 → slice_get grown.grown place ≡ Some stop
         → IsDone edges grown.grown stop
     done-more place stop less at = elim (cases_lt place n) [
       | inl early ↦ λ label oid leaves. (
@@ -140,7 +140,7 @@ module _ (names : List (List ℕ × Oid)) (edges : List Edge) where
           let same : stop_at.0 ≡ stop =
           (let both : Some stop_at.0 ≡ Some stop = sym stop_stays ∙ sym (ap (λ k. slice_get grown.grown k) here)
           ∙ at in cc) in
-          subst (λ (s : Stop). IsDone edges grown.grown s) same done-here)
+          subst (λ (s : TrailStop). IsDone edges grown.grown s) same done-here)
     ]
 
     -- nodes that have a set have it now
@@ -214,21 +214,21 @@ module _ (names : List (List ℕ × Oid)) (edges : List Edge) where
           row-here node (set-here node at_n) (now.put node at_n))
     ]
 
-    ahead-more : (stop : Stop) (label : Label) → slice_get grown.grown (n + 1) ≡ Some stop
+    ahead-more : (stop : TrailStop) (label : Label) → slice_get grown.grown (n + 1) ≡ Some stop
         → All (λ earlier. ComesBefore earlier.path (longer stop.path label)) grown.grown
     ahead-more stop label at =
         let rises : ComesBefore stop_at.0.path stop.path =
-        pair_at (λ (a b : Stop). ComesBefore a.path b.path) grown.grown n (n + 1) stop_at.0 stop grown.is.ascending
+        pair_at (λ (a b : TrailStop). ComesBefore a.path b.path) grown.grown n (n + 1) stop_at.0 stop grown.is.ascending
         (omega arith) stop_stays at in
-        All-from_members (λ (earlier : Stop). ComesBefore earlier.path (longer stop.path label)) grown.grown
+        All-from_members (λ (earlier : TrailStop). ComesBefore earlier.path (longer stop.path label)) grown.grown
         (λ earlier there. elim (grown.from earlier there) [
           | inl old ↦ before-trans earlier.path (longer stop_at.0.path label) (longer stop.path label)
-              (All-contains (λ (s : Stop). ComesBefore s.path (longer stop_at.0.path label)) before.trail earlier
+              (All-contains (λ (s : TrailStop). ComesBefore s.path (longer stop_at.0.path label)) before.trail earlier
               (before.ahead stop_at.0 label stop_at.1) old)
               (before-longer stop_at.0.path stop.path label label rises)
           | inr begun ↦ (
               let step = Contains-from_map (stop_of stop_at.0.path) now.steps earlier begun in
-              subst (λ (s : Stop). ComesBefore s.path (longer stop.path label)) step.2
+              subst (λ (s : TrailStop). ComesBefore s.path (longer stop.path label)) step.2
               (before-longer stop_at.0.path stop.path step.0.0 label rises))
         ])
 

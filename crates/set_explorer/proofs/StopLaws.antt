@@ -16,17 +16,17 @@ use Rattle.set_explorer.specs.Nodes.{AscendByLabel}
 use Rattle.lore_base.specs.TargetSets.{LabelPath, IsTargetSet, IsStep, LeadsTo}
 use Rattle.lore_base.specs.PathOrder.{ComesBefore}
 use Rattle.set_steps.specs.SetSteps.{AreSteps}
-use Rattle.set_explorer.specs.inside.Trails.{Stop, start_path, longer}
+use Rattle.set_explorer.specs.inside.Trails.{TrailStop, start_path, longer}
 use Rattle.set_explorer.proofs.PathOrder.{before-label}
 use Rattle.set_steps.proofs.PlaceLaws.{zip-right}
 use Rattle.set_steps.proofs.PairLaws.{AllPairs-map}
 use Rattle.set_explorer.proofs.TargetSteps.{step-target}
 
 -- the stop that a step leads to, and the one of a name
-abbrev pub stop_of : LabelPath → Label × List Oid → Stop
+abbrev pub stop_of : LabelPath → Label × List Oid → TrailStop
 stop_of path step = record { path = longer path step.0; set = step.1 }
 
-abbrev pub named_stop : List ℕ × Oid → Stop
+abbrev pub named_stop : List ℕ × Oid → TrailStop
 named_stop named = record { path = start_path named.0; set = named.1 ∷ [] }
 
 -- an object alone is the target set of the empty word
@@ -64,7 +64,7 @@ pub stops-lead : (names : List (List ℕ × Oid)) (edges : List Edge) (path : La
     → LeadsTo names edges path set → AreSteps edges set steps
     → All (λ stop. LeadsTo names edges stop.path stop.set) (map (stop_of path) steps)
 stops-lead names edges path set steps leads are =
-    All-map (λ (stop : Stop). LeadsTo names edges stop.path stop.set) (stop_of path) steps
+    All-map (λ (stop : TrailStop). LeadsTo names edges stop.path stop.set) (stop_of path) steps
     (All-from_members (λ (step : Label × List Oid). LeadsTo names edges (longer path step.0) step.1) steps
     (λ step there. leads-step names edges path set step.0 step.1 leads
     (All-contains (λ (s : Label × List Oid). IsStep edges set s.0 s.1) steps step are.sets there)
@@ -74,13 +74,13 @@ pub stops-ascend : (edges : List Edge) (path : LabelPath) (set : List Oid) (step
     → AreSteps edges set steps
     → AllPairs (λ a b. ComesBefore a.path b.path) (map (stop_of path) steps)
 stops-ascend edges path set steps are =
-    AllPairs-map (stop_of path) (λ (a b : Label × List Oid). a.0.0 < b.0.0) (λ (a b : Stop). ComesBefore a.path b.path)
+    AllPairs-map (stop_of path) (λ (a b : Label × List Oid). a.0.0 < b.0.0) (λ (a b : TrailStop). ComesBefore a.path b.path)
     (λ a b less. before-label path a.0 b.0 less) steps are.ascend
 
 pub names-lead : (names : List (List ℕ × Oid)) (edges : List Edge)
     → All (λ stop. LeadsTo names edges stop.path stop.set) (map named_stop names)
 names-lead names edges =
-    All-map (λ (stop : Stop). LeadsTo names edges stop.path stop.set) named_stop names
+    All-map (λ (stop : TrailStop). LeadsTo names edges stop.path stop.set) named_stop names
     (All-from_members (λ (named : List ℕ × Oid). LeadsTo names edges (start_path named.0) (named.1 ∷ [])) names
     (λ named there. leads-start names edges named there))
 
@@ -103,7 +103,7 @@ pub names-ascend : (names : List (List ℕ × Oid)) → IsNameTable names
     → AllPairs (λ a b. ComesBefore a.path b.path) (map named_stop names)
 names-ascend names table =
     AllPairs-map named_stop (λ (a b : List ℕ × Oid). bytes_cmp a.0 b.0 ≡ Less)
-    (λ (a b : Stop). ComesBefore a.path b.path)
+    (λ (a b : TrailStop). ComesBefore a.path b.path)
     (λ a b less. inr (refl, inl less)) names (keys-ascend names table)
 
 -- edges that have the labels of steps ascend as these do

@@ -13,48 +13,48 @@ use Rattle.set_explorer.specs.Types.{Oid, Edge}
 use Rattle.lore_base.specs.TargetSets.{LeadsTo}
 use Rattle.lore_base.specs.PathOrder.{ComesBefore}
 use Rattle.set_explorer.specs.inside.Entering.{AreEntered}
-use Rattle.set_explorer.specs.inside.Trails.{Stop, IsMet, IsTrail}
+use Rattle.set_explorer.specs.inside.Trails.{TrailStop, IsMet, IsTrail}
 use Rattle.set_steps.proofs.PairLaws.{AllPairs-push}
 
-abbrev pub set_of : Stop → List Oid
+abbrev pub set_of : TrailStop → List Oid
 set_of stop = stop.set
 
 -- a trail that has grown by some stops, each of which is met
-pub record IsGrown (names : List (List ℕ × Oid)) (edges : List Edge) (trail stops : List Stop)
+pub record IsGrown (names : List (List ℕ × Oid)) (edges : List Edge) (trail stops : List TrailStop)
     (sets : List (List Oid)) : Type 0 where
-  pub grown : List Stop
+  pub grown : List TrailStop
   pub extends : Extends trail grown
   pub is : IsTrail names edges grown sets
-  pub from : (stop : Stop) → Contains grown stop → Contains trail stop ⊎ Contains stops stop
-  pub met : (stop : Stop) → Contains stops stop → IsMet grown stop
+  pub from : (stop : TrailStop) → Contains grown stop → Contains trail stop ⊎ Contains stops stop
+  pub met : (stop : TrailStop) → Contains stops stop → IsMet grown stop
 
 -- what was met stays so
-pub met-extends : (trail grown : List Stop) (stop : Stop) → Extends trail grown → IsMet trail stop → IsMet grown stop
+pub met-extends : (trail grown : List TrailStop) (stop : TrailStop) → Extends trail grown → IsMet trail stop → IsMet grown stop
 met-extends trail grown stop extends met = record {
   by = met.by;
-  found = subst (λ (l : List Stop). Contains l (record { path = met.by; set = stop.set })) (sym extends.1)
+  found = subst (λ (l : List TrailStop). Contains l (record { path = met.by; set = stop.set })) (sym extends.1)
       (Contains-append_left trail extends.0 (record { path = met.by; set = stop.set }) met.found);
   order = met.order;
 }
 
 module _ (names : List (List ℕ × Oid)) (edges : List Edge) where
-  push-trail : (trail : List Stop) (sets : List (List Oid)) (stop : Stop) → IsTrail names edges trail sets
+  push-trail : (trail : List TrailStop) (sets : List (List Oid)) (stop : TrailStop) → IsTrail names edges trail sets
       → LeadsTo names edges stop.path stop.set
-      → ((earlier : Stop) → Contains trail earlier → ComesBefore earlier.path stop.path) → (¬ Contains sets stop.set)
+      → ((earlier : TrailStop) → Contains trail earlier → ComesBefore earlier.path stop.path) → (¬ Contains sets stop.set)
       → IsTrail names edges (trail ++ stop ∷ []) (sets ++ stop.set ∷ [])
   push-trail trail sets stop is leads before fresh = record {
     found = map_push set_of trail stop ∙ ap (λ (l : List (List Oid)). l ++ stop.set ∷ []) is.found;
-    leads = All-push (λ (s : Stop). LeadsTo names edges s.path s.set) trail stop is.leads leads;
-    ascending = AllPairs-push (λ (a b : Stop). ComesBefore a.path b.path) trail stop is.ascending before;
+    leads = All-push (λ (s : TrailStop). LeadsTo names edges s.path s.set) trail stop is.leads leads;
+    ascending = AllPairs-push (λ (a b : TrailStop). ComesBefore a.path b.path) trail stop is.ascending before;
     apart =
         AllPairs-push (λ (a b : List Oid). (a ≡ b) → ⊥) sets stop.set is.apart
         (λ set there same. fresh (subst (λ (s : List Oid). Contains sets s) same there));
   }
 
   -- a set that was found is met by what comes later
-  met-there : (trail : List Stop) (sets : List (List Oid)) (stop : Stop) → map set_of trail ≡ sets
+  met-there : (trail : List TrailStop) (sets : List (List Oid)) (stop : TrailStop) → map set_of trail ≡ sets
       → Contains sets stop.set
-      → ((earlier : Stop) → Contains trail earlier → ComesBefore earlier.path stop.path) → IsMet trail stop
+      → ((earlier : TrailStop) → Contains trail earlier → ComesBefore earlier.path stop.path) → IsMet trail stop
   met-there trail sets stop found there before =
       let from =
       Contains-from_map set_of trail stop.set (subst (λ (l : List (List Oid)). Contains l stop.set) (sym found) there) in
@@ -64,9 +64,9 @@ module _ (names : List (List ℕ × Oid)) (edges : List Edge) where
         order = inr (before from.0 from.1);
       }
 
-  pub trail-entered : (stops trail : List Stop) (sets new : List (List Oid)) → IsTrail names edges trail sets
+  pub trail-entered : (stops trail : List TrailStop) (sets new : List (List Oid)) → IsTrail names edges trail sets
       → All (λ stop. LeadsTo names edges stop.path stop.set) stops → AllPairs (λ a b. ComesBefore a.path b.path) stops
-      → ((earlier later : Stop) → Contains trail earlier → Contains stops later → ComesBefore earlier.path later.path)
+      → ((earlier later : TrailStop) → Contains trail earlier → Contains stops later → ComesBefore earlier.path later.path)
       → AreEntered sets (map set_of stops) new → IsGrown names edges trail stops new
   trail-entered [] trail sets new is leads ascending before entered = record {
     grown = trail;
@@ -76,8 +76,8 @@ module _ (names : List (List ℕ × Oid)) (edges : List Edge) where
     met = λ stop there. absurd (Contains-none stop there);
   }
   trail-entered (first ∷ stops) trail sets new is leads ascending before entered =
-      let later_leads = All-tail (λ (stop : Stop). LeadsTo names edges stop.path stop.set) first stops leads in
-      let later_ascend = AllPairs-tail (λ (a b : Stop). ComesBefore a.path b.path) first stops ascending in
+      let later_leads = All-tail (λ (stop : TrailStop). LeadsTo names edges stop.path stop.set) first stops leads in
+      let later_ascend = AllPairs-tail (λ (a b : TrailStop). ComesBefore a.path b.path) first stops ascending in
       elim entered.1 [
         | inl there ↦
             let rest = trail-entered stops trail sets new is later_leads later_ascend
@@ -92,7 +92,7 @@ module _ (names : List (List ℕ × Oid)) (edges : List Edge) where
                 | inr late ↦ inr (Contains-tail first stops stop late)
               ];
               met = λ stop at. elim (Contains-cases first stops stop at) [
-                | inl same ↦ subst (λ (s : Stop). IsMet rest.grown s) same
+                | inl same ↦ subst (λ (s : TrailStop). IsMet rest.grown s) same
                     (met-extends trail rest.grown first rest.extends
                     (met-there trail sets first is.found there.0 (λ earlier in_trail. before earlier first in_trail
                     (Contains-head first stops))))
@@ -101,15 +101,15 @@ module _ (names : List (List ℕ × Oid)) (edges : List Edge) where
             }
         | inr fresh ↦
             let pushed =
-            push-trail trail sets first is (All-head (λ (stop : Stop). LeadsTo names edges stop.path stop.set) first
+            push-trail trail sets first is (All-head (λ (stop : TrailStop). LeadsTo names edges stop.path stop.set) first
             stops leads)
             (λ earlier at. before earlier first at (Contains-head first stops)) fresh.0 in
             let rest =
             trail-entered stops (trail ++ first ∷ []) (sets ++ first.set ∷ []) new pushed later_leads later_ascend
             (λ earlier later at in_stops. elim (Contains-push_cases trail first earlier at) [
               | inl old ↦ before earlier later old (Contains-tail first stops later in_stops)
-              | inr same ↦ subst (λ (s : Stop). ComesBefore s.path later.path) same
-                  (AllPairs-head (λ (a b : Stop). ComesBefore a.path b.path) first stops ascending later in_stops)
+              | inr same ↦ subst (λ (s : TrailStop). ComesBefore s.path later.path) same
+                  (AllPairs-head (λ (a b : TrailStop). ComesBefore a.path b.path) first stops ascending later in_stops)
             ])
             (subst (λ (l : List (List Oid)). AreEntered l (map set_of stops) new) fresh.1 entered.2) in
             record {
@@ -119,12 +119,12 @@ module _ (names : List (List ℕ × Oid)) (edges : List Edge) where
               from = λ stop at. elim (rest.from stop at) [
                 | inl old ↦ elim (Contains-push_cases trail first stop old) [
                   | inl older ↦ inl older
-                  | inr same ↦ inr (subst (λ (s : Stop). Contains (first ∷ stops) s) same (Contains-head first stops))
+                  | inr same ↦ inr (subst (λ (s : TrailStop). Contains (first ∷ stops) s) same (Contains-head first stops))
                 ]
                 | inr late ↦ inr (Contains-tail first stops stop late)
               ];
               met = λ stop at. elim (Contains-cases first stops stop at) [
-                | inl same ↦ subst (λ (s : Stop). IsMet rest.grown s) same (record {
+                | inl same ↦ subst (λ (s : TrailStop). IsMet rest.grown s) same (record {
                   by = first.path;
                   found = Contains-extends (trail ++ first ∷ []) rest.grown first rest.extends (Contains-push trail first);
                   order = inl refl;

@@ -1,5 +1,5 @@
 -- Which target sets a change touches, and what is read of the graph after it.
-use Rattle.std.specs.Prelude.{◌≡◌, ◌≢◌, ◌↔◌, ◌⊎◌, ℕ, ◌+◌, ◌≤◌, List, length, map, sum_by, All, AllPairs}
+use Rattle.std.specs.Prelude.{◌≡◌, ◌≢◌, ◌↔◌, ◌⊎◌, ℕ, ◌+◌, ◌≤◌, List, [], length, map, sum_by, All, AllPairs}
 use Rattle.std.specs.Prelude.{Contains}
 use Rattle.std.specs.List.{AllZip}
 use Rattle.lore_base.specs.Deltas.{ListsOnlyIn}
@@ -20,7 +20,7 @@ parents_of edges = map (λ edge. edge.parent) edges
 abbrev pub Meet : List Oid → List Oid → Type 0
 Meet set other = (oid : Oid) × Contains set oid × Contains other oid
 
--- the set has to be read: no node had it, or it has a dirty member, one that edges left which are no more
+-- the change touches the set: no node had it, or it has a dirty member, one that edges left which are no more
 abbrev pub IsTouched : List (List Oid) → List Oid → List Oid → Type 0
 IsTouched kept dirty set = (¬ Contains kept set) ⊎ Meet set dirty
 
@@ -38,14 +38,15 @@ pub record IsExtended (dirty grown own more set : List Oid) : Type 0 where
   pub others : ListsInOrder (λ oid. Contains set oid × (¬ Contains own oid)) more
 
 -- what is read of a set: all of it; or, of one that no node had, what it has beside a node's set that is part of it and that
--- no lost and no fresh edge leaves
+-- no lost and no fresh edge leaves; or nothing, of one that a node had
 abbrev pub IsRead : List (List Oid) → List Oid → List Oid → List Oid → List Oid → Type 0
 IsRead kept dirty grown set read =
     (read ≡ set)
-    ⊎ ((¬ Contains kept set) × ((own : List Oid) × Contains kept own × IsExtended dirty grown own read set))
+    ⊎ (((¬ Contains kept set) × ((own : List Oid) × Contains kept own × IsExtended dirty grown own read set))
+    ⊎ (Contains kept set × (read ≡ [])))
 
--- the steps that were counted are those of reading once, of each touched one among the sets, all of it or what it was
--- extended by
+-- the steps that were counted are those of reading once, of each touched one among the sets, all of it, what it was extended
+-- by, or nothing where a node had it
 pub record ReadsTouched (kept : List (List Oid)) (dirty grown : List Oid) (edges : List Edge)
     (sets : List (List Oid)) (before now : ℕ) : Type 0 where
   pub touched : List (List Oid)
@@ -55,7 +56,7 @@ pub record ReadsTouched (kept : List (List Oid)) (dirty grown : List Oid) (edges
   pub counted : now ≡ before + sum_by (reads_of edges) read
 
 -- the steps that were counted are those of reading once, of each of some touched sets that label paths lead to, at most as
--- many as the limit, all of it or what it was extended by
+-- many as the limit, all of it, what it was extended by, or nothing where a node had it
 pub record ReadsSome (kept : List (List Oid)) (dirty grown : List Oid) (limit : ℕ) (names : List (List ℕ × Oid))
     (edges : List Edge) (before now : ℕ) : Type 0 where
   pub sets : List (List Oid)

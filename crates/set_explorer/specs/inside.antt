@@ -4,3 +4,4 @@ pub mod HashLists
 pub mod Trails
 pub mod Founds
 pub mod Gains
+pub mod Losses

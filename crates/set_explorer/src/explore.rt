@@ -11,13 +11,14 @@ ghost use Rattle.set_explorer.specs.PlannedNodes.{IsOrigin, origin_set};
 ghost use Rattle.set_explorer.specs.inside.Trails.{IsExpanded};
 ghost use Rattle.set_explorer.specs.inside.Founds.{IsFound, found_nodes, found_sets, steps_of};
 ghost use Rattle.set_explorer.specs.inside.Founds.{Costs, IsHalted};
-ghost use Rattle.set_explorer.specs.Changes.{IsChange};
+ghost use Rattle.set_explorer.specs.Changes.{IsChange, IsToldChange};
 
 use crate::changes::Change;
 use crate::faults::GuideFault;
 use crate::found::{Found, enter_all};
 use crate::gains::{in_both, united_targets};
 use crate::growth::{Bases, extended_targets, members_more, node_before, note_bases, noted};
+use crate::losses::told_targets;
 use crate::nodes::{GuideNode, Node, node_of};
 use crate::planned_nodes::Origin;
 use index_traits::Adjacent;
@@ -170,7 +171,36 @@ fn kept_or_grown<A: Adjacent>(
     Ok(targets)
 }
 
-// The targets of a node before: read where its set has a dirty member.
+// The targets of a node before whose set has a dirty member: by its own edges, where it is told what enters
+// the children of those that it lost, and else read.
+fn told_or_read<A: Adjacent, L: Ledger>(
+    alloc: Global,
+    reader: &mut StepReader,
+    change: &Change<A>,
+    there: &GuideNode,
+    steps: &mut Steps<L>,
+) -> Result<Vec<(Label, Origin)>, NoMemory>
+    requires told { IsToldChange change.now.guide.nodes.now change.now.lost.now
+        change.now.fresh.now (A.edges change.now.after.now) change.now.told.now
+        change.now.entering.now change.now.dirty.now change.now.grown.now change.now.back.now }
+    requires there { Contains change.now.guide.nodes.now there.now }
+    ensures steps { IfOk result (λ targets. AreSteps (A.edges change.now.after.now) there.now.set
+        (steps_of change.now.guide.nodes.now targets.items)) }
+    ensures there { IfOk result (λ targets.
+        All (λ target. IsOrigin change.now.guide.nodes.now target.1) targets.items) }
+    ensures reads { OnOk result ((read : List TheOid)
+        × IsRead (sets_of change.now.guide.nodes.now) change.now.dirty.now change.now.grown.now
+        there.now.set read
+        × (steps.new ≡ steps.old + reads_of (A.edges change.now.after.now) read)) }
+{
+    if let Some(told) = told_targets(alloc, reader, change, there)? {
+        return Ok(told);
+    }
+    let targets = read_targets(alloc, reader, change.after, &there.set, steps)?;
+    Ok(targets)
+}
+
+// The targets of a node before: told or read where its set has a dirty member.
 fn kept_or_read<A: Adjacent, L: Ledger>(
     alloc: Global,
     reader: &mut StepReader,
@@ -178,8 +208,9 @@ fn kept_or_read<A: Adjacent, L: Ledger>(
     node: Node,
     steps: &mut Steps<L>,
 ) -> Result<Vec<(Label, Origin)>, NoMemory>
-    requires stood { IsChange change.now.guide.nodes.now change.now.dirty.now change.now.grown.now
-        change.now.fresh.now (A.edges change.now.after.now) }
+    requires told { IsToldChange change.now.guide.nodes.now change.now.lost.now
+        change.now.fresh.now (A.edges change.now.after.now) change.now.told.now
+        change.now.entering.now change.now.dirty.now change.now.grown.now change.now.back.now }
     requires there { node.0 < length change.now.guide.nodes.now }
     ensures steps { IfOk result (λ targets. AreSteps (A.edges change.now.after.now)
         (origin_set change.now.guide.nodes.now (Kept node))
@@ -193,15 +224,15 @@ fn kept_or_read<A: Adjacent, L: Ledger>(
 {
     let there = node_of(change.guide.nodes, node);
     if there.set.meets(change.dirty) {
-        let targets = read_targets(alloc, reader, change.after, &there.set, steps)?;
+        let targets = told_or_read(alloc, reader, change, there, steps)?;
         return Ok(targets);
     }
     let targets = kept_or_grown(alloc, reader, change, there)?;
     Ok(targets)
 }
 
-// The targets of the node at a place: those of the guide before where its set was a node's and
-// has no dirty member, and else read from the graph, all or what the base's set was extended by.
+// The targets of the node at a place: those of the guide before where its set was a node's, as far as they
+// are told, and else read from the graph, all or what the base's set was extended by.
 fn targets_at<A: Adjacent, L: Ledger>(
     alloc: Global,
     found: &Found,
@@ -211,8 +242,9 @@ fn targets_at<A: Adjacent, L: Ledger>(
     reader: &mut StepReader,
     steps: &mut Steps<L>,
 ) -> Result<Vec<(Label, Origin)>, NoMemory>
-    requires stood { IsChange change.now.guide.nodes.now change.now.dirty.now change.now.grown.now
-        change.now.fresh.now (A.edges change.now.after.now) }
+    requires told { IsToldChange change.now.guide.nodes.now change.now.lost.now
+        change.now.fresh.now (A.edges change.now.after.now) change.now.told.now
+        change.now.entering.now change.now.dirty.now change.now.grown.now change.now.back.now }
     requires found { IsFound change.now.guide.nodes.now found.now }
     requires place { place < length found.now.nodes.items }
     ensures steps { IfOk result (λ targets. (set : List TheOid)
@@ -259,8 +291,9 @@ pub(crate) fn expand<A: Adjacent, L: Ledger>(
     limit: u32,
     steps: &mut Steps<L>,
 ) -> Result<(), GuideFault>
-    requires stood { IsChange change.now.guide.nodes.now change.now.dirty.now change.now.grown.now
-        change.now.fresh.now (A.edges change.now.after.now) }
+    requires told { IsToldChange change.now.guide.nodes.now change.now.lost.now
+        change.now.fresh.now (A.edges change.now.after.now) change.now.told.now
+        change.now.entering.now change.now.dirty.now change.now.grown.now change.now.back.now }
     requires hashed { IsHashed change.now.guide.by_hash.now change.now.guide.nodes.now }
     requires found { IsFound change.now.guide.nodes.now found.old }
     requires fit { KeepLimits limit (found_sets change.now.guide.nodes.now found.old) }

@@ -7,7 +7,7 @@ ghost use Rattle.set_explorer.specs.Nodes.{AreNodesOf, IsEntry, AreAscendingEntr
 ghost use Rattle.set_explorer.specs.Touched.{ReadsTouched, ReadsSome};
 ghost use Rattle.set_explorer.specs.PlannedNodes.{nodes_then, KeepsOnce};
 ghost use Rattle.set_explorer.specs.HashedNodes.{IsHashed};
-ghost use Rattle.set_explorer.specs.Changes.{IsChange};
+ghost use Rattle.set_explorer.specs.Changes.{IsToldChange};
 ghost use Rattle.set_explorer.specs.GuideCauses.{GuideCause};
 
 use crate::changes::Change;
@@ -35,8 +35,9 @@ pub struct Explored {
 /// `Nodes` and `Cells` exactly where the first set that passes a limit passes this one; `NoMemory`
 /// where memory was refused. A set is read once, where it is no node's or has a dirty member: all of
 /// it, or, where the node noted for it has no dirty and no grown member and a part of it, the other
-/// members; so also where the answer is a refusal. Another set has the steps of its node, and what
-/// the fresh edges add to them.
+/// members, or, where it is a node's and of the children of its lost edges it is told what enters
+/// them, nothing; so also where the answer is a refusal. A set that isn't read has the steps of its
+/// node, without what lost edges take from them and with what the fresh ones add.
 pub fn explore_sets<A: Adjacent, L: Ledger>(
     alloc: Global,
     change: &Change<A>,
@@ -44,8 +45,9 @@ pub fn explore_sets<A: Adjacent, L: Ledger>(
     limit: u32,
     steps: &mut Steps<L>,
 ) -> Result<Explored, GuideFault>
-    requires stood { IsChange change.now.guide.nodes.now change.now.dirty.now change.now.grown.now
-        change.now.fresh.now (A.edges change.now.after.now) }
+    requires told { IsToldChange change.now.guide.nodes.now change.now.lost.now
+        change.now.fresh.now (A.edges change.now.after.now) change.now.told.now
+        change.now.entering.now change.now.dirty.now change.now.grown.now change.now.back.now }
     requires hashed { IsHashed change.now.guide.by_hash.now change.now.guide.nodes.now }
     ensures nodes { IfOk result (λ explored. AreNodesOf names.now (A.edges change.now.after.now)
         (nodes_then change.now.guide.nodes.now explored.nodes.items)) }

@@ -66,7 +66,7 @@ fn push_labels<T>(labels: &mut Word, row: &[(Label, T)]) -> Result<(), NoMemory>
 }
 
 // The labels of both rows, each once, in ascending order.
-fn labels_of(
+pub(crate) fn labels_of(
     alloc: Global,
     edges: &[(Label, Node)],
     row: &[(Label, OidSet)],
@@ -106,7 +106,7 @@ fn grown_set(
 }
 
 // Whether the set has all of the objects.
-fn has_all(set: &OidSet, oids: &[Oid]) -> bool
+pub(crate) fn has_all(set: &OidSet, oids: &[Oid]) -> bool
     ensures { IsTrue result → All (Contains set.now) oids.now }
 {
     'oids: for oid in oids {
@@ -158,7 +158,7 @@ fn node_or_grown(
 
 // Where a label leads: to the kept node of its edge, where no step has the label or its set has all of
 // the step, and else to the set of that node with the objects of the step.
-fn united(
+pub(crate) fn united(
     alloc: Global,
     kept: &[GuideNode],
     edges: &[(Label, Node)],

@@ -2,10 +2,11 @@
 //! DataGuide (Goldman and Widom 1997).
 //!
 //! The graph is read as an automaton over labels, and made deterministic. After a change the nodes that
-//! stood before tell the steps of sets that kept their edges; the others are read.
+//! stood before tell the steps of sets that kept their edges, and of those that lost some where it is told
+//! what else leads to the children of these; the others are read.
 #![tactic(auto)]
 
-pub use changes::Change;
+pub use changes::{Change, Entered};
 pub use exploring::{Explored, explore_sets};
 pub use faults::GuideFault;
 pub use fill::{Filled, fill_nodes};
@@ -22,5 +23,6 @@ mod found;
 mod gains;
 mod growth;
 mod hash_lists;
+mod losses;
 mod nodes;
 mod planned_nodes;

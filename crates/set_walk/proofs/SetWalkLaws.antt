@@ -10,10 +10,10 @@ use Rattle.lore_base.specs.Paths.{PathTree}
 use Rattle.lore_base.specs.TargetSets.{ListsInOrder}
 use Rattle.lore_base.proofs.MemberLaws.{Contains-none}
 use Rattle.lore_base.proofs.TargetLaws.{ListsInOrder-same}
-use Rattle.graph_search.specs.Closures.{IsMet, LeadAlong, LeadsOn, IsClosure, Lists}
+use Rattle.graph_search.specs.Closures.{IsMet, LeadAlong, LeadsFromPlace, IsClosure, Lists}
 use Rattle.graph_search.proofs.MeetingLaws.{IsMet-none, IsMet-one, IsMet-append_left, IsMet-append_right}
 use Rattle.graph_search.proofs.MeetingLaws.{IsMet-append_cases}
-use Rattle.path_expr.specs.Machines.{Machine, IsIn, Runs, StepsTo, IsStep, StandsFor}
+use Rattle.path_expr.specs.Machines.{Machine, IsIn, MovesThrough, StepsTo, IsStep, Recognises}
 use Rattle.set_walk.specs.Types.{Oid, Label, States, StateMarks, END}
 use Rattle.index_traits.specs.Counts.{IsCount}
 use Rattle.set_walk.specs.SetPaths.{LeadsAlong, IsReachedBySets}
@@ -67,7 +67,7 @@ module _ {N : Type 0} (labels : List (List ℕ)) (machine : Machine) (states : S
       (old new : List (N × StateMarks))
       → ((label : Label) (next : N) → Contains edges (label, next) ↔ goes from label next)
       → Lists HasState (IsNext labels machine edges states) old new
-      → Lists HasState (LeadsOn HasState (Leads goes labels machine) (from, marks states)) old new
+      → Lists HasState (LeadsFromPlace HasState (Leads goes labels machine) (from, marks states)) old new
   next-all goes from edges old new shown lists = record {
     more = lists.more;
     is = lists.is;
@@ -175,14 +175,14 @@ none-so-far places (Some only) is ends = absurd (true≢false (sym is))
 -- ---- a way through the product is a word that leads along the edges and is read
 module _ {N : Type 0} (goes : N → Label → N → Type 0) (labels : List (List ℕ)) (machine : Machine) where
   word-of : (way : List (N × ℕ)) (here there : N × ℕ) → LeadAlong (Leads goes labels machine) here way there
-      → (word : List Label) × Runs labels machine here.1 word there.1 × LeadsAlong goes here.0 word there.0
+      → (word : List Label) × MovesThrough labels machine here.1 word there.1 × LeadsAlong goes here.0 word there.0
   word-of [] here there same = ([], ap (λ p. p.1) same, ap (λ p. p.0) same)
   word-of (next ∷ way) here there along =
       let step = along.0 in
       let rest = word-of way next there along.1 in
       (step.0 ∷ rest.0, (next.1, step.2, rest.1), (next.0, step.1, rest.2))
 
-  way-of : (word : List Label) (here there : N × ℕ) → Runs labels machine here.1 word there.1
+  way-of : (word : List Label) (here there : N × ℕ) → MovesThrough labels machine here.1 word there.1
       → LeadsAlong goes here.0 word there.0
       → (way : List (N × ℕ)) × LeadAlong (Leads goes labels machine) here way there
   way-of [] here there runs leads = ([], λ i. (leads i, runs i))
@@ -193,7 +193,7 @@ module _ {N : Type 0} (goes : N → Label → N → Type 0) (labels : List (List
 
   -- so what is met at the end is what the graph of sets tells
   pub ended-reached : (has : N → Oid → Type 0) (path : PathTree) (start : Option N) (starts met : List (N × StateMarks))
-      → StandsFor machine path → AreStarts start machine.start starts
+      → Recognises machine path → AreStarts start machine.start starts
       → IsClosure HasState (Leads goes labels machine) starts met → (oid : Oid)
       → IsEnded has met oid ↔ IsReachedBySets labels goes has path start oid
   ended-reached has path start starts met stands begin closure oid = (

@@ -1,5 +1,5 @@
 ghost use Rattle.std.specs.Prelude.{◌≡◌, ◌↔◌, ◌+◌, ◌≤◌, IfOk, OnOk, OnErr};
-ghost use Rattle.graph_search.specs.Closures.{LeadsOn, Lists};
+ghost use Rattle.graph_search.specs.Closures.{LeadsFromPlace, Lists};
 ghost use Rattle.lore_base.specs.Lists.{ExtendsBy};
 ghost use Rattle.lore_base.specs.Paths.{path_tree, leaves};
 ghost use Rattle.lore_base.specs.TargetSets.{ListsInOrder};
@@ -83,7 +83,7 @@ impl<'a, G: SetGraph, T: LabelTest> Space<()> for SetWalk<'a, G, T> {
         out: &mut Vec<(G::Node, StateMarks)>,
         steps: &mut (),
     ) -> Result<(), NoMemory>
-        ensures next { OnOk result (Lists HasState (LeadsOn HasState
+        ensures next { OnOk result (Lists HasState (LeadsFromPlace HasState
             (Leads (G.goes self.old.graph.now) (T.texts self.old.labels.now)
             self.old.automaton.now) place) out.old.items out.new.items) }
         ensures steps { OnOk result

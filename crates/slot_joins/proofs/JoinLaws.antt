@@ -27,7 +27,7 @@ use Rattle.slot_joins.specs.Types.{Oid, Label, Edge, Value, Whole, Complex, Eq, 
 use Rattle.slot_joins.specs.Types.bound_starts
 use Rattle.index_eval.specs.Indexes.{AreIndexes}
 use Rattle.slot_joins.specs.declared.joins.Join.{Join}
-use Rattle.slot_joins.specs.inside.Joins.{IsJoinIn, IsJoinFor, JoinsPaths, IsTableOf, AddsJoins, FitsBy, IsToldBy}
+use Rattle.slot_joins.specs.inside.Joins.{IsJoinIn, IsJoinFor, JoinsPaths, IsTableOf, AddsJoins, FitsBy, IsToldByJoin}
 
 -- How a join comes about.
 
@@ -174,14 +174,14 @@ fits_found edges objects join row from own (Err error) start lists partners = tt
 
 pub told_by : (edges : List Edge) (objects : List (Oid × Value)) (joins : List Join) (join : Join) (known : List Bool) (slot : ℕ) (row : List Oid)
     (found : Option (List Oid)) → Contains joins join → join.slot ≡ slot → slice_get known join.start ≡ Some true
-    → IfSome found (FitsBy edges objects join row) → IfSome found (IsToldBy edges objects joins known slot row)
+    → IfSome found (FitsBy edges objects join row) → IfSome found (IsToldByJoin edges objects joins known slot row)
 told_by edges objects joins join known slot row (Some oids) among is given fits =
     record { join = join; among = among; slot_is = is; known_is = given; fits = fits }
 told_by edges objects joins join known slot row None among is given fits = tt
 
 -- what a join of the condition tells is what fits
 fits_told : (edges : List Edge) (objects : List (Oid × Value)) (Passes : List Oid → Type 0) (joins : List Join) (known : List Bool) (slot : ℕ)
-    (row oids : List Oid) → All (IsJoinFor edges objects Passes) joins → IsToldBy edges objects joins known slot row oids
+    (row oids : List Oid) → All (IsJoinFor edges objects Passes) joins → IsToldByJoin edges objects joins known slot row oids
     → AreAllThatFit Passes known slot row oids
 fits_told edges objects Passes joins known slot row oids all told = record {
   ascend = told.fits.ascend;
@@ -193,7 +193,7 @@ fits_told edges objects Passes joins known slot row oids all told = record {
 
 pub fits_joined : {E : Type 0} (edges : List Edge) (objects : List (Oid × Value)) (Passes : List Oid → Type 0) (joins : List Join) (known : List Bool)
     (slot : ℕ) (row : List Oid) (result : Result (Option (List Oid)) E) → All (IsJoinFor edges objects Passes) joins
-    → IfOk result (λ found. IfSome found (IsToldBy edges objects joins known slot row))
+    → IfOk result (λ found. IfSome found (IsToldByJoin edges objects joins known slot row))
     → IfOk result (λ found. IfSome found (AreAllThatFit Passes known slot row))
 fits_joined edges objects Passes joins known slot row (Ok (Some oids)) all told = fits_told edges objects Passes joins known slot row oids all told
 fits_joined edges objects Passes joins known slot row (Ok None) all told = tt

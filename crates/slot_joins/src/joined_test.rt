@@ -5,9 +5,9 @@ ghost use Rattle.lorel_bound.specs.SlotRows.{HoldsOver};
 ghost use Rattle.index_eval.specs.Indexes.{AreIndexes};
 ghost use Rattle.slot_joins.specs.Types.{Oid as TheOid};
 
+use crate::indexed::Indexed;
 use crate::joins::{Join, fitting_by};
 use crate::members::{joins_of, no_joins};
-use crate::sources::Sources;
 use index_traits::{Adjacent, Links, Row, RowTest, ValueOf, Values};
 use lore_base::limits::RANGES;
 use lore_base::{NoMemory, OidBuf, Steps};
@@ -54,24 +54,24 @@ impl<'a, T: RowTest + Drop, G: Adjacent + ValueOf> JoinedTest<'a, T, G> {
     pub fn joined<K: Links, V: Values, L: Ledger>(
         alloc: Global,
         test: T,
-        sources: &Sources<'a, G, K, V>,
+        indexed: &Indexed<'a, G, K, V>,
         cond: &BoundCond,
         slots: &[u32],
         count: u32,
         steps: &mut Steps<L>,
     ) -> Result<JoinedTest<'a, T, G>, NoMemory>
-        requires indexes { AreIndexes (G.objects sources.now.graph.now)
-            (G.edges sources.now.graph.now) (K.edges sources.now.links.now)
-            (V.entries sources.now.values.now) }
+        requires indexes { AreIndexes (G.objects indexed.now.graph.now)
+            (G.edges indexed.now.graph.now) (K.edges indexed.now.links.now)
+            (V.entries indexed.now.values.now) }
         requires passes { (row : List TheOid) → T.passes test row
-            → HoldsOver sources.now.labels.now (G.edges sources.now.graph.now)
-            (G.objects sources.now.graph.now) row (Some (bound_cond cond.now)) }
+            → HoldsOver indexed.now.labels.now (G.edges indexed.now.graph.now)
+            (G.objects indexed.now.graph.now) row (Some (bound_cond cond.now)) }
         ensures { IfOk result (λ joined. joined ≡ test) }
     {
-        let joins = joins_of(alloc, sources, cond, slots, count, steps)?;
+        let joins = joins_of(alloc, indexed, cond, slots, count, steps)?;
         Ok(JoinedTest {
             test,
-            graph: sources.graph,
+            graph: indexed.graph,
             joins,
         })
     }

@@ -1,15 +1,14 @@
 ghost use Rattle.std.specs.Prelude.{◌≡◌, Some, true, slice_get, IsTrue, IfOk, IfSome};
-ghost use Rattle.slot_joins.specs.inside.Joins.{FitsBy, IsToldBy};
+ghost use Rattle.slot_joins.specs.inside.Joins.{FitsBy, IsToldByJoin};
 
 use index_traits::{Adjacent, Row, ValueOf};
 use join_tables::JoinTable;
 use lore_base::limits::RANGES;
-use lore_base::{NoMemory, Oid, OidBuf, Steps};
+use lore_base::{NoMemory, OidBuf, Steps};
+use lorel_eval::{in_slot, is_marked};
 use std::alloc::Global;
 use std::sync::ledger::Ledger;
 use word_walks::{OnlyWord, Reached};
-
-const LAST_SLOT: u32 = RANGES as u32 - 1;
 
 // How many objects a table may tell for a row: so few that another member of the condition can't
 // save much by telling fewer.
@@ -35,7 +34,7 @@ pub(crate) fn fitting_by<G: Adjacent + ValueOf, L: Ledger>(
     row: &Row,
     steps: &mut Steps<L>,
 ) -> Result<Option<OidBuf>, NoMemory>
-    ensures { IfOk result (λ found. IfSome found (IsToldBy (G.edges graph.now)
+    ensures { IfOk result (λ found. IfSome found (IsToldByJoin (G.edges graph.now)
         (G.objects graph.now) joins.now known.now slot row.now)) }
 {
     'joins: for join in joins {
@@ -60,15 +59,6 @@ fn is_asked(join: &Join, known: &[bool; RANGES], slot: u32) -> bool
     is_marked(known, join.start)
 }
 
-fn is_marked(known: &[bool; RANGES], slot: u32) -> bool
-    ensures { IsTrue result → slice_get known.now slot ≡ Some true }
-{
-    match known.get(slot as usize) {
-        Some(mark) => *mark,
-        None => false,
-    }
-}
-
 // The objects that fit the row by the join; None where its other slot leads to a value that is no
 // whole number, and where they are many.
 fn partners_of<G: Adjacent + ValueOf, L: Ledger>(
@@ -88,12 +78,4 @@ fn partners_of<G: Adjacent + ValueOf, L: Ledger>(
     own.walk(graph, &join.word, from, steps)?;
     join.table
         .partners(alloc, graph, own.as_slice(), MOST_FOR_A_ROW)
-}
-
-// The object in the slot; None where there are not so many.
-fn in_slot(row: &Row, slot: u32) -> Option<Oid>
-    ensures { result ≡ slice_get row.now slot }
-{
-    let oid = row.get(slot.min(LAST_SLOT));
-    if slot <= LAST_SLOT { Some(oid) } else { None }
 }

@@ -5,12 +5,12 @@
 //! `joins` has what one tells of a row; `joined_test` is a test that has some.
 #![tactic(auto)]
 
+pub use indexed::Indexed;
 pub use joined_test::JoinedTest;
-pub use sources::Sources;
 pub use worth::{fewest_of, may_be_joined};
 
+mod indexed;
 mod joined_test;
 mod joins;
 mod members;
-mod sources;
 mod worth;

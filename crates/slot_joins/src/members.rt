@@ -8,8 +8,8 @@ ghost use Rattle.slot_joins.specs.Types.bound_starts;
 ghost use Rattle.slot_joins.specs.inside.Joins.{IsJoinIn, JoinsPaths, AddsJoins};
 ghost use Rattle.slot_joins.specs.inside.Joins.{IsTableOf};
 
+use crate::indexed::Indexed;
 use crate::joins::Join;
-use crate::sources::Sources;
 use crate::worth::{joins_slots, paths_of};
 use index_traits::{Adjacent, Links, ValueOf, Values};
 use join_tables::JoinTable;
@@ -34,21 +34,21 @@ pub(crate) fn no_joins(alloc: Global) -> Vec<Join>
 /// that pay where so many rows are found.
 pub(crate) fn joins_of<G: Adjacent + ValueOf, K: Links, V: Values, L: Ledger>(
     alloc: Global,
-    sources: &Sources<'_, G, K, V>,
+    indexed: &Indexed<'_, G, K, V>,
     cond: &BoundCond,
     slots: &[u32],
     count: u32,
     steps: &mut Steps<L>,
 ) -> Result<Vec<Join>, NoMemory>
-    requires indexes { AreIndexes (G.objects sources.now.graph.now) (G.edges sources.now.graph.now)
-        (K.edges sources.now.links.now) (V.entries sources.now.values.now) }
-    ensures { IfOk result (λ joins. All (IsJoinIn sources.now.labels.now
-        (G.edges sources.now.graph.now) (G.objects sources.now.graph.now)
+    requires indexes { AreIndexes (G.objects indexed.now.graph.now) (G.edges indexed.now.graph.now)
+        (K.edges indexed.now.links.now) (V.entries indexed.now.values.now) }
+    ensures { IfOk result (λ joins. All (IsJoinIn indexed.now.labels.now
+        (G.edges indexed.now.graph.now) (G.objects indexed.now.graph.now)
         (Some (bound_cond cond.now))) joins.items) }
 {
     let mut joins = no_joins(alloc);
     let mut room = count.saturating_mul(OBJECTS_FOR_EACH) as usize;
-    push_joins(alloc, sources, cond, slots, &mut room, &mut joins, steps)?;
+    push_joins(alloc, indexed, cond, slots, &mut room, &mut joins, steps)?;
     Ok(joins)
 }
 
@@ -56,24 +56,24 @@ pub(crate) fn joins_of<G: Adjacent + ValueOf, K: Links, V: Values, L: Ledger>(
 // take of the room that is left.
 fn push_joins<G: Adjacent + ValueOf, K: Links, V: Values, L: Ledger>(
     alloc: Global,
-    sources: &Sources<'_, G, K, V>,
+    indexed: &Indexed<'_, G, K, V>,
     cond: &BoundCond,
     slots: &[u32],
     room: &mut usize,
     joins: &mut Vec<Join>,
     steps: &mut Steps<L>,
 ) -> Result<(), NoMemory>
-    requires indexes { AreIndexes (G.objects sources.now.graph.now) (G.edges sources.now.graph.now)
-        (K.edges sources.now.links.now) (V.entries sources.now.values.now) }
-    ensures { OnOk result (AddsJoins sources.now.labels.now
-        (G.edges sources.now.graph.now) (G.objects sources.now.graph.now)
+    requires indexes { AreIndexes (G.objects indexed.now.graph.now) (G.edges indexed.now.graph.now)
+        (K.edges indexed.now.links.now) (V.entries indexed.now.values.now) }
+    ensures { OnOk result (AddsJoins indexed.now.labels.now
+        (G.edges indexed.now.graph.now) (G.objects indexed.now.graph.now)
         (bound_cond cond.now) joins.old.items joins.new.items) }
 {
     match cond {
         BoundCond::And(members) => {
             push_each(
                 alloc,
-                sources,
+                indexed,
                 members.as_slice(),
                 slots,
                 room,
@@ -81,27 +81,27 @@ fn push_joins<G: Adjacent + ValueOf, K: Links, V: Values, L: Ledger>(
                 steps,
             )
         }
-        _ => push_join(alloc, sources, cond, slots, room, joins, steps),
+        _ => push_join(alloc, indexed, cond, slots, room, joins, steps),
     }
 }
 
 fn push_each<G: Adjacent + ValueOf, K: Links, V: Values, L: Ledger>(
     alloc: Global,
-    sources: &Sources<'_, G, K, V>,
+    indexed: &Indexed<'_, G, K, V>,
     members: &[BoundCond],
     slots: &[u32],
     room: &mut usize,
     joins: &mut Vec<Join>,
     steps: &mut Steps<L>,
 ) -> Result<(), NoMemory>
-    requires indexes { AreIndexes (G.objects sources.now.graph.now) (G.edges sources.now.graph.now)
-        (K.edges sources.now.links.now) (V.entries sources.now.values.now) }
-    ensures { OnOk result (AddsJoins sources.now.labels.now
-        (G.edges sources.now.graph.now) (G.objects sources.now.graph.now)
+    requires indexes { AreIndexes (G.objects indexed.now.graph.now) (G.edges indexed.now.graph.now)
+        (K.edges indexed.now.links.now) (V.entries indexed.now.values.now) }
+    ensures { OnOk result (AddsJoins indexed.now.labels.now
+        (G.edges indexed.now.graph.now) (G.objects indexed.now.graph.now)
         (and (conds_from (map bound_cond members.now))) joins.old.items joins.new.items) }
 {
     'members: for member in members {
-        push_join(alloc, sources, member, slots, room, joins, steps)?;
+        push_join(alloc, indexed, member, slots, room, joins, steps)?;
     }
     Ok(())
 }
@@ -110,17 +110,17 @@ fn push_each<G: Adjacent + ValueOf, K: Links, V: Values, L: Ledger>(
 // is made: such a one may tell fewer objects, and would not be asked.
 fn push_join<G: Adjacent + ValueOf, K: Links, V: Values, L: Ledger>(
     alloc: Global,
-    sources: &Sources<'_, G, K, V>,
+    indexed: &Indexed<'_, G, K, V>,
     cond: &BoundCond,
     slots: &[u32],
     room: &mut usize,
     joins: &mut Vec<Join>,
     steps: &mut Steps<L>,
 ) -> Result<(), NoMemory>
-    requires indexes { AreIndexes (G.objects sources.now.graph.now) (G.edges sources.now.graph.now)
-        (K.edges sources.now.links.now) (V.entries sources.now.values.now) }
-    ensures { OnOk result (AddsJoins sources.now.labels.now
-        (G.edges sources.now.graph.now) (G.objects sources.now.graph.now)
+    requires indexes { AreIndexes (G.objects indexed.now.graph.now) (G.edges indexed.now.graph.now)
+        (K.edges indexed.now.links.now) (V.entries indexed.now.values.now) }
+    ensures { OnOk result (AddsJoins indexed.now.labels.now
+        (G.edges indexed.now.graph.now) (G.objects indexed.now.graph.now)
         (bound_cond cond.now) joins.old.items joins.new.items) }
 {
     if !joins_slots(cond) {
@@ -129,7 +129,7 @@ fn push_join<G: Adjacent + ValueOf, K: Links, V: Values, L: Ledger>(
     let Some((left, right)) = paths_of(cond) else {
         return Ok(());
     };
-    let Some(join) = join_of(alloc, sources, left, right, slots, *room, steps)? else {
+    let Some(join) = join_of(alloc, indexed, left, right, slots, *room, steps)? else {
         *room = 0;
         return Ok(());
     };
@@ -141,23 +141,23 @@ fn push_join<G: Adjacent + ValueOf, K: Links, V: Values, L: Ledger>(
 // The join of two paths, from the one whose slot comes first.
 fn join_of<G: Adjacent + ValueOf, K: Links, V: Values, L: Ledger>(
     alloc: Global,
-    sources: &Sources<'_, G, K, V>,
+    indexed: &Indexed<'_, G, K, V>,
     left: &BoundPath,
     right: &BoundPath,
     slots: &[u32],
     room: usize,
     steps: &mut Steps<L>,
 ) -> Result<Option<Join>, NoMemory>
-    requires indexes { AreIndexes (G.objects sources.now.graph.now) (G.edges sources.now.graph.now)
-        (K.edges sources.now.links.now) (V.entries sources.now.values.now) }
-    ensures { IfOk result (λ found. IfSome found (IsJoinIn sources.now.labels.now
-        (G.edges sources.now.graph.now) (G.objects sources.now.graph.now)
+    requires indexes { AreIndexes (G.objects indexed.now.graph.now) (G.edges indexed.now.graph.now)
+        (K.edges indexed.now.links.now) (V.entries indexed.now.values.now) }
+    ensures { IfOk result (λ found. IfSome found (IsJoinIn indexed.now.labels.now
+        (G.edges indexed.now.graph.now) (G.objects indexed.now.graph.now)
         (Some (compare (at (bound_path left.now)) Eq (at (bound_path right.now)))))) }
 {
     if is_before(slots, left, right) {
-        join_by(alloc, sources, left, right, room, steps)
+        join_by(alloc, indexed, left, right, room, steps)
     } else {
-        join_by(alloc, sources, right, left, room, steps)
+        join_by(alloc, indexed, right, left, room, steps)
     }
 }
 
@@ -177,25 +177,25 @@ fn is_before(slots: &[u32], path: &BoundPath, other: &BoundPath) -> bool {
 // The join from the slot of one path to another slot, where both paths are plain labels.
 fn join_by<G: Adjacent + ValueOf, K: Links, V: Values, L: Ledger>(
     alloc: Global,
-    sources: &Sources<'_, G, K, V>,
+    indexed: &Indexed<'_, G, K, V>,
     own: &BoundPath,
     sought: &BoundPath,
     room: usize,
     steps: &mut Steps<L>,
 ) -> Result<Option<Join>, NoMemory>
-    requires indexes { AreIndexes (G.objects sources.now.graph.now) (G.edges sources.now.graph.now)
-        (K.edges sources.now.links.now) (V.entries sources.now.values.now) }
-    ensures { IfOk result (λ found. IfSome found (JoinsPaths sources.now.labels.now
-        (G.edges sources.now.graph.now) (G.objects sources.now.graph.now)
+    requires indexes { AreIndexes (G.objects indexed.now.graph.now) (G.edges indexed.now.graph.now)
+        (K.edges indexed.now.links.now) (V.entries indexed.now.values.now) }
+    ensures { IfOk result (λ found. IfSome found (JoinsPaths indexed.now.labels.now
+        (G.edges indexed.now.graph.now) (G.objects indexed.now.graph.now)
         (bound_path own.now) (bound_path sought.now))) }
 {
     let Some((start, slot)) = slots_of(own, sought) else {
         return Ok(None);
     };
-    let Some(word) = only_word(alloc, &own.rest, sources.labels)? else {
+    let Some(word) = only_word(alloc, &own.rest, indexed.labels)? else {
         return Ok(None);
     };
-    let Some(table) = table_of(alloc, sources, &sought.rest, room, steps)? else {
+    let Some(table) = table_of(alloc, indexed, &sought.rest, room, steps)? else {
         return Ok(None);
     };
     Ok(Some(Join {
@@ -227,24 +227,24 @@ fn slots_of(own: &BoundPath, sought: &BoundPath) -> Option<(u32, u32)>
 // labels: each label may list as many again.
 fn table_of<G: Adjacent + ValueOf, K: Links, V: Values, L: Ledger>(
     alloc: Global,
-    sources: &Sources<'_, G, K, V>,
+    indexed: &Indexed<'_, G, K, V>,
     path: &Path,
     room: usize,
     steps: &mut Steps<L>,
 ) -> Result<Option<JoinTable>, NoMemory>
-    requires indexes { AreIndexes (G.objects sources.now.graph.now) (G.edges sources.now.graph.now)
-        (K.edges sources.now.links.now) (V.entries sources.now.values.now) }
-    ensures { IfOk result (λ found. IfSome found (IsTableOf sources.now.labels.now
-        (K.edges sources.now.links.now) (V.entries sources.now.values.now)
+    requires indexes { AreIndexes (G.objects indexed.now.graph.now) (G.edges indexed.now.graph.now)
+        (K.edges indexed.now.links.now) (V.entries indexed.now.values.now) }
+    ensures { IfOk result (λ found. IfSome found (IsTableOf indexed.now.labels.now
+        (K.edges indexed.now.links.now) (V.entries indexed.now.values.now)
         (path_tree path.now))) }
 {
-    let Some(only) = only_word(alloc, path, sources.labels)? else {
+    let Some(only) = only_word(alloc, path, indexed.labels)? else {
         return Ok(None);
     };
     let OnlyWord::Labels(word) = only else {
         return Ok(None);
     };
-    let (graph, links, values) = (sources.graph, sources.links, sources.values);
+    let (graph, links, values) = (indexed.graph, indexed.links, indexed.values);
     let most = room / word.len().max(1);
     JoinTable::new(alloc, graph, links, values, word.as_slice(), most, steps)
 }

@@ -11,7 +11,7 @@ use Rattle.oem_changes.proofs.SameLaws.{same-back}
 use Rattle.lorel_trees.specs.Trees.{StatementTree, load, unname, generate}
 use Rattle.lore_store.specs.Faults.{refusal_of}
 use Rattle.lore_store.specs.Reads.{ReadsWithinWork}
-use Rattle.lore_store.specs.Stores.{order}
+use Rattle.lore_store.specs.Stores.{store_order}
 use Rattle.lore_store.specs.declared.faults.StoreFault.{StoreFault}
 use Rattle.lore_store.specs.declared.faults.StoreFault.TheVariants as faults
 use Rattle.lore_store.proofs.SameReadLaws.{reads_within-same}
@@ -67,17 +67,17 @@ module _ (db : Database) (statement : StatementTree) where
         reads_within-same changes (effects db statement []) (same-back (effects db statement []) changes alike) db.graph old now start
 
     module _ (Cause : Refusal → Type 0) (fault : StoreFault) (reads : (fault ≡ faults.NoMemory → ⊥) → ReadsWithinWork db.graph changes mid now) where
-      told_within : (told : Option Refusal) → refusal_of fault ≡ told → IsToldBy Cause order told
+      told_within : (told : Option Refusal) → refusal_of fault ≡ told → IsToldBy Cause store_order told
           → IfSome told (λ refusal. ListsUnread statement → ReadsToRefuse db statement refusal old now)
       told_within None is first = tt
       told_within (Some refusal) is first = λ unread.
-          inr (first_listed Cause order refusal first, effects_within (reads (no_want fault refusal is)) unread)
+          inr (first_listed Cause store_order refusal first, effects_within (reads (no_want fault refusal is)) unread)
 
       pub stops_within : {T : Type 0} (result : Result T Stop) → IsErrAnd result (λ stop. told stop ≡ refusal_of fault)
-          → IsToldBy Cause order (refusal_of fault)
+          → IsToldBy Cause store_order (refusal_of fault)
           → IfErr result (λ stop. IfSome (told stop) (λ refusal. ListsUnread statement → ReadsToRefuse db statement refusal old now))
       stops_within (Ok value) given first = tt
-      stops_within (Err ended) given first = told_within (told ended) (sym given) (subst (IsToldBy Cause order) (sym given) first)
+      stops_within (Err ended) given first = told_within (told ended) (sym given) (subst (IsToldBy Cause store_order) (sym given) first)
 
   module _ (old now : ℕ) where
     -- ---- a stop that is handed on, from the database that is kept

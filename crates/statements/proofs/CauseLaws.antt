@@ -141,7 +141,7 @@ module _ (db : Database) (valid : IsValid db) (name : List ℕ) (literal : Liter
   load_between : IsClear (Cause db load_tree) (refusals.TooManyRows ∷ refusals.NotOne ∷ refusals.AtomicParent ∷ refusals.HasChildren ∷ [])
   load_between = (λ h. h, (λ h. h, (λ h. made_anew h.1.2, (λ h. no_value h.1.2, tt))))
 
-  load_alike : AreAlike (text.Cause db.labels db.graph.next literal) (Cause db load_tree) text.order
+  load_alike : AreAlike (text.PartCause db.labels db.graph.next literal) (Cause db load_tree) text.part_order
   load_alike =
       let count = length-objects_of db.graph.next literal in (
         (λ h. h, λ h. h),
@@ -154,22 +154,22 @@ module _ (db : Database) (valid : IsValid db) (name : List ℕ) (literal : Liter
         ),
       )
 
-  pub load_told : (told : Option Refusal) → IsToldBy (text.Cause db.labels db.graph.next literal) text.order told → IsToldBy (Cause db load_tree) cause_order told
+  pub load_told : (told : Option Refusal) → IsToldBy (text.PartCause db.labels db.graph.next literal) text.part_order told → IsToldBy (Cause db load_tree) cause_order told
   load_told told h =
       let back = refusals.OidsSpent ∷ refusals.TooManyLabels ∷ [] in
       let middle = refusals.TooManyRows ∷ refusals.NotOne ∷ refusals.AtomicParent ∷ refusals.HasChildren ∷ [] in
       told_left (Cause db load_tree) fit_order (sizes ++ late) told
       (told_right (Cause db load_tree) bound_order (locals ++ (middle ++ back)) told load_binds
       (told_between (Cause db load_tree) locals middle back told load_between
-      (told_alike (text.Cause db.labels db.graph.next literal) (Cause db load_tree) text.order told load_alike h)))
+      (told_alike (text.PartCause db.labels db.graph.next literal) (Cause db load_tree) text.part_order told load_alike h)))
 
-  pub load_clear : IsClear (text.Cause db.labels db.graph.next literal) text.order → IsClear (Cause db load_tree) fit_order
+  pub load_clear : IsClear (text.PartCause db.labels db.graph.next literal) text.part_order → IsClear (Cause db load_tree) fit_order
   load_clear h =
       let back = refusals.OidsSpent ∷ refusals.TooManyLabels ∷ [] in
       let middle = refusals.TooManyRows ∷ refusals.NotOne ∷ refusals.AtomicParent ∷ refusals.HasChildren ∷ [] in
       clear_both (Cause db load_tree) bound_order (locals ++ (middle ++ back)) load_binds
       (clear_between (Cause db load_tree) locals middle back load_between
-      (clear_alike (text.Cause db.labels db.graph.next literal) (Cause db load_tree) text.order load_alike h))
+      (clear_alike (text.PartCause db.labels db.graph.next literal) (Cause db load_tree) text.part_order load_alike h))
 
 -- ---- names
 module _ (db : Database) (valid : IsValid db) where

@@ -16,7 +16,7 @@ use Rattle.statements.specs.Types.{Cell, Changes, Refusal, Reply, Rows}
 use Rattle.statements.specs.Types.refusals
 use Rattle.statements.specs.Forms.{MakesChanges, IsChanging}
 use Rattle.statements.specs.Effects.{effects}
-use Rattle.statements.specs.Statements.{Cause, cause_order, Counts, MakesItsChanges, Performs, Executes}
+use Rattle.statements.specs.Statements.{Cause, cause_order, Counts, MakesItsChanges, Fulfils, Executes}
 use Rattle.statements.specs.Made.{IsMade}
 use Rattle.statements.specs.Uncounted.{ReadsNoEdge}
 use Rattle.statements.specs.inside.Listed.{ListsChanges}
@@ -87,7 +87,7 @@ same_as a b is = subst (λ (c : Changes). AreSame a c) (sym is) (record {
 
 -- what a statement does where it makes changes
 changing_performs : (db : Database) (statement : StatementTree) → MakesChanges statement → (reply : Reply) (after : Database)
-    → MakesItsChanges db statement reply after → Performs db statement reply after
+    → MakesItsChanges db statement reply after → Fulfils db statement reply after
 changing_performs db (t.load name literal) changing reply after h = h
 changing_performs db (t.bind name path) changing reply after h = h
 changing_performs db (t.unname name) changing reply after h = h

@@ -1,11 +1,7 @@
 pub mod AllEdgesLaws
 pub mod ShallowLaws
 pub mod ObjectRowLaws
-pub mod SlotLaws
 pub mod SelectLaws
-pub mod StageLaws
-pub mod HintedLaws
-pub mod SomeReadLaws
 pub mod LabelFitLaws
 pub mod LiteralLaws
 pub mod FitLaws

@@ -14,7 +14,7 @@ use Rattle.oem_text.proofs.NumberedLaws.{numbered-append, numbered_live, numbere
 use Rattle.lorel_trees.specs.Trees.{LiteralTree, local, atom, node, MemberTrees, none, more}
 use Rattle.lorel_trees.specs.Formed.{IsFormedLiteral, AreFormedMembers}
 use Rattle.statements.specs.Types.{Oid, Value, Complex}
-use Rattle.oem_text.specs.Literals.{Body, Target, placed, called, Arc, bodies, member_bodies, target, arcs, member_arcs, arcs_of, labels_of, IsMarkedAt, HasUndefined, is_mark, marked_place, place_of, numbered, objects_of, edge_at, edges_of}
+use Rattle.oem_text.specs.Literals.{Body, Target, placed, called, Arc, bodies, member_bodies, target, arcs, member_arcs, arcs_of, labels_of, IsMarkedAt, HasUndefined, is_mark, marked_place, target_place, numbered, objects_of, edge_at, edges_of}
 
 -- each item of the one list is in the other
 abbrev pub Within : {X : Type 0} → List X → List X → Type 0
@@ -178,17 +178,17 @@ some_body (atom mark value) defined = omega arith
 some_body (node mark members) defined = omega arith
 
 child_below : (literal : LiteralTree) → (HasUndefined literal → ⊥) → (arc : Arc) → Contains (arcs_of literal) arc
-    → place_of (bodies literal) arc.target < length (bodies literal)
+    → target_place (bodies literal) arc.target < length (bodies literal)
 child_below literal defined arc there = by arc.target refl
   where
-    by : (end : Target) → arc.target ≡ end → place_of (bodies literal) arc.target < length (bodies literal)
+    by : (end : Target) → arc.target ≡ end → target_place (bodies literal) arc.target < length (bodies literal)
     by (placed place) is =
         let same : 0 + length (bodies literal) ≡ length (bodies literal) = omega arith in
         let low = All-contains (LeadsBelow (0 + length (bodies literal))) (arcs_of literal) arc (arcs_below 0 literal) there place is in
-        let at : place_of (bodies literal) arc.target ≡ place = ap (place_of (bodies literal)) is in
+        let at : target_place (bodies literal) arc.target ≡ place = ap (target_place (bodies literal)) is in
         omega (arith, low, at, same)
     by (called number) is =
-        let at : place_of (bodies literal) arc.target ≡ marked_place (bodies literal) number = ap (place_of (bodies literal)) is in
+        let at : target_place (bodies literal) arc.target ≡ marked_place (bodies literal) number = ap (target_place (bodies literal)) is in
         elim (marked_or_not (bodies literal) number) [
           | inl low ↦ omega (arith, low, at)
           | inr nowhere ↦ absurd (defined (record {
@@ -210,10 +210,10 @@ edges_linked objects next table literal defined within =
     (All-from_members (λ arc. IsLinked objects (edge_at next table (bodies literal) arc)) (arcs_of literal) (λ arc there.
     let low = child_below literal defined arc there in
     let count = length-map (bodies literal) (λ (body : Body). body.value) in
-    let live = numbered_live next (values_of (bodies literal)) (place_of (bodies literal) arc.target) (omega (arith, low, count)) in
+    let live = numbered_live next (values_of (bodies literal)) (target_place (bodies literal) arc.target) (omega (arith, low, count)) in
     record {
       parent = All-contains (LeavesComplex objects next) (arcs_of literal) arc leave there;
-      child = (live.0, within (oid_of (next + place_of (bodies literal) arc.target), live.0) live.1);
+      child = (live.0, within (oid_of (next + target_place (bodies literal) arc.target), live.0) live.1);
     }))
 
 pub first_live : (next : ℕ) (literal : LiteralTree) → (HasUndefined literal → ⊥) → IsLive (objects_of next literal) (oid_of next)

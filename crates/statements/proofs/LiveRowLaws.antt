@@ -14,7 +14,7 @@ use Rattle.lore_base.proofs.ListLaws.{AllPairs-head, AllPairs-tail}
 use Rattle.lorel_trees.specs.Trees.{RootedTree, TailTree, SelectTree}
 use Rattle.lorel_trees.specs.UpdateRows.{target_select, pair_select}
 use Rattle.lorel_ranges.specs.Places.{Place, scope_of, place_of, cell_places}
-use Rattle.lorel_ranges.specs.Ranges.{Range, places, ArePlain}
+use Rattle.lorel_ranges.specs.Ranges.{PlacedRange, places, ArePlain}
 use Rattle.lorel_bind.specs.Answers.{Leads, IsValuation, IsRow}
 use Rattle.lorel_bound.specs.CellOrder.{row_cmp, rows_total}
 use Rattle.lorel_ranges.specs.Texts.{text_places, ranged_identifiers}
@@ -50,7 +50,7 @@ module _ (db : Database) (valid : IsValid db) (query : SelectTree) (somewhere : 
   bound : All (λ place. IsBoundName db.graph.names place.root) (text_places query)
   bound = names_bound db.graph.names query somewhere
 
-  module _ (plain : List Range) (at : Place → Oid) (valuation : IsValuation db plain at) where
+  module _ (plain : List PlacedRange) (at : Place → Oid) (valuation : IsValuation db plain at) where
     place_live : (earlier : List Place) → ((place : Place) → Contains earlier place → IsLive db.graph.objects (at place)) → (place : Place)
         → IsKnown db.graph.names earlier place → IsLive db.graph.objects (at place)
     place_live earlier live place (inr there) = live place there
@@ -60,7 +60,7 @@ module _ (db : Database) (valid : IsValid db) (query : SelectTree) (somewhere : 
         subst (IsLive db.graph.objects) (sym here)
         (All-contains (λ (e : List ℕ × Oid). IsLive db.graph.objects e.1) db.graph.names (h.0, h.1) valid.restorable.rooted.well_formed.names_live entry)
 
-    ranges_live : (earlier : List Place) (ranges : List Range) → AreOrdered earlier ranges
+    ranges_live : (earlier : List Place) (ranges : List PlacedRange) → AreOrdered earlier ranges
         → All (λ range. IsBoundName db.graph.names range.start.root) ranges
         → All (λ range. Leads db range.parts (at range.start) (at range.place)) ranges
         → ((place : Place) → Contains earlier place → IsLive db.graph.objects (at place))
@@ -68,13 +68,13 @@ module _ (db : Database) (valid : IsValid db) (query : SelectTree) (somewhere : 
     ranges_live earlier [] ordered names reached live place there =
         live place (subst (λ (l : List Place). Contains l place) (append-nil earlier) there)
     ranges_live earlier (range ∷ others) ordered names reached live place there =
-        let known = known_found db.graph.names earlier range.start ordered.0.found (All-head (λ (r : Range). IsBoundName db.graph.names r.start.root) range others names) in
-        let leads = All-head (λ (r : Range). Leads db r.parts (at r.start) (at r.place)) range others reached in
+        let known = known_found db.graph.names earlier range.start ordered.0.found (All-head (λ (r : PlacedRange). IsBoundName db.graph.names r.start.root) range others names) in
+        let leads = All-head (λ (r : PlacedRange). Leads db r.parts (at r.start) (at r.place)) range others reached in
         let own = walk_live db.graph valid.restorable.rooted.well_formed (at range.start) (place_live earlier live range.start known) leads.0 (at range.place) leads.2 in
         let all : (earlier ++ range.place ∷ []) ++ places others ≡ earlier ++ places (range ∷ others) = append_assoc earlier (range.place ∷ []) (places others) in
         ranges_live (earlier ++ range.place ∷ []) others ordered.1
-        (All-tail (λ (r : Range). IsBoundName db.graph.names r.start.root) range others names)
-        (All-tail (λ (r : Range). Leads db r.parts (at r.start) (at r.place)) range others reached)
+        (All-tail (λ (r : PlacedRange). IsBoundName db.graph.names r.start.root) range others names)
+        (All-tail (λ (r : PlacedRange). Leads db r.parts (at r.start) (at r.place)) range others reached)
         (one_more earlier live range.place own) place (subst (λ (l : List Place). Contains l place) (sym all) there)
       where
         one_more : (earlier : List Place) → ((place : Place) → Contains earlier place → IsLive db.graph.objects (at place)) → (next : Place)

@@ -44,19 +44,19 @@ part_makes db name labels next table number values texts edges_by part is_made i
 
 module _ (db : Database) (valid : IsValid db) (name : List ℕ) (literal : LiteralTree) (labels : List (List ℕ)) (next : ℕ)
     (table : labels ≡ db.labels) (number : next ≡ db.graph.next) where
-  pub part_told : (told : Option Refusal) → IsToldBy (text.Cause labels next literal) text.order told → IsToldBy (Cause db (t.load name literal)) cause_order told
+  pub part_told : (told : Option Refusal) → IsToldBy (text.PartCause labels next literal) text.part_order told → IsToldBy (Cause db (t.load name literal)) cause_order told
   part_told told h =
       load_told db valid name literal told
-      (subst (λ (n : ℕ). IsToldBy (text.Cause db.labels n literal) text.order told) number
-      (subst (λ (l : List (List ℕ)). IsToldBy (text.Cause l next literal) text.order told) table h))
+      (subst (λ (n : ℕ). IsToldBy (text.PartCause db.labels n literal) text.part_order told) number
+      (subst (λ (l : List (List ℕ)). IsToldBy (text.PartCause l next literal) text.part_order told) table h))
 
-  part_clear : IsClear (text.Cause labels next literal) text.order → IsClear (Cause db (t.load name literal)) fit_order
+  part_clear : IsClear (text.PartCause labels next literal) text.part_order → IsClear (Cause db (t.load name literal)) fit_order
   part_clear h =
       load_clear db valid name literal
-      (subst (λ (n : ℕ). IsClear (text.Cause db.labels n literal) text.order) number
-      (subst (λ (l : List (List ℕ)). IsClear (text.Cause l next literal) text.order) table h))
+      (subst (λ (n : ℕ). IsClear (text.PartCause db.labels n literal) text.part_order) number
+      (subst (λ (l : List (List ℕ)). IsClear (text.PartCause l next literal) text.part_order) table h))
 
-  pub part_lists : (part : Part) → IsPart labels next literal part → IsClear (text.Cause labels next literal) text.order
+  pub part_lists : (part : Part) → IsPart labels next literal part → IsClear (text.PartCause labels next literal) text.part_order
       → (changes : Changes) → changes ≡ loading_part name part → ListsChanges db (t.load name literal) changes
   part_lists part is clear changes made = record {
     changing = tt;

@@ -10,7 +10,7 @@ use Rattle.lorel_trees.specs.Trees as t
 use Rattle.lorel_trees.specs.Trees.{SelectTree, StatementTree}
 use Rattle.lorel_trees.specs.UpdateRows.{target_select, pair_select}
 use Rattle.lorel_ranges.specs.Places.{Place, CellPlace, object, scope_of, place_of, cells_of}
-use Rattle.lorel_ranges.specs.Ranges.{Range}
+use Rattle.lorel_ranges.specs.Ranges.{PlacedRange}
 use Rattle.lorel_bind.specs.Answers.{ShowsCell, IsRow, IsAnswer}
 use Rattle.updates.specs.Effects.{Pair}
 use Rattle.statements.specs.Types.{Oid, Cell}
@@ -44,7 +44,7 @@ one_lists (x ∷ xs) (y ∷ ys) same =
 
 -- ---- rows
 -- where the cells show objects the row is those of their places
-pub shown_objects : (db : Database) (ranges : List Range) (at : Place → Oid) (all : List Place) (row : List Cell)
+pub shown_objects : (db : Database) (ranges : List PlacedRange) (at : Place → Oid) (all : List Place) (row : List Cell)
     → AllZip (ShowsCell db ranges at) (map object all) row → row ≡ object_cells (map at all)
 shown_objects db ranges at [] [] shown = refl
 shown_objects db ranges at [] (cell ∷ row) shown = absurd shown

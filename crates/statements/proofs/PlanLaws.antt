@@ -18,9 +18,9 @@ use Rattle.guide_query.specs.GuideReaches.{GuideOver, TellsReached, TellsOf}
 use Rattle.lore_store.specs.Stores.{IsGuided}
 use Rattle.lorel_trees.specs.Trees.{SelectTree}
 use Rattle.lorel_ranges.specs.Places.{Place}
-use Rattle.lorel_ranges.specs.Ranges.{Range}
+use Rattle.lorel_ranges.specs.Ranges.{PlacedRange}
 use Rattle.lorel_bound.specs.Bound.{RangeTree, BoundTree}
-use Rattle.lorel_bind.specs.Bindings.{StandsFor as StandsForPlace, IsBoundRange, IsBinding}
+use Rattle.lorel_bind.specs.Bindings.{IsStartOfPlace, IsBoundRange, IsBinding}
 use Rattle.lorel_bound.specs.Plans.{IsChain}
 use Rattle.index_traits.specs.Entries.{AreValueEntries}
 use Rattle.planner.specs.Choices.{AreCounts}
@@ -31,12 +31,12 @@ use Rattle.statements.specs.inside.Starts.{IsNamedStart, HasNamedStarts}
 use Rattle.statements.proofs.LiveRowLaws.{walk_live}
 
 -- ---- ranges start at names
-start_named : (names : List (List ℕ × Oid)) (fused : List Range) (place : Place) (start : Start) → StandsForPlace names fused place start
+start_named : (names : List (List ℕ × Oid)) (fused : List PlacedRange) (place : Place) (start : Start) → IsStartOfPlace names fused place start
     → IsNamedStart names start
 start_named names fused place (starts.Named oid) h = (h.0, found_bound names h.0 oid h.2)
 start_named names fused place (starts.Slot slot) h = tt
 
-ranges_named : (names : List (List ℕ × Oid)) (fused ranges : List Range) (bound : List RangeTree)
+ranges_named : (names : List (List ℕ × Oid)) (fused ranges : List PlacedRange) (bound : List RangeTree)
     → AllZip (IsBoundRange names fused) ranges bound → All (λ range. IsNamedStart names range.start) bound
 ranges_named names fused [] [] zip = All-nil (λ (range : RangeTree). IsNamedStart names range.start)
 ranges_named names fused [] (first ∷ others) zip = absurd zip

@@ -86,15 +86,15 @@ module _ (db : Database) (statement : StatementTree) (quiet : MakesChanges state
     nameless : Cause db statement refusals.UnknownName → ⊥
     nameless h = elim h [
       | inl missing ↦ named missing
-      | inr unknown ↦ unbound (λ query. binding.Cause db.graph.names query refusals.UnknownName) unknown
+      | inr unknown ↦ unbound (λ query. binding.BindCause db.graph.names query refusals.UnknownName) unknown
     ]
 
     behind_name : IsClear (Cause db statement) behind_order
     behind_name = (
-      unbound (λ query. binding.Cause db.graph.names query refusals.UnknownVariable),
+      unbound (λ query. binding.BindCause db.graph.names query refusals.UnknownVariable),
       (
-        unbound (λ query. binding.Cause db.graph.names query refusals.DuplicateVariable),
-        (unbound (λ query. binding.Cause db.graph.names query refusals.TooManyRanges), behind_binding reading),
+        unbound (λ query. binding.BindCause db.graph.names query refusals.DuplicateVariable),
+        (unbound (λ query. binding.BindCause db.graph.names query refusals.TooManyRanges), behind_binding reading),
       ),
     )
 

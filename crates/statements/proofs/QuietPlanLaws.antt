@@ -19,16 +19,16 @@ use Rattle.lorel_bound.specs.Plans.{Probe, StepTree, from_value, steps_of, IsCha
 use Rattle.bind_laws.proofs.BindingLaws.{has_one_binding}
 use Rattle.planner.specs.Choices.{IsGivenCount, AreCounted}
 use Rattle.planner.proofs.OneLaws.{has_one_plan}
-use Rattle.plan_ops.specs.Steps.{StepsOver, Meets, Finishes, in_eight, IsSought, Agrees}
+use Rattle.plan_laws.specs.Steps.{StepsOver, Meets, Finishes, in_eight, IsSought, Agrees}
 use Rattle.plan_ops.specs.Types.{Plan}
 use Rattle.plan_ops.specs.Rows.{IsGuided, FindsNothing, AreQuiet}
-use Rattle.plan_ops.proofs.DescribeLaws.{plan_describes}
+use Rattle.plan_laws.proofs.DescribeLaws.{plan_describes}
+use Rattle.select_rows.specs.Views.{ReadsNone}
 use Rattle.statements.specs.Types.{Oid, Label, Value, Start, ValueEntry, PlanKind}
 use Rattle.statements.specs.Types.starts
 use Rattle.statements.specs.Types.plan_kinds
 use Rattle.statements.specs.Plans.{AreCountsOver, IsKindOver}
 use Rattle.statements.specs.Uncounted.{IsPlain, IsPlainSelect, IsQuietPlan, IsQuietBound, IsQuietSelect}
-use Rattle.statements.specs.inside.Views.{ReadsNone}
 use Rattle.statements.proofs.ExplainLaws.{one_counts, one_kind}
 
 -- ---- by the guide: one range at most, which starts at a name, and no condition

@@ -40,7 +40,7 @@ many_rows db query rows accepted apart there many =
     (answer.0, answer.1, within_answer rows answer.0 apart (there answer.0 answer.1) many)
 
 -- ---- binding
-pub bind_told : (db : Database) (query : SelectTree) (told : Option Refusal) → IsToldBy (binding.Cause db.graph.names query) binding.order told
+pub bind_told : (db : Database) (query : SelectTree) (told : Option Refusal) → IsToldBy (binding.BindCause db.graph.names query) binding.bind_order told
     → IsToldBy (ReadCause db query) bind_order told
 bind_told db query None h = tt
 bind_told db query (Some refusal) h = h
@@ -59,17 +59,17 @@ module _ (db : Database) (statement : StatementTree) (query : SelectTree)
 
   same_name : ReadCause db query refusals.UnknownName ↔ Cause db statement refusals.UnknownName
   same_name =
-      let of = of_binds (λ q. binding.Cause db.graph.names q refusals.UnknownName) in
+      let of = of_binds (λ q. binding.BindCause db.graph.names q refusals.UnknownName) in
       (λ h. inr (of.0 h), λ h. elim h [ inl unbound ↦ absurd (named unbound) | inr unknown ↦ of.1 unknown ])
 
   bind_alike : AreAlike (ReadCause db query) (Cause db statement) bind_order
   bind_alike = (
     same_name,
     (
-      of_binds (λ q. binding.Cause db.graph.names q refusals.UnknownVariable),
+      of_binds (λ q. binding.BindCause db.graph.names q refusals.UnknownVariable),
       (
-        of_binds (λ q. binding.Cause db.graph.names q refusals.DuplicateVariable),
-        (of_binds (λ q. binding.Cause db.graph.names q refusals.TooManyRanges), tt),
+        of_binds (λ q. binding.BindCause db.graph.names q refusals.DuplicateVariable),
+        (of_binds (λ q. binding.BindCause db.graph.names q refusals.TooManyRanges), tt),
       ),
     ),
   )

@@ -123,7 +123,7 @@ module _ (db : Database) (valid : IsValid db) (statement : StatementTree) (updat
   given = changes_by db.labels db.graph statement pairs
 
   abbrev Told : Refusal → Type 0
-  Told = updating.Cause db.labels db.graph statement pairs
+  Told = updating.UpdateCause db.labels db.graph statement pairs
 
   its : (refusal : Refusal) → DatabaseCause db given refusal ↔ ChangesCause db statement refusal
   its refusal =
@@ -179,7 +179,7 @@ module _ (db : Database) (valid : IsValid db) (statement : StatementTree) (updat
 -- what refuses the changes of an update, over its rows
 pub update_told : (db : Database) → IsValid db → (statement : StatementTree) → IsUpdate statement → (rows : List (List Oid)) → AreRowsOf db statement rows
     → IsClear (Cause db statement) found_order → (told : Option Refusal)
-    → IsToldBy (updating.Cause db.labels db.graph statement (map pair_of rows)) (updating.order statement) told → IsToldBy (Cause db statement) cause_order told
+    → IsToldBy (updating.UpdateCause db.labels db.graph statement (map pair_of rows)) (updating.update_order statement) told → IsToldBy (Cause db statement) cause_order told
 update_told db valid (t.assign target value tail) update rows are clear told h = plain_told db valid (t.assign target value tail) update rows are clear told h
 update_told db valid (t.add_new target label literal tail) update rows are clear told h =
     copy_told db valid (t.add_new target label literal tail) update rows are clear told h
@@ -191,21 +191,21 @@ update_told db valid _ update rows are clear told h = absurd (update refl)
 
 pub update_clear : (db : Database) → IsValid db → (statement : StatementTree) → IsUpdate statement → (rows : List (List Oid)) → AreRowsOf db statement rows
     → IsClear (Cause db statement) found_order
-    → IsClear (updating.Cause db.labels db.graph statement (map pair_of rows)) (updating.order statement) → IsClear (Cause db statement) fit_order
+    → IsClear (updating.UpdateCause db.labels db.graph statement (map pair_of rows)) (updating.update_order statement) → IsClear (Cause db statement) fit_order
 update_clear db valid (t.assign target value tail) update rows are clear h =
     let statement = t.assign target value tail in
     early_clear db valid statement update rows are clear
-    (clear_right (updating.Cause db.labels db.graph statement (map pair_of rows)) locals early h)
+    (clear_right (updating.UpdateCause db.labels db.graph statement (map pair_of rows)) locals early h)
 update_clear db valid (t.add_new target label literal tail) update rows are clear h =
     let statement = t.add_new target label literal tail in
-    let cause = updating.Cause db.labels db.graph statement (map pair_of rows) in
+    let cause = updating.UpdateCause db.labels db.graph statement (map pair_of rows) in
     early_clear db valid statement update rows are clear (clear_left cause early large (clear_right cause locals (early ++ large) h))
 update_clear db valid (t.add_link target label right tail) update rows are clear h =
     let statement = t.add_link target label right tail in
     early_clear db valid statement update rows are clear
-    (clear_right (updating.Cause db.labels db.graph statement (map pair_of rows)) locals early h)
+    (clear_right (updating.UpdateCause db.labels db.graph statement (map pair_of rows)) locals early h)
 update_clear db valid (t.remove target label right tail) update rows are clear h =
     let statement = t.remove target label right tail in
     early_clear db valid statement update rows are clear
-    (clear_right (updating.Cause db.labels db.graph statement (map pair_of rows)) locals early h)
+    (clear_right (updating.UpdateCause db.labels db.graph statement (map pair_of rows)) locals early h)
 update_clear db valid _ update rows are clear h = absurd (update refl)

@@ -66,14 +66,14 @@ module _ (db : Database) (valid : IsValid db) (statement : StatementTree) (updat
       (subst (λ (l : List Pair). HasTargets db.graph l) (sym is) (rows_targets db valid statement update rows are clear))
 
   -- what refuses the changes before they are made
-  pub pairs_told : (told : Option Refusal) → IsToldBy (updating.Cause table graph statement pairs) (updating.order statement) told
+  pub pairs_told : (told : Option Refusal) → IsToldBy (updating.UpdateCause table graph statement pairs) (updating.update_order statement) told
       → IsToldBy (Cause db statement) cause_order told
   pairs_told told h =
       update_told db valid statement update rows are clear told
-      (moved (λ l g p. IsToldBy (updating.Cause l g statement p) (updating.order statement) told) h)
+      (moved (λ l g p. IsToldBy (updating.UpdateCause l g statement p) (updating.update_order statement) told) h)
 
   pub pairs_list : (changes : Changes) → AreSame (changes_by table graph statement pairs) changes
-      → IsClear (updating.Cause table graph statement pairs) (updating.order statement) → ListsChanges db statement changes
+      → IsClear (updating.UpdateCause table graph statement pairs) (updating.update_order statement) → ListsChanges db statement changes
   pairs_list changes same left = record {
     changing = update_changes statement update;
     rows = rows;
@@ -83,5 +83,5 @@ module _ (db : Database) (valid : IsValid db) (statement : StatementTree) (updat
         (moved (λ l g p. AreSame (changes_by l g statement p) changes) same);
     clear =
         update_clear db valid statement update rows are clear
-        (moved (λ l g p. IsClear (updating.Cause l g statement p) (updating.order statement)) left);
+        (moved (λ l g p. IsClear (updating.UpdateCause l g statement p) (updating.update_order statement)) left);
   }

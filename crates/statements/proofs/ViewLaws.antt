@@ -12,9 +12,10 @@ use Rattle.lorel_bound.specs.Runnable.{IsRunnable}
 use Rattle.lorel_bound.specs.Plans.{steps_of, IsPlanOf}
 use Rattle.lorel_bound.specs.SlotRows.{IsSlotRow}
 use Rattle.plan_ops.specs.Types.{Plan}
-use Rattle.plan_ops.specs.Steps.{StepsOver, IsStartOf, Agrees}
+use Rattle.plan_laws.specs.Steps.{StepsOver, IsStartOf, Agrees}
 use Rattle.answers.specs.Asked.{AreRows, AreTooMany}
 use Rattle.answers.proofs.FoundLaws.{asked_rows, too_many_asked}
+use Rattle.select_rows.specs.Views.{view_over, IsRowOf, ReadsNone}
 use Rattle.statements.specs.Types.{Oid, Edge, ValueEntry, Cell, Refusal}
 use Rattle.statements.specs.Types.refusals
 use Rattle.statements.specs.Plans.{AreCountsOver, IsKindOver}
@@ -22,7 +23,6 @@ use Rattle.statements.specs.Types.plan_kinds
 use Rattle.statements.specs.Blocks.{TellsPaths}
 use Rattle.statements.specs.Uncounted.{IsPlain, IsQuietBound}
 use Rattle.statements.specs.inside.Starts.{IsNamedStart, HasNamedStarts}
-use Rattle.statements.specs.inside.Views.{view_over, IsRowOf, ReadsNone}
 use Rattle.statements.proofs.QuietPlanLaws.{plain_reads, quiet_reads}
 
 -- what a range starts at has a name

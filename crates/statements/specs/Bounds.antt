@@ -3,7 +3,7 @@ use Rattle.std.specs.Prelude.{◌≡◌, ◌⊎◌, ℕ, [], Contains}
 use Rattle.statements.specs.Types.{Refusal, Reply, Refused}
 use Rattle.lore_base.specs.Databases.{Database}
 use Rattle.lorel_trees.specs.Trees.{StatementTree, load, unname, generate}
-use Rattle.lore_store.specs.Stores.{order}
+use Rattle.lore_store.specs.Stores.{store_order}
 use Rattle.lore_store.specs.Reads.{ReadsWithinWork}
 use Rattle.statements.specs.Effects.{effects}
 
@@ -21,7 +21,7 @@ ReadsWithinEffects db statement old now = ReadsWithinWork db.graph (effects db s
 -- where it is refused nothing was read, unless it is for what the database would hold: then no more than that
 abbrev pub ReadsToRefuse : Database → StatementTree → Refusal → ℕ → ℕ → Type 0
 ReadsToRefuse db statement refusal old now =
-    (now ≡ old) ⊎ (Contains order refusal × ReadsWithinEffects db statement old now)
+    (now ≡ old) ⊎ (Contains store_order refusal × ReadsWithinEffects db statement old now)
 
 -- what was read until it is replied to
 abbrev pub ReadsToReply : Database → StatementTree → Reply → ℕ → ℕ → Type 0

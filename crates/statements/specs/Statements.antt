@@ -91,13 +91,13 @@ OfMakes statement Has = MatchOption (makes statement) ⊥ Has
 abbrev pub Cause : Database → StatementTree → Refusal → Type 0
 Cause db statement refusals.UnknownName =
     IsUnbound db statement
-    ⊎ OfBinds statement (λ query. binding.Cause db.graph.names query refusals.UnknownName)
+    ⊎ OfBinds statement (λ query. binding.BindCause db.graph.names query refusals.UnknownName)
 Cause db statement refusals.UnknownVariable =
-    OfBinds statement (λ query. binding.Cause db.graph.names query refusals.UnknownVariable)
+    OfBinds statement (λ query. binding.BindCause db.graph.names query refusals.UnknownVariable)
 Cause db statement refusals.DuplicateVariable =
-    OfBinds statement (λ query. binding.Cause db.graph.names query refusals.DuplicateVariable)
+    OfBinds statement (λ query. binding.BindCause db.graph.names query refusals.DuplicateVariable)
 Cause db statement refusals.TooManyRanges =
-    OfBinds statement (λ query. binding.Cause db.graph.names query refusals.TooManyRanges)
+    OfBinds statement (λ query. binding.BindCause db.graph.names query refusals.TooManyRanges)
 Cause db statement refusals.DuplicateLocal = OfMakes statement HasDouble
 Cause db statement refusals.UndefinedLocal = OfMakes statement HasUndefined
 Cause db statement refusals.TooManyRows = OfCounted statement (HasTooManyRows db)
@@ -190,33 +190,33 @@ abbrev pub Answers : Database → SelectTree → Reply → Database → Type 0
 Answers before query reply after =
     (after ≡ before) × ((rows : List (List Cell)) × (reply ≡ Rows rows) × IsAnswer before query rows)
 
-abbrev pub Performs : Database → StatementTree → Reply → Database → Type 0
-Performs before (select query) reply after = Answers before query reply after
-Performs before (explain query) reply after = Explains before query reply after
-Performs before guide reply after = Shows before reply after
-Performs before (browse start labels) reply after = Browses before start labels reply after
-Performs before (sample start labels count) reply after = Samples before start labels count reply after
-Performs before (set_nodes nodes) reply after = Limits before nodes reply after
-Performs before (set_plan mode) reply after = ChoosesBy before mode reply after
-Performs before dump reply after = Dumps before reply after
-Performs before (restore text) reply after = Restores text reply after
-Performs before (history on) reply after = ⊥
-Performs before (select_at moment query) reply after = ⊥
-Performs before (changes first last) reply after = ⊥
-Performs before blocks reply after = ShowsBlocks before reply after
-Performs before (blocks_of query) reply after = Answers before query reply after
-Performs before (watch name query) reply after = ⊥
-Performs before (unwatch name) reply after = ⊥
-Performs before (show name) reply after = ⊥
-Performs before statement reply after = MakesItsChanges before statement reply after
+abbrev pub Fulfils : Database → StatementTree → Reply → Database → Type 0
+Fulfils before (select query) reply after = Answers before query reply after
+Fulfils before (explain query) reply after = Explains before query reply after
+Fulfils before guide reply after = Shows before reply after
+Fulfils before (browse start labels) reply after = Browses before start labels reply after
+Fulfils before (sample start labels count) reply after = Samples before start labels count reply after
+Fulfils before (set_nodes nodes) reply after = Limits before nodes reply after
+Fulfils before (set_plan mode) reply after = ChoosesBy before mode reply after
+Fulfils before dump reply after = Dumps before reply after
+Fulfils before (restore text) reply after = Restores text reply after
+Fulfils before (history on) reply after = ⊥
+Fulfils before (select_at moment query) reply after = ⊥
+Fulfils before (changes first last) reply after = ⊥
+Fulfils before blocks reply after = ShowsBlocks before reply after
+Fulfils before (blocks_of query) reply after = Answers before query reply after
+Fulfils before (watch name query) reply after = ⊥
+Fulfils before (unwatch name) reply after = ⊥
+Fulfils before (show name) reply after = ⊥
+Fulfils before statement reply after = MakesItsChanges before statement reply after
 
 -- a refusal changes nothing
 abbrev pub Refuses : Refusal → Database → Reply → Database → Type 0
 Refuses refusal before reply after = (reply ≡ Refused refusal) × (after ≡ before)
 
--- one statement, its reply and the database after it: it is performed where no cause of a refusal applies, and the
+-- one statement, its reply and the database after it: it is fulfilled where no cause of a refusal applies, and the
 -- first that applies refuses it
 abbrev pub Executes : Database → StatementTree → Reply → Database → Type 0
 Executes before statement reply after =
-    (IsClear (Cause before statement) cause_order × Performs before statement reply after)
+    (IsClear (Cause before statement) cause_order × Fulfils before statement reply after)
     ⊎ ((refusal : Refusal) × IsFirst (Cause before statement) cause_order refusal × Refuses refusal before reply after)

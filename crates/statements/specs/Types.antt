@@ -17,7 +17,7 @@ pub use Rattle.lorel_bound.specs.declared.cells.Cell.TheVariants as cells
 pub use Rattle.lorel_bound.specs.declared.plans.PlanKind.{PlanKind}
 pub use Rattle.lorel_bound.specs.declared.plans.PlanKind.TheVariants as plan_kinds
 pub use Rattle.lore_base.specs.declared.limits.TheConstants.{LABELS, NAMES, OBJECTS, EDGES, NEXT_NUMBER, NODES, START_NODES}
-pub use Rattle.lore_base.specs.declared.limits.TheConstants.{LEAVES, RANGES, VIEWS}
+pub use Rattle.lore_base.specs.declared.limits.TheConstants.{VIEWS}
 pub use Rattle.lore_base.specs.declared.limits.TheConstants.{SAMPLE, SEED, FEWEST_PERSONS, MOST_PERSONS}
 pub use Rattle.statements.specs.declared.replies.Reply.{Reply}
 pub use Rattle.statements.specs.declared.replies.Reply.TheVariants.{Changed, Rows, Past, PlanShown, Lines, Dump, Refused}

@@ -1,7 +1,7 @@
 ghost use Rattle.std.specs.Prelude.{◌≡◌, ◌++◌, ◌↔◌, IfSome, IfOk, IfErr, OnOk, IsTrue};
 ghost use Rattle.lore_base.specs.Deltas.{IsDelta};
 ghost use Rattle.lore_base.specs.Verdicts.{IsToldBy};
-ghost use Rattle.lore_store.specs.Stores.{LeadsOn, database_then};
+ghost use Rattle.lore_store.specs.Stores.{IsPreparedFor, database_then};
 ghost use Rattle.lorel_trees.specs.Trees.{statement_tree};
 ghost use Rattle.lorel_trees.specs.Sound.{IsSound};
 ghost use Rattle.statements.specs.Bounds.{ListsUnread, ReadsWithinEffects, ReadsToRefuse};
@@ -59,7 +59,7 @@ pub fn planned<L: Ledger>(
 ) -> Result<PlannedChange, Stop>
     requires sound { IsSound (statement_tree statement.now) }
     requires changing { IsChanging (statement_tree statement.now) }
-    ensures leads { IfOk result (λ plan. LeadsOn store.now.db store.now.guide plan.prepared) }
+    ensures leads { IfOk result (λ plan. IsPreparedFor store.now.db store.now.guide plan.prepared) }
     ensures delta { IfOk result (λ plan. IsDelta store.now.db.graph
         (database_then store.now.db plan.prepared).graph plan.prepared.graph.delta) }
     ensures labels { IfOk result (λ plan. (database_then store.now.db plan.prepared).labels

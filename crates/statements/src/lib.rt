@@ -1,16 +1,15 @@
 //! The statements that are executed on one database.
 //!
-//! A select (`selects`) is bound (`lorel_bind`); then its plan is chosen (`planner`), and what its
-//! cells show of the rows that come by it (`plan_ops`) is its answer (`answers`), over any view of
-//! a graph (`rows`). A load (`loads`), generated objects (`generating`), a name bound or taken
-//! away (`namings`) and an update over the rows of its select (`updating`) list changes
-//! (`listing`), and what these make of the database is worked out before it is put in place
-//! (`changing`, over `lore_store`). All other statements are executed at once (`execution`). The
-//! guide is shown, and its limit set, by `guides`; where a label path leads is shown by
-//! `path_lines`; the plan of a select is shown by `explain` (over `planner`), and the plan mode
-//! set by `modes`. The whole database is dumped and restored by `dumps`. What ends the work early
-//! is a `Stop` (`stops`). What a statement answers is a `Reply` (`replies`), with the rows of a
-//! select among them.
+//! A select (`selects`) is bound (`lorel_bind`); then its plan is chosen (`planner`), and its rows
+//! are those that come by it over a view of the database (`select_rows`). A load (`loads`),
+//! generated objects (`generating`), a name bound or taken away (`namings`) and an update over the
+//! rows of its select (`updating`) list changes (`listing`), and what these make of the database is
+//! worked out before it is put in place (`changing`, over `lore_store`). All other statements are
+//! executed at once (`execution`). The guide is shown, and its limit set, by `guides`; where a
+//! label path leads is shown by `path_lines`; the plan of a select is shown by `explain` (over
+//! `planner`), and the plan mode set by `modes`. The whole database is dumped and restored by
+//! `dumps`. What ends the work early is a `Stop` (`stops`). What a statement answers is a `Reply`
+//! (`replies`), with the rows of a select among them.
 #![tactic(auto)]
 
 pub use changing::{PlannedChange, counts, is_changing, planned};
@@ -33,7 +32,6 @@ mod modes;
 mod namings;
 mod path_lines;
 mod replies;
-mod rows;
 mod selects;
 mod stops;
 mod updating;

@@ -1,4 +1,5 @@
-ghost use Rattle.std.specs.Prelude.{◌≡◌, IfSome, IfOk, IfErr, OnOk};
+ghost use Rattle.std.specs.Prelude.{◌≡◌, Some, None, IfSome, IfOk, IfErr, OnOk};
+ghost use Rattle.std.specs.declared.result.Result.TheVariants.{Ok as Done};
 ghost use Rattle.lorel_trees.specs.Trees.{select_tree, select, blocks_of};
 ghost use Rattle.lorel_bound.specs.Bound.{bound_tree};
 ghost use Rattle.lore_base.specs.Verdicts.{IsClear, IsToldBy};
@@ -17,22 +18,22 @@ ghost use Rattle.statements.specs.Statements.{Cause, cause_order, Executes};
 ghost use Rattle.statements.specs.Uncounted.{IsQuietBound, IsQuietSelect};
 ghost use Rattle.statements.specs.Uncounted.{IsPlain, IsPlainSelect};
 ghost use Rattle.statements.specs.inside.Starts.{HasNamedStarts};
-ghost use Rattle.statements.specs.inside.Views.{IsRowOf};
 ghost use Rattle.statements.specs.Stops.{told, OnReply};
 ghost use Rattle.statements.specs.inside.Stages.{ReadCause, bind_order, read_order};
 ghost use Rattle.answers.specs.Asked.{AreRows, AreTooMany};
+ghost use Rattle.select_rows.specs.Views.{IsRowOf};
 
 use crate::replies::Reply;
-use crate::rows::{View, rows_over, takes_long_walks};
 use crate::stops::Stop;
 use guide_query::GuidePaths;
 use index_traits::{Adjacent, Paths, ValueOf};
-use lore_base::{Names, NoMemory, Steps};
+use lore_base::{Names, NoMemory, Refusal, Steps};
 use lore_store::Store;
 use lorel_bind::bind;
 use lorel_bound::{Answer, Bound, Plan, PlanKind};
 use lorel_trees::Select;
 use planner::{choose, forward_plan, guided_plan};
+use select_rows::{View, rows_over, takes_long_walks};
 use std::alloc::Global;
 use std::sync::ledger::Ledger;
 
@@ -163,7 +164,20 @@ pub(crate) fn found<L: Ledger>(
         paths: &paths,
         indexed: can_help(bound, &plan),
     };
-    rows_over(alloc, &view, bound, &plan, steps)
+    answer_of(rows_over(alloc, &view, bound, &plan, steps))
+}
+
+// The rows that were found; where they are more than an answer may have, the refusal.
+fn answer_of(found: Result<Option<Answer>, NoMemory>) -> Result<Answer, Stop>
+    ensures ok { IfOk result (λ answer. found ≡ Done (Some answer)) }
+    ensures refused { IfErr result (λ stop. IfSome (told stop) (λ refusal.
+        (refusal ≡ refusals.TooManyRows) × (found ≡ Done None))) }
+{
+    match found {
+        Ok(Some(answer)) => Ok(answer),
+        Ok(None) => Err(Stop::Refused(Refusal::TooManyRows)),
+        Err(_error) => Err(Stop::NoMemory),
+    }
 }
 
 // Whether the indexes may help to carry out the plan: there are further ranges to be joined; or the
@@ -236,7 +250,7 @@ fn found_over<G: Adjacent + ValueOf, L: Ledger>(
         paths: &paths,
         indexed: false,
     };
-    rows_over(alloc, &view, bound, &plan, steps)
+    answer_of(rows_over(alloc, &view, bound, &plan, steps))
 }
 
 /// The rows of a select by the plan that mode guided chooses, where what paths reach is told by
@@ -292,5 +306,5 @@ fn found_by<P: Paths, L: Ledger>(
         paths,
         indexed: false,
     };
-    rows_over(alloc, &view, bound, &plan, steps)
+    answer_of(rows_over(alloc, &view, bound, &plan, steps))
 }

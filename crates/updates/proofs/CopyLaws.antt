@@ -15,7 +15,7 @@ use Rattle.oem_changes.proofs.RootedLaws.{reached_push}
 use Rattle.oem_changes.proofs.GrowthLaws.{ascend-distinct}
 use Rattle.lorel_trees.specs.Trees.{LiteralTree}
 use Rattle.oem_labels.specs.Labels.{first_uses, label_in}
-use Rattle.oem_text.specs.Literals.{Body, Target, placed, Arc, bodies, arcs_of, labels_of, numbered, place_of, edge_at, objects_of, edges_of}
+use Rattle.oem_text.specs.Literals.{Body, Target, placed, Arc, bodies, arcs_of, labels_of, numbered, target_place, edge_at, objects_of, edges_of}
 use Rattle.oem_text.specs.Layouts.{layout_of, edges_from}
 use Rattle.updates.specs.Types.{Oid, Label, Edge, Value, Changes}
 use Rattle.updates.specs.Effects.{Pair, targets, no_changes, copied_objects, copied_edges, copying}
@@ -52,7 +52,7 @@ module _ (R : Oid → Type 0) (between : List Edge) (table : List (List ℕ)) (l
       → Contains (edges_of next table tree) (edge_of (oid_of (next + arc.parent)) (label_in table arc.label) (oid_of (next + child)))
   led next arc child is at =
       subst (Contains (edges_of next table tree))
-      (ap (λ (t : Target). edge_of (oid_of (next + arc.parent)) (label_in table arc.label) (oid_of (next + place_of (bodies tree) t))) is)
+      (ap (λ (t : Target). edge_of (oid_of (next + arc.parent)) (label_in table arc.label) (oid_of (next + target_place (bodies tree) t))) is)
       (Contains-map (edge_at next table (bodies tree)) (arcs_of tree) arc at)
 
   copy_reached : (next : ℕ) → ((edge : Edge) → Contains (edges_of next table tree) edge → Contains between edge) → R (oid_of next)

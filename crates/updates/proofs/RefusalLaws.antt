@@ -14,7 +14,7 @@ use Rattle.oem_changes.specs.Growth.{Grows}
 use Rattle.lorel_trees.specs.Trees.{LiteralTree}
 use Rattle.oem_labels.specs.Labels.{first_uses, label_in}
 use Rattle.oem_text.specs.Literals.{Body, Arc, bodies, arcs_of, labels_of}
-use Rattle.oem_text.specs.Layouts.{PlacedArc, LaidOut, placed_arc, layout_of, texts_of, IsBelow, IsJoined, edge_from, edges_from}
+use Rattle.oem_text.specs.Layouts.{PlacedArc, LaidOut, placed_arc, layout_of, texts_of, JoinsBelow, IsJoined, edge_from, edges_from}
 use Rattle.oem_text.specs.Parts.{LocalCause, local_order}
 use Rattle.updates.specs.Types.{Oid, Label, Edge, Value, Changes, Refusal, LABELS, OBJECTS, EDGES, NEXT_NUMBER}
 use Rattle.updates.specs.Types.refusals
@@ -55,9 +55,9 @@ module _ (tree : LiteralTree) (layout : LaidOut) (is : layout ≡ layout_of tree
   pub some_body : 0 < length (bodies tree)
   some_body = omega (arith, joined.some, count_is)
 
-  below : (arc : Arc) → Contains (arcs_of tree) arc → IsBelow (length layout.values) (placed_arc (bodies tree) arc)
+  below : (arc : Arc) → Contains (arcs_of tree) arc → JoinsBelow (length layout.values) (placed_arc (bodies tree) arc)
   below arc at =
-      All-contains (IsBelow (length layout.values)) layout.arcs (placed_arc (bodies tree) arc) joined.joined
+      All-contains (JoinsBelow (length layout.values)) layout.arcs (placed_arc (bodies tree) arc) joined.joined
       (subst (λ (l : LaidOut). Contains l.arcs (placed_arc (bodies tree) arc)) (sym is) (Contains-map (placed_arc (bodies tree)) (arcs_of tree) arc at))
 
   pub arcs_inside : All (λ (arc : Arc). arc.parent < length (bodies tree)) (arcs_of tree)
@@ -70,7 +70,7 @@ pub stamp_inside : (table : List (List ℕ)) (text : List ℕ) (layout : LaidOut
 stamp_inside table text layout stamp joined h =
     All-from_members (λ (edge : Edge). (edge.parent.0 < length layout.values) × (edge.child.0 < length layout.values)) stamp.edges (λ edge at.
     let found = Contains-from_map (edge_from 0 (table ++ stamp.texts)) layout.arcs edge ((h.edges edge).0 at) in
-    let low = All-contains (IsBelow (length layout.values)) layout.arcs found.0 joined.joined found.1 in
+    let low = All-contains (JoinsBelow (length layout.values)) layout.arcs found.0 joined.joined found.1 in
     let parent : 0 + found.0.parent ≡ edge.parent.0 = ap (λ (e : Edge). e.parent.0) found.2 in
     let child : 0 + found.0.child ≡ edge.child.0 = ap (λ (e : Edge). e.child.0) found.2 in
     (omega (arith, low.parent, parent), omega (arith, low.child, child)))

@@ -8,7 +8,7 @@ use Rattle.lore_base.specs.Verdicts.{IsFirst, IsClear, IsToldBy}
 use Rattle.lorel_trees.specs.Trees.{RootedTree, TailTree, LiteralTree, StatementTree, assign, add_new, add_link, remove}
 use Rattle.updates.specs.Types.{Changes, Refusal}
 use Rattle.updates.specs.Effects.{Pair, no_changes, changes_over, changes_by}
-use Rattle.updates.specs.Causes.{IsUpdate, Cause, order}
+use Rattle.updates.specs.Causes.{IsUpdate, UpdateCause, update_order}
 use Rattle.updates.specs.declared.faults.UpdateFault.{UpdateFault}
 use Rattle.updates.specs.Faults.{refusal_of}
 use Rattle.updates.specs.inside.Forms.{form_order, copies_by, CopyCause, copy_order}
@@ -40,7 +40,7 @@ module _ (table : List (List ℕ)) (graph : OemGraph) where
     clear_of statement same h = subst (λ (c : Changes). IsClear (ChangeCause table graph c) form_order) same h
 
     pub plain_told : (statement : StatementTree) → IsPlain statement → changes ≡ changes_by table graph statement rows → (told : Option Refusal)
-        → IsToldBy (ChangeCause table graph changes) form_order told → IsToldBy (Cause table graph statement rows) (order statement) told
+        → IsToldBy (ChangeCause table graph changes) form_order told → IsToldBy (UpdateCause table graph statement rows) (update_order statement) told
     plain_told statement plain same None h = tt
     plain_told (assign target value tail) plain same (Some refusal) h =
         inr ((λ none. none), inr ((λ none. none), first_of (assign target value tail) same refusal h))
@@ -51,7 +51,7 @@ module _ (table : List (List ℕ)) (graph : OemGraph) where
     plain_told statement plain same (Some refusal) h = absurd plain
 
     pub plain_clear : (statement : StatementTree) → IsPlain statement → changes ≡ changes_by table graph statement rows
-        → IsClear (ChangeCause table graph changes) form_order → IsClear (Cause table graph statement rows) (order statement)
+        → IsClear (ChangeCause table graph changes) form_order → IsClear (UpdateCause table graph statement rows) (update_order statement)
     plain_clear (assign target value tail) plain same h =
         ((λ none. none), ((λ none. none), clear_of (assign target value tail) same h))
     plain_clear (add_link target label right tail) plain same h =
@@ -68,13 +68,13 @@ module _ (table : List (List ℕ)) (graph : OemGraph) where
     literal_same (row ∷ rows) changes h = h
 
     pub literal_told : (rows : List Pair) (told : Option Refusal) → IsToldBy (CopyCause table graph label literal rows) copy_order told
-        → IsToldBy (Cause table graph (add_new target label literal tail) rows) (order (add_new target label literal tail)) told
+        → IsToldBy (UpdateCause table graph (add_new target label literal tail) rows) (update_order (add_new target label literal tail)) told
     literal_told rows None h = tt
     literal_told [] (Some refusal) h = h
     literal_told (row ∷ rows) (Some refusal) h = h
 
     pub literal_clear : (rows : List Pair) → IsClear (CopyCause table graph label literal rows) copy_order
-        → IsClear (Cause table graph (add_new target label literal tail) rows) (order (add_new target label literal tail))
+        → IsClear (UpdateCause table graph (add_new target label literal tail) rows) (update_order (add_new target label literal tail))
     literal_clear [] h = h
     literal_clear (row ∷ rows) h = h
 
@@ -86,8 +86,8 @@ ok_then {T} {E} (Err fault) P Q then h = h
 -- what is ensured of the answer to a statement
 pub record IsAnswer (table : List (List ℕ)) (graph : OemGraph) (statement : StatementTree) (rows : List Pair) (result : Result Changes UpdateFault) : Type 0 where
   pub same : IfOk result (AreSame (changes_by table graph statement rows))
-  pub ok : OnOk result (IsClear (Cause table graph statement rows) (order statement))
-  pub err : IfErr result (λ fault. IsToldBy (Cause table graph statement rows) (order statement) (refusal_of fault))
+  pub ok : OnOk result (IsClear (UpdateCause table graph statement rows) (update_order statement))
+  pub err : IfErr result (λ fault. IsToldBy (UpdateCause table graph statement rows) (update_order statement) (refusal_of fault))
 
 pub plain_answer : (table : List (List ℕ)) (graph : OemGraph) (statement : StatementTree) (rows : List Pair) (result : Result Changes UpdateFault) (changes : Changes)
     → IsPlain statement → changes ≡ changes_by table graph statement rows → IfOk result (AreSame changes)
@@ -97,10 +97,10 @@ pub plain_answer : (table : List (List ℕ)) (graph : OemGraph) (statement : Sta
 plain_answer table graph statement rows result changes plain is same ok err = record {
   same = IfOk-weaker result (AreSame changes) (AreSame (changes_by table graph statement rows))
       (λ found h. subst (λ (c : Changes). AreSame c found) is h) same;
-  ok = ok_then result (IsClear (ChangeCause table graph changes) form_order) (IsClear (Cause table graph statement rows) (order statement))
+  ok = ok_then result (IsClear (ChangeCause table graph changes) form_order) (IsClear (UpdateCause table graph statement rows) (update_order statement))
       (plain_clear table graph rows changes statement plain is) ok;
   err = IfErr-weaker result (λ fault. IsToldBy (ChangeCause table graph changes) form_order (refusal_of fault))
-      (λ fault. IsToldBy (Cause table graph statement rows) (order statement) (refusal_of fault))
+      (λ fault. IsToldBy (UpdateCause table graph statement rows) (update_order statement) (refusal_of fault))
       (λ fault h. plain_told table graph rows changes statement plain is (refusal_of fault) h) err;
 }
 
@@ -113,10 +113,10 @@ literal_answer table graph target label literal tail rows result same ok err = r
   same = IfOk-weaker result (AreSame (copies_by table graph label literal rows)) (AreSame (changes_by table graph (add_new target label literal tail) rows))
       (literal_same table graph target label literal tail rows) same;
   ok = ok_then result (IsClear (CopyCause table graph label literal rows) copy_order)
-      (IsClear (Cause table graph (add_new target label literal tail) rows) (order (add_new target label literal tail)))
+      (IsClear (UpdateCause table graph (add_new target label literal tail) rows) (update_order (add_new target label literal tail)))
       (literal_clear table graph target label literal tail rows) ok;
   err = IfErr-weaker result (λ fault. IsToldBy (CopyCause table graph label literal rows) copy_order (refusal_of fault))
-      (λ fault. IsToldBy (Cause table graph (add_new target label literal tail) rows) (order (add_new target label literal tail)) (refusal_of fault))
+      (λ fault. IsToldBy (UpdateCause table graph (add_new target label literal tail) rows) (update_order (add_new target label literal tail)) (refusal_of fault))
       (λ fault h. literal_told table graph target label literal tail rows (refusal_of fault) h) err;
 }
 

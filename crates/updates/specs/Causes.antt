@@ -23,16 +23,16 @@ OfLiteral (add_new target label literal tail) Has = Has literal
 OfLiteral statement Has = ⊥
 
 -- the cause of each refusal of an update over these rows
-abbrev pub Cause : List (List ℕ) → OemGraph → StatementTree → List Pair → Refusal → Type 0
-Cause table graph statement rows refusals.DuplicateLocal = OfLiteral statement HasDouble
-Cause table graph statement rows refusals.UndefinedLocal = OfLiteral statement HasUndefined
-Cause table graph statement rows refusal = ChangeCause table graph (changes_by table graph statement rows) refusal
+abbrev pub UpdateCause : List (List ℕ) → OemGraph → StatementTree → List Pair → Refusal → Type 0
+UpdateCause table graph statement rows refusals.DuplicateLocal = OfLiteral statement HasDouble
+UpdateCause table graph statement rows refusals.UndefinedLocal = OfLiteral statement HasUndefined
+UpdateCause table graph statement rows refusal = ChangeCause table graph (changes_by table graph statement rows) refusal
 
 -- the order in which causes are tried. How large the graph gets is told of copies alone, before they are made
-abbrev pub order : StatementTree → List Refusal
-order (add_new target label literal tail) =
+abbrev pub update_order : StatementTree → List Refusal
+update_order (add_new target label literal tail) =
     refusals.DuplicateLocal ∷ refusals.UndefinedLocal ∷ refusals.AtomicParent ∷ refusals.HasChildren
     ∷ refusals.OidsSpent ∷ refusals.TooManyLabels ∷ refusals.TooManyObjects ∷ refusals.TooManyEdges ∷ []
-order statement =
+update_order statement =
     refusals.DuplicateLocal ∷ refusals.UndefinedLocal ∷ refusals.AtomicParent ∷ refusals.HasChildren
     ∷ refusals.OidsSpent ∷ refusals.TooManyLabels ∷ []

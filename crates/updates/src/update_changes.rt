@@ -4,7 +4,7 @@ ghost use Rattle.lore_base.specs.ChangeSets.{AreSame};
 ghost use Rattle.lore_base.specs.Verdicts.{IsClear, IsToldBy};
 ghost use Rattle.lorel_trees.specs.Trees.{statement_tree};
 ghost use Rattle.updates.specs.Effects.{changes_by};
-ghost use Rattle.updates.specs.Causes.{IsUpdate, HasTargets, Cause, order};
+ghost use Rattle.updates.specs.Causes.{IsUpdate, HasTargets, UpdateCause, update_order};
 ghost use Rattle.updates.specs.Faults.{refusal_of};
 
 use crate::assignments::assign;
@@ -42,9 +42,11 @@ pub fn changes_of(
     ensures same { let all = changes_by labels.now graph.now.graph (statement_tree statement.now) rows.now in
         IfOk result (AreSame all) }
     ensures ok { let tree = statement_tree statement.now in
-        OnOk result (IsClear (Cause labels.now graph.now.graph tree rows.now) (order tree)) }
+        OnOk result (IsClear (UpdateCause labels.now graph.now.graph tree rows.now)
+        (update_order tree)) }
     ensures err { let tree = statement_tree statement.now in
-        IfErr result (λ fault. IsToldBy (Cause labels.now graph.now.graph tree rows.now) (order tree) (refusal_of fault)) }
+        IfErr result (λ fault. IsToldBy (UpdateCause labels.now graph.now.graph tree rows.now)
+        (update_order tree) (refusal_of fault)) }
 {
     if let Statement::AddNew { label, literal, .. } = statement {
         return add_copies(alloc, label, literal, rows, graph, labels);

@@ -15,7 +15,7 @@ use Rattle.lorel_ranges.specs.Places.{Root, named, ranged, quantified, Place, at
 use Rattle.lorel_bound.specs.Conditions.{CondOf, paths_in}
 use Rattle.lorel_ranges.specs.Conditions.{cond_of, cond_places}
 use Rattle.lorel_ranges.specs.Texts.{text_places}
-use Rattle.lorel_ranges.specs.Ranges.{Range, places, ArePlain, IsFixed}
+use Rattle.lorel_ranges.specs.Ranges.{PlacedRange, places, ArePlain, IsFixed}
 use Rattle.lorel_ranges.specs.inside.Orders.{IsOpen, IsFound, AreOrdered}
 use Rattle.lorel_bind.specs.Answers.{Leads, IsValuation, IsObjectOf, IsReachedBy, HasValue, HoldsAt, ShowsCell, IsRowOver}
 use Rattle.live_views.specs.Concerns.{IsStart, ComparesValues}
@@ -49,21 +49,21 @@ settled_open names own (named name) (part ∷ parts) none = refl
 settled_open names own (ranged variable) parts none = refl
 settled_open names own (quantified depth) parts none = refl
 
-open_among : (ranges : List Range) → All (λ range. IsOpen range.place) ranges → (place : Place) → Contains (places ranges) place → IsOpen place
+open_among : (ranges : List PlacedRange) → All (λ range. IsOpen range.place) ranges → (place : Place) → Contains (places ranges) place → IsOpen place
 open_among [] all place there = absurd (Contains-none place there)
 open_among (range ∷ ranges) all place there = elim (Contains-cases range.place (places ranges) place there) [
-  | inl same ↦ subst IsOpen same (All-head (λ (r : Range). IsOpen r.place) range ranges all)
-  | inr later ↦ open_among ranges (All-tail (λ (r : Range). IsOpen r.place) range ranges all) place later
+  | inl same ↦ subst IsOpen same (All-head (λ (r : PlacedRange). IsOpen r.place) range ranges all)
+  | inr later ↦ open_among ranges (All-tail (λ (r : PlacedRange). IsOpen r.place) range ranges all) place later
 ]
 
 -- a range starts at a name, or at the place of another one
-ordered_start : (earlier : List Place) (ranges : List Range) → AreOrdered earlier ranges → (range : Range) → Contains ranges range
+ordered_start : (earlier : List Place) (ranges : List PlacedRange) → AreOrdered earlier ranges → (range : PlacedRange) → Contains ranges range
     → IsFound (earlier ++ places ranges) range.start
 ordered_start earlier [] ordered range there = absurd (Contains-none range there)
 ordered_start earlier (first ∷ others) ordered range there =
     let all = places (first ∷ others) in
     elim (Contains-cases first others range there) [
-      | inl same ↦ subst (λ (r : Range). IsFound (earlier ++ all) r.start) same
+      | inl same ↦ subst (λ (r : PlacedRange). IsFound (earlier ++ all) r.start) same
           (IsFound-wider earlier (earlier ++ all) first.start (λ place before. Contains-append_left earlier all place before) ordered.0.found)
       | inr later ↦ subst (λ (found : List Place). IsFound found range.start) (append_assoc earlier (first.place ∷ []) (places others))
           (ordered_start (earlier ++ first.place ∷ []) others ordered.1 range later)
@@ -90,7 +90,7 @@ module _ (from to : Database) where
   object_over objects stay valued own (ranged variable) start (inl q) h = let same : ranged variable ≡ quantified q.0 = q.1 in cc
   object_over objects stay valued own (ranged variable) start (inr k) h = (sym k.0 ∙ h, subst (Stays from to) h k.1)
 
-  module _ (from_valid : IsValid from) (to_valid : IsValid to) (query : SelectTree) (sees : Sees query from to) (plain : List Range) where
+  module _ (from_valid : IsValid from) (to_valid : IsValid to) (query : SelectTree) (sees : Sees query from to) (plain : List PlacedRange) where
     led : (parts : List PathTree) → IsPiece query parts → (x y : Oid) → Leads from parts x y → Leads to parts x y
     led parts piece x y h = let walk = sees.walks parts piece x y h.0 (h.1, h.2) in (h.0, walk.0, walk.1)
 
@@ -123,7 +123,7 @@ module _ (from to : Database) (from_valid : IsValid from) (to_valid : IsValid to
   bound_over = All-from_members (λ (place : Place). IsBoundName to.graph.names place.root) (text_places query)
       (λ place there. meant_bound place.root (meant_at place there))
 
-  module _ (plain : List Range) (gathered : ArePlain query plain) (at : Place → Oid) (valuation : IsValuation from plain at) where
+  module _ (plain : List PlacedRange) (gathered : ArePlain query plain) (at : Place → Oid) (valuation : IsValuation from plain at) where
     abbrev other : Place → Oid
     other = settled to.graph.names at
 
@@ -149,20 +149,20 @@ module _ (from to : Database) (from_valid : IsValid from) (to_valid : IsValid to
     starts_meant : All (λ range. IsMeant range.start.root) plain
     starts_meant = plain_roots IsMeant query plain gathered (All-from_members (λ (place : Place). IsMeant place.root) (text_places query) meant_at)
 
-    start_same : (range : Range) → Contains plain range → at range.start ≡ other range.start
+    start_same : (range : PlacedRange) → Contains plain range → at range.start ≡ other range.start
     start_same range there =
-        found_same range.start (ordered_start [] plain ordered range there) (All-contains (λ (r : Range). IsMeant r.start.root) plain range starts_meant there)
+        found_same range.start (ordered_start [] plain ordered range there) (All-contains (λ (r : PlacedRange). IsMeant r.start.root) plain range starts_meant there)
 
-    end_same : (range : Range) → Contains plain range → at range.place ≡ other range.place
-    end_same range there = place_same range.place (Contains-map (λ (r : Range). r.place) plain range there)
+    end_same : (range : PlacedRange) → Contains plain range → at range.place ≡ other range.place
+    end_same range there = place_same range.place (Contains-map (λ (r : PlacedRange). r.place) plain range there)
 
-    range_piece : (range : Range) → Contains plain range → IsPiece query range.parts
-    range_piece range there = All-contains (λ (r : Range). IsPiece query r.parts) plain range (plain_pieces query plain gathered) there
+    range_piece : (range : PlacedRange) → Contains plain range → IsPiece query range.parts
+    range_piece range there = All-contains (λ (r : PlacedRange). IsPiece query r.parts) plain range (plain_pieces query plain gathered) there
 
     reached_over : All (λ range. Leads to range.parts (other range.start) (other range.place)) plain
-    reached_over = All-from_members (λ (range : Range). Leads to range.parts (other range.start) (other range.place)) plain (λ range there.
+    reached_over = All-from_members (λ (range : PlacedRange). Leads to range.parts (other range.start) (other range.place)) plain (λ range there.
         let leads = led from to from_valid to_valid query sees plain range.parts (range_piece range there) (at range.start) (at range.place)
-        (All-contains (λ (r : Range). Leads from r.parts (at r.start) (at r.place)) plain range valuation.reached there) in
+        (All-contains (λ (r : PlacedRange). Leads from r.parts (at r.start) (at r.place)) plain range valuation.reached there) in
         subst (λ (end : Oid). Leads to range.parts (other range.start) end) (end_same range there)
         (subst (λ (start : Oid). Leads to range.parts start (at range.place)) (start_same range there) leads))
 
@@ -267,7 +267,7 @@ module _ (from to : Database) (from_valid : IsValid from) (to_valid : IsValid to
       shown_over places row (λ p there. within p (Contains-tail place places p there)) shown.1,
     )
 
-  pub row_over : (plain : List Range) → ArePlain query plain → (row : List Cell) → IsRowOver from query plain plain row → IsRowOver to query plain plain row
+  pub row_over : (plain : List PlacedRange) → ArePlain query plain → (row : List Cell) → IsRowOver from query plain plain row → IsRowOver to query plain plain row
   row_over plain gathered row h = record {
     at = settled to.graph.names h.at;
     valuation = valuation_over plain gathered h.at h.valuation;

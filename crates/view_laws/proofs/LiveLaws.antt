@@ -8,7 +8,7 @@ use Rattle.lore_base.specs.Walks.{Walk, edge_of}
 use Rattle.lore_base.specs.Databases.{Database, IsLive, IsLinked, IsValid}
 use Rattle.lore_base.specs.Paths.{PathTree}
 use Rattle.lorel_ranges.specs.Places.{named, Place, at_root}
-use Rattle.lorel_ranges.specs.Ranges.{Range, places}
+use Rattle.lorel_ranges.specs.Ranges.{PlacedRange, places}
 use Rattle.lorel_bind.specs.Answers.{Leads}
 use Rattle.lorel_ranges.specs.inside.Orders.{IsFound, AreOrdered}
 use Rattle.lore_base.proofs.MemberLaws.{Contains-none}
@@ -41,24 +41,24 @@ module _ (db : Database) (valid : IsValid db) where
         subst (λ (p : Place). IsLive db.graph.objects (at p)) (sym found.1)
         (subst (IsLive db.graph.objects) (sym (named_at found.0 own.0 own.1)) (name_live found.0 own.0 own.1))
 
-    all_live : (earlier : List Place) (ranges : List Range) → AreOrdered earlier ranges → All (λ range. IsBoundName db.graph.names range.start.root) ranges
+    all_live : (earlier : List Place) (ranges : List PlacedRange) → AreOrdered earlier ranges → All (λ range. IsBoundName db.graph.names range.start.root) ranges
         → All (λ range. Leads db range.parts (at range.start) (at range.place)) ranges
         → ((other : Place) → Contains earlier other → IsLive db.graph.objects (at other))
         → (place : Place) → Contains (earlier ++ places ranges) place → IsLive db.graph.objects (at place)
     all_live earlier [] ordered bound reached live place there = live place (subst (λ (ps : List Place). Contains ps place) (append-nil earlier) there)
     all_live earlier (range ∷ ranges) ordered bound reached live place there =
         let own = led_live range.parts (at range.start) (at range.place)
-        (All-head (λ (r : Range). Leads db r.parts (at r.start) (at r.place)) range ranges reached)
-        (found_live earlier range.start ordered.0.found (All-head (λ (r : Range). IsBoundName db.graph.names r.start.root) range ranges bound) live) in
-        all_live (earlier ++ range.place ∷ []) ranges ordered.1 (All-tail (λ (r : Range). IsBoundName db.graph.names r.start.root) range ranges bound)
-        (All-tail (λ (r : Range). Leads db r.parts (at r.start) (at r.place)) range ranges reached)
+        (All-head (λ (r : PlacedRange). Leads db r.parts (at r.start) (at r.place)) range ranges reached)
+        (found_live earlier range.start ordered.0.found (All-head (λ (r : PlacedRange). IsBoundName db.graph.names r.start.root) range ranges bound) live) in
+        all_live (earlier ++ range.place ∷ []) ranges ordered.1 (All-tail (λ (r : PlacedRange). IsBoundName db.graph.names r.start.root) range ranges bound)
+        (All-tail (λ (r : PlacedRange). Leads db r.parts (at r.start) (at r.place)) range ranges reached)
         (λ other among. elim (Contains-push_cases earlier range.place other among) [
           | inl before ↦ live other before
           | inr same ↦ subst (λ (p : Place). IsLive db.graph.objects (at p)) same own
         ]) place (subst (λ (ps : List Place). Contains ps place) (sym (append_assoc earlier (range.place ∷ []) (places ranges))) there)
 
     -- the places of ranges in order have live objects
-    pub places_live : (ranges : List Range) → AreOrdered [] ranges → All (λ range. IsBoundName db.graph.names range.start.root) ranges
+    pub places_live : (ranges : List PlacedRange) → AreOrdered [] ranges → All (λ range. IsBoundName db.graph.names range.start.root) ranges
         → All (λ range. Leads db range.parts (at range.start) (at range.place)) ranges
         → (place : Place) → Contains (places ranges) place → IsLive db.graph.objects (at place)
     places_live ranges ordered bound reached place there =

@@ -7,19 +7,19 @@ use Rattle.lorel_trees.specs.Trees.{FromTree, SelectTree}
 use Rattle.lorel_ranges.specs.Places.{ranged, Place, at_root, beyond, Scope, place_of, scope_behind, cell_places}
 use Rattle.lorel_ranges.specs.Conditions.{cond_places}
 use Rattle.lorel_ranges.specs.Texts.{from_places, text_places}
-use Rattle.lorel_ranges.specs.Ranges.{Range, prefix_ranges, path_ranges, from_item_ranges, from_ranges, made_ranges, AreGathered, ArePlain, IsFixed}
+use Rattle.lorel_ranges.specs.Ranges.{PlacedRange, prefix_ranges, path_ranges, from_item_ranges, from_ranges, made_ranges, AreGathered, ArePlain, IsFixed}
 use Rattle.lore_base.proofs.MemberLaws.{Contains-head, Contains-tail}
 use Rattle.view_laws.proofs.SeesLaws.{IsPiece}
 
 -- what holds of each range that is made holds of each that is gathered
-gathered_all : (Q : Range → Type 0) (earlier made ranges : List Range) → AreGathered earlier made ranges → All Q earlier → All Q made → All Q ranges
+gathered_all : (Q : PlacedRange → Type 0) (earlier made ranges : List PlacedRange) → AreGathered earlier made ranges → All Q earlier → All Q made → All Q ranges
 gathered_all Q earlier [] ranges same first second = subst (All Q) (sym same) first
 gathered_all Q earlier (range ∷ made) ranges (inl there) first second = gathered_all Q earlier made ranges there.1 first (All-tail Q range made second)
 gathered_all Q earlier (range ∷ made) ranges (inr absent) first second =
     gathered_all Q (earlier ++ range ∷ []) made ranges absent.1 (All-push Q earlier range first (All-head Q range made second)) (All-tail Q range made second)
 
 module _ (query : SelectTree) where
-  abbrev HasPiece : Range → Type 0
+  abbrev HasPiece : PlacedRange → Type 0
   HasPiece range = IsPiece query range.parts
 
   -- so many parts are left of a path of the text
@@ -56,7 +56,7 @@ module _ (query : SelectTree) where
       All-append HasPiece (path_ranges cell) (flat_map path_ranges cells) (path_pieces cell (within cell (Contains-head cell cells)))
       (cell_pieces cells (λ other there. within other (Contains-tail cell cells other there)))
 
-  pub plain_pieces : (plain : List Range) → ArePlain query plain → All HasPiece plain
+  pub plain_pieces : (plain : List PlacedRange) → ArePlain query plain → All HasPiece plain
   plain_pieces plain gathered =
       let from = from_places [] query.tail.ranges in
       let behind = cell_places query ++ cond_places query in
@@ -76,7 +76,7 @@ module _ (query : SelectTree) where
       Contains-append_right (from_places [] query.tail.ranges) (cell_places query ++ cond_places query) path
       (Contains-append_left (cell_places query) (cond_places query) path there)
 
-  pub rest_piece : (plain : List Range) (path fixed : Place) (rest : List PathTree) → Contains (cond_places query) path → IsFixed plain path fixed rest
+  pub rest_piece : (plain : List PlacedRange) (path fixed : Place) (rest : List PathTree) → Contains (cond_places query) path → IsFixed plain path fixed rest
       → IsPiece query rest
   rest_piece plain path fixed rest there is_fixed = record {
     place = path;

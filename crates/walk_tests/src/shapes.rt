@@ -1,4 +1,6 @@
-ghost use Rattle.std.specs.Prelude.{◌↔◌, IsTrue};
+ghost use Rattle.std.specs.Prelude.{◌↔◌, ◌≤◌, IsTrue, IfOk};
+ghost use Rattle.lore_base.specs.Databases.{AreAscendingEdges};
+ghost use Rattle.lore_base.specs.Paths.{path_tree, leaves};
 
 use index_traits::NaiveEdges;
 use lore_base::{
@@ -13,32 +15,59 @@ fn plain(alloc: Global, letter: u8) -> Result<Path, NoMemory> {
     Ok(Path::Step(Pattern::Plain(OemText::from_bytes(alloc, &[letter])?)))
 }
 
+fn star(alloc: Global, path: Path) -> Result<Path, NoMemory> {
+    Ok(Path::Star(Box::new(alloc, path)?))
+}
+
 // The path that a sign stands for: `n` and `v` are labels, and `N` is any number of `n`.
 fn part(alloc: Global, sign: u8) -> Result<Path, NoMemory> {
     match sign {
         b'#' => Ok(Path::Any),
         b'%' => Ok(Path::Step(Pattern::Wild(OemText::from_bytes(alloc, b"%")?))),
-        b'N' => Ok(Path::Star(Box::new(alloc, plain(alloc, b'n')?)?)),
+        b'N' => star(alloc, plain(alloc, b'n')?),
         letter => plain(alloc, letter),
     }
+}
+
+fn put_parts(alloc: Global, text: &[u8], paths: &mut PathList) -> Result<(), NoMemory> {
+    for sign in text {
+        paths.push(part(alloc, *sign)?)?;
+    }
+    Ok(())
 }
 
 // The paths that the signs of a text stand for.
 pub(crate) fn paths_of(alloc: Global, text: &[u8]) -> Result<PathList, NoMemory> {
     let mut paths = PathList::new(alloc);
-    for sign in text {
-        paths.push(part(alloc, *sign)?)?;
-    }
+    put_parts(alloc, text, &mut paths)?;
     Ok(paths)
+}
+
+// They make one path, in turn.
+pub(crate) fn path_in_turn(alloc: Global, text: &[u8]) -> Result<Path, Fail>
+    ensures { IfOk result (λ path. leaves (path_tree path) ≤ 64) }
+{
+    let paths = paths_of(alloc, text)?;
+    if leaf_count(&paths) <= 64 {
+        return Ok(Path::Seq(paths));
+    }
+    drop(paths);
+    Err(Fail::new("the path has too many leaves"))
+}
+
+fn in_turn(alloc: Global, paths: &PathList) -> Result<Automaton, Fail> {
+    if leaf_count(paths) > 64 {
+        return Err(Fail::new("the path has too many leaves"));
+    }
+    Ok(Automaton::in_turn(alloc, paths)?)
 }
 
 // The automaton of the paths of a text, one after another.
 pub(crate) fn automaton_of(alloc: Global, text: &[u8]) -> Result<Automaton, Fail> {
     let paths = paths_of(alloc, text)?;
-    if leaf_count(&paths) > 64 {
-        return Err(Fail::new("the path has too many leaves"));
-    }
-    Ok(Automaton::in_turn(alloc, &paths)?)
+    let automaton = in_turn(alloc, &paths);
+    drop(paths);
+    automaton
 }
 
 // A table of labels as the plain list of its texts.
@@ -64,15 +93,12 @@ impl LabelTest for LabelTexts {
 // The table of the labels `n` and `v`.
 fn two_labels(alloc: Global) -> Result<LabelTexts, NoMemory> {
     let mut texts = TextList::new(alloc);
-    for letter in [b'n', b'v'] {
-        texts.push(OemText::from_bytes(alloc, &[letter])?)?;
-    }
+    texts.push(OemText::from_bytes(alloc, b"n")?)?;
+    texts.push(OemText::from_bytes(alloc, b"v")?)?;
     Ok(LabelTexts { texts })
 }
 
-// Edges written as parent, label and child.
-pub(crate) fn edges_of(alloc: Global, numbers: &[[u32; 3]]) -> Result<EdgeBuf, NoMemory> {
-    let mut edges = EdgeBuf::new(alloc);
+fn put_edges(numbers: &[[u32; 3]], edges: &mut EdgeBuf) -> Result<(), NoMemory> {
     for [parent, label, child] in numbers {
         edges.push(Edge {
             parent: Oid(*parent),
@@ -80,13 +106,21 @@ pub(crate) fn edges_of(alloc: Global, numbers: &[[u32; 3]]) -> Result<EdgeBuf, N
             child: Oid(*child),
         })?;
     }
+    Ok(())
+}
+
+// Edges written as parent, label and child.
+pub(crate) fn edges_of(alloc: Global, numbers: &[[u32; 3]]) -> Result<EdgeBuf, NoMemory>
+    ensures { IfOk result AreAscendingEdges }
+{
+    let mut edges = EdgeBuf::new(alloc);
+    put_edges(numbers, &mut edges)?;
+    edges.sort_set();
     Ok(edges)
 }
 
 fn graph_of(alloc: Global, numbers: &[[u32; 3]]) -> Result<NaiveEdges, NoMemory> {
-    let mut edges = edges_of(alloc, numbers)?;
-    edges.sort_set();
-    Ok(NaiveEdges::new(edges))
+    Ok(NaiveEdges::new(edges_of(alloc, numbers)?))
 }
 
 // A graph with the texts of its labels. It is made once and lent, since a value that is let go is

@@ -1,21 +1,28 @@
-ghost use Rattle.std.specs.Prelude.{◌≡◌, ◌<◌};
+ghost use Rattle.std.specs.Prelude.{◌≡◌, ◌<◌, ◌≤◌};
+ghost use Rattle.lore_base.specs.Paths.{path_tree, leaves};
 
 use crate::along::check_along;
-use crate::shapes::{Labelled, RING, automaton_of, edges_of, labelled_graph, paths_of};
+use crate::shapes::{Labelled, RING, automaton_of, edges_of, labelled_graph, path_in_turn};
 use crate::words::check_words;
 use index_traits::Paths;
-use lore_base::{NoMemory, Oid, OidBuf, Path, Steps, leaf_count};
+use lore_base::{NoMemory, Oid, OidBuf, Path, Steps};
+use path_expr::Automaton;
 use product_walk::{NaivePaths, backward, forward};
 use std::alloc::Global;
 use std::marker::Brand;
 use std::sync::ledger::{Blank, Ledger};
 use std::test::Fail;
 
-fn oids_of(alloc: Global, numbers: &[u32]) -> Result<OidBuf, NoMemory> {
-    let mut oids = OidBuf::new(alloc);
+fn put_oids(numbers: &[u32], oids: &mut OidBuf) -> Result<(), NoMemory> {
     for number in numbers {
         oids.push(Oid(*number))?;
     }
+    Ok(())
+}
+
+fn oids_of(alloc: Global, numbers: &[u32]) -> Result<OidBuf, NoMemory> {
+    let mut oids = OidBuf::new(alloc);
+    put_oids(numbers, &mut oids)?;
     Ok(oids)
 }
 
@@ -28,8 +35,29 @@ pub(crate) fn digits(oids: &OidBuf) -> u64 {
     digits
 }
 
+// What was appended, behind what was there, as digits.
+fn appended(put: Result<(), NoMemory>, found: OidBuf) -> Result<u64, NoMemory> {
+    let digits = digits(&found);
+    drop(found);
+    put?;
+    Ok(digits)
+}
+
 // The objects that the path leads to from the object, behind one that was there.
 fn reached<L: Ledger>(
+    alloc: Global,
+    over: &Labelled,
+    from: Oid,
+    path: &Automaton,
+    steps: &mut Steps<L>,
+) -> Result<u64, NoMemory> {
+    let (graph, labels) = (&over.graph, &over.labels);
+    let mut found = oids_of(alloc, &[7])?;
+    let put = forward(alloc, graph, from, path, labels, &mut found, steps);
+    appended(put, found)
+}
+
+fn reached_by<L: Ledger>(
     alloc: Global,
     over: &Labelled,
     from: u32,
@@ -37,56 +65,95 @@ fn reached<L: Ledger>(
     steps: &mut Steps<L>,
 ) -> Result<u64, Fail> {
     let automaton = automaton_of(alloc, path.as_bytes())?;
-    let mut found = oids_of(alloc, &[7])?;
-    forward(
-        alloc,
-        &over.graph,
-        Oid(from),
-        &automaton,
-        &over.labels,
-        &mut found,
-        steps,
-    )?;
-    Ok(digits(&found))
+    let reached = reached(alloc, over, Oid(from), &automaton, steps);
+    drop(automaton);
+    Ok(reached?)
 }
 
-// The same by going over the plain list, where counting gives the number of those that are found.
-fn selected(alloc: Global, over: &Labelled, from: u32, path: &str) -> Result<u64, Fail> {
-    let mut edges = edges_of(alloc, &RING)?;
-    edges.sort_set();
+// Appends the objects that the path leads to, and gives how many are counted.
+fn put_selected<P: Paths>(
+    alloc: Global,
+    paths: &P,
+    path: &Path,
+    from: Oid,
+    found: &mut OidBuf,
+) -> Result<usize, NoMemory>
+    requires { leaves (path_tree path.now) ≤ 64 }
+{
+    paths.select(alloc, path, from, found)?;
+    paths.count(alloc, path, from)
+}
+
+// What was found, behind one that was there, as digits; 0 where another number is counted.
+fn counted(count: Result<usize, NoMemory>, found: OidBuf) -> Result<u64, NoMemory> {
+    let (digits, len) = (digits(&found), found.len());
+    drop(found);
+    if count?.checked_add(1) == Some(len) {
+        Ok(digits)
+    } else {
+        Ok(0)
+    }
+}
+
+fn selected<P: Paths>(alloc: Global, paths: &P, path: &Path, from: u32) -> Result<u64, NoMemory>
+    requires { leaves (path_tree path.now) ≤ 64 }
+{
     let mut found = oids_of(alloc, &[7])?;
-    let paths = paths_of(alloc, path.as_bytes())?;
-    if leaf_count(&paths) > 64 {
-        return Err(Fail::new("the path has too many leaves"));
-    }
-    let path = Path::Seq(paths);
-    let paths = NaivePaths::new(&edges, &over.labels);
-    paths.select(alloc, &path, Oid(from), &mut found)?;
-    let number = paths.count(alloc, &path, Oid(from))?;
-    if number.checked_add(1) != Some(found.len()) {
-        return Err(Fail::new("another number is counted than selected"));
-    }
-    Ok(digits(&found))
+    let count = put_selected(alloc, paths, path, Oid(from), &mut found);
+    counted(count, found)
+}
+
+fn selected_by<P: Paths>(alloc: Global, paths: &P, from: u32, path: &str) -> Result<u64, Fail> {
+    let path = path_in_turn(alloc, path.as_bytes())?;
+    let selected = selected(alloc, paths, &path, from);
+    drop(path);
+    Ok(selected?)
 }
 
 // The objects from which the path leads to one of these, behind one that was there.
 fn reaching<L: Ledger>(
     alloc: Global,
     over: &Labelled,
+    to: &OidBuf,
+    path: &Automaton,
+    steps: &mut Steps<L>,
+) -> Result<u64, NoMemory> {
+    let (graph, labels) = (&over.graph, &over.labels);
+    let mut found = oids_of(alloc, &[7])?;
+    let put = backward(alloc, graph, to, path, labels, &mut found, steps);
+    appended(put, found)
+}
+
+fn reaching_by<L: Ledger>(
+    alloc: Global,
+    over: &Labelled,
+    to: &OidBuf,
+    path: &str,
+    steps: &mut Steps<L>,
+) -> Result<u64, Fail> {
+    let automaton = automaton_of(alloc, path.as_bytes())?;
+    let reaching = reaching(alloc, over, to, &automaton, steps);
+    drop(automaton);
+    Ok(reaching?)
+}
+
+fn reaching_each<L: Ledger>(
+    alloc: Global,
+    over: &Labelled,
     to: &[u32],
     path: &str,
     steps: &mut Steps<L>,
 ) -> Result<u64, Fail> {
-    let (graph, labels) = (&over.graph, &over.labels);
     let to = oids_of(alloc, to)?;
-    let automaton = automaton_of(alloc, path.as_bytes())?;
-    let mut found = oids_of(alloc, &[7])?;
-    backward(alloc, graph, &to, &automaton, labels, &mut found, steps)?;
-    Ok(digits(&found))
+    let reaching = reaching_by(alloc, over, &to, path, steps);
+    drop(to);
+    reaching
 }
 
 // An object, a path, and the objects that it leads to from there.
-const REACHED: [(u32, &str, u64); 13] = [
+type FromOne = (u32, &'static str, u64);
+
+const REACHED: [FromOne; 13] = [
     (1, "", 71),
     (1, "#v", 73),
     (1, "N", 712),
@@ -103,7 +170,9 @@ const REACHED: [(u32, &str, u64); 13] = [
 ];
 
 // Objects, a path, and the objects from which it leads to one of them.
-const REACHING: [(&[u32], &str, u64); 9] = [
+type ToSome = (&'static [u32], &'static str, u64);
+
+const REACHING: [ToSome; 9] = [
     (&[3], "#v", 7124),
     (&[3], "nnv", 724),
     (&[1], "N", 7124),
@@ -118,28 +187,54 @@ const REACHING: [(&[u32], &str, u64); 9] = [
 fn check_forward<L: Ledger>(
     alloc: Global,
     over: &Labelled,
+    table: &[FromOne],
     steps: &mut Steps<L>,
 ) -> Result<(), Fail> {
-    for (from, path, wanted) in REACHED {
-        let found = reached(alloc, over, from, path, steps)?;
-        if found != wanted || selected(alloc, over, from, path)? != wanted {
-            return Err(Fail::new(path));
+    for (from, path, wanted) in table {
+        if reached_by(alloc, over, *from, path, steps)? != *wanted {
+            return Err(Fail::new(*path));
         }
     }
     Ok(())
 }
 
-fn check_backward<L: Ledger>(
-    alloc: Global,
-    over: &Labelled,
-    steps: &mut Steps<L>,
-) -> Result<(), Fail> {
-    for (to, path, wanted) in REACHING {
-        if reaching(alloc, over, to, path, steps)? != wanted {
-            return Err(Fail::new(path));
+// The same by going over a plain list, where counting gives the number of those that are found.
+fn check_paths<P: Paths>(alloc: Global, paths: &P, table: &[FromOne]) -> Result<(), Fail> {
+    for (from, path, wanted) in table {
+        if selected_by(alloc, paths, *from, path)? != *wanted {
+            return Err(Fail::new(*path));
         }
     }
     Ok(())
+}
+
+fn check_selected(alloc: Global, over: &Labelled) -> Result<(), Fail> {
+    let edges = edges_of(alloc, &RING)?;
+    let checked = check_paths(alloc, &NaivePaths::new(&edges, &over.labels), &REACHED);
+    drop(edges);
+    checked
+}
+
+fn check_backward<L: Ledger>(
+    alloc: Global,
+    over: &Labelled,
+    table: &[ToSome],
+    steps: &mut Steps<L>,
+) -> Result<(), Fail> {
+    for (to, path, wanted) in table {
+        if reaching_each(alloc, over, to, path, steps)? != *wanted {
+            return Err(Fail::new(*path));
+        }
+    }
+    Ok(())
+}
+
+fn check_over<L: Ledger>(alloc: Global, over: &Labelled, steps: &mut Steps<L>) -> Result<(), Fail> {
+    check_forward(alloc, over, &REACHED, steps)?;
+    check_selected(alloc, over)?;
+    check_backward(alloc, over, &REACHING, steps)?;
+    check_words(alloc, over, steps)?;
+    check_along(alloc, over, steps)
 }
 
 // All searches, on one counter.
@@ -149,11 +244,9 @@ fn check_all<L: Ledger>(alloc: Global, blank: Blank) -> Result<(), Fail>
     requires some { 0 < blank.parts }
 {
     let over = labelled_graph(alloc, &RING)?;
-    let mut steps = Steps::<L>::new(blank);
-    check_forward(alloc, &over, &mut steps)?;
-    check_backward(alloc, &over, &mut steps)?;
-    check_words(alloc, &over, &mut steps)?;
-    check_along(alloc, &over, &mut steps)
+    let checked = check_over(alloc, &over, &mut Steps::<L>::new(blank));
+    drop(over);
+    checked
 }
 
 #[test]

@@ -1,6 +1,6 @@
 use crate::shapes::{Labelled, automaton_of, labelled_graph};
 use least_words::least_word;
-use lore_base::{Label, Oid, Steps};
+use lore_base::{Label, Oid, Steps, Word};
 use std::alloc::Global;
 use std::sync::ledger::Ledger;
 use std::test::Fail;
@@ -14,6 +14,17 @@ fn digits(labels: &[Label]) -> u64 {
     digits
 }
 
+fn digits_of(word: Option<Word>) -> u64 {
+    match word {
+        Some(word) => {
+            let digits = digits(word.as_slice());
+            drop(word);
+            digits
+        }
+        None => 0,
+    }
+}
+
 // The least word between two objects of the graph as digits behind a 1, or 0 where there is none.
 fn spelled<L: Ledger>(
     alloc: Global,
@@ -24,15 +35,15 @@ fn spelled<L: Ledger>(
 ) -> Result<u64, Fail> {
     let (graph, labels) = (&over.graph, &over.labels);
     let automaton = automaton_of(alloc, path.as_bytes())?;
-    let word = least_word(alloc, graph, Oid(from), Oid(to), &automaton, labels, steps)?;
-    match &word {
-        Some(word) => Ok(digits(word.as_slice())),
-        None => Ok(0),
-    }
+    let word = least_word(alloc, graph, Oid(from), Oid(to), &automaton, labels, steps);
+    drop(automaton);
+    Ok(digits_of(word?))
 }
 
-// Two objects of the ring, a path and its least word between them.
-const OVER_RING: [((u32, u32), &str, u64); 15] = [
+// Two objects, a path and its least word between them.
+type Between = ((u32, u32), &'static str, u64);
+
+const OVER_RING: [Between; 15] = [
     ((1, 1), "", 1),
     ((1, 2), "", 0),
     ((1, 1), "N", 1),
@@ -67,14 +78,27 @@ const TWO_WAYS: [[u32; 3]; 10] = [
     [9, 0, 1],
 ];
 
-// Two objects there, and the least word between them.
-const OVER_TWO_WAYS: [((u32, u32), u64); 5] = [
-    ((1, 6), 1_571),
-    ((1, 4), 159),
-    ((7, 9), 13),
-    ((7, 1), 130),
-    ((7, 6), 130_571),
+const OVER_TWO_WAYS: [Between; 5] = [
+    ((1, 6), "#", 1_571),
+    ((1, 4), "#", 159),
+    ((7, 9), "#", 13),
+    ((7, 1), "#", 130),
+    ((7, 6), "#", 130_571),
 ];
+
+fn check_each<L: Ledger>(
+    alloc: Global,
+    over: &Labelled,
+    table: &[Between],
+    steps: &mut Steps<L>,
+) -> Result<(), Fail> {
+    for (ends, path, wanted) in table {
+        if spelled(alloc, over, *ends, path, steps)? != *wanted {
+            return Err(Fail::new(*path));
+        }
+    }
+    Ok(())
+}
 
 // Both tables, of which the first is over the ring.
 pub(crate) fn check_words<L: Ledger>(
@@ -82,16 +106,9 @@ pub(crate) fn check_words<L: Ledger>(
     ring: &Labelled,
     steps: &mut Steps<L>,
 ) -> Result<(), Fail> {
-    for (ends, path, wanted) in OVER_RING {
-        if spelled(alloc, ring, ends, path, steps)? != wanted {
-            return Err(Fail::new(path));
-        }
-    }
+    check_each(alloc, ring, &OVER_RING, steps)?;
     let over = labelled_graph(alloc, &TWO_WAYS)?;
-    for (ends, wanted) in OVER_TWO_WAYS {
-        if spelled(alloc, &over, ends, "#", steps)? != wanted {
-            return Err(Fail::new("another word is the least of two ways"));
-        }
-    }
-    Ok(())
+    let checked = check_each(alloc, &over, &OVER_TWO_WAYS, steps);
+    drop(over);
+    checked
 }

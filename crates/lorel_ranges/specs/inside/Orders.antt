@@ -1,7 +1,7 @@
 -- The order of ranges: each stands behind the one that it starts at, and no two have one place.
 use Rattle.std.specs.Prelude.{◌≡◌, ℕ, ◌⊎◌, List, [], ◌∷◌, ◌++◌, Contains}
 use Rattle.lorel_ranges.specs.Places.{named, quantified, Place, at_root}
-use Rattle.lorel_ranges.specs.Ranges.{Range}
+use Rattle.lorel_ranges.specs.Ranges.{PlacedRange}
 
 -- the place of a name
 abbrev pub IsNamed : Place → Type 0
@@ -17,12 +17,12 @@ abbrev pub IsFound : List Place → Place → Type 0
 IsFound earlier start = IsNamed start ⊎ Contains earlier start
 
 -- a range behind those that have these places
-pub record IsPlaced (earlier : List Place) (range : Range) : Type 0 where
+pub record IsPlaced (earlier : List Place) (range : PlacedRange) : Type 0 where
   pub found : IsFound earlier range.start
   pub is_open : IsOpen range.place
   pub is_new : Contains earlier range.place → ⊥
 
 -- ranges behind those that have these places, in order
-abbrev pub AreOrdered : List Place → List Range → Type 0
+abbrev pub AreOrdered : List Place → List PlacedRange → Type 0
 AreOrdered earlier [] = Unit {0}
 AreOrdered earlier (range ∷ others) = IsPlaced earlier range × AreOrdered (earlier ++ range.place ∷ []) others

@@ -3,7 +3,7 @@ use Rattle.std.specs.Prelude.{◌≡◌, ◌≢◌, ◌↔◌, ℕ, ◌+◌, ◌
 use Rattle.lore_base.specs.Paths.{PathTree}
 use Rattle.lorel_trees.specs.Trees.{FromTree}
 use Rattle.lorel_ranges.specs.Places.{Place, CellPlace, word}
-use Rattle.lorel_ranges.specs.Ranges.{Range, from_item_ranges, places, IsFixed}
+use Rattle.lorel_ranges.specs.Ranges.{PlacedRange, from_item_ranges, places, IsFixed}
 use Rattle.lorel_ranges.specs.inside.Fusing.{start_count}
 use Rattle.lorel_ranges.specs.Views.{place_tree, place_trees, prefix_of, range_of, ranges_of}
 use Rattle.lorel_ranges.specs.declared.select_ranges.TextRange.{TextRange}
@@ -17,11 +17,11 @@ IsOnce xs = (i j : ℕ) (x : _) → slice_get xs i ≡ Some x → slice_get xs j
 
 -- ---- following
 -- the range with this number starts at the place
-abbrev pub HasStart : List Range → Place → ℕ → Type 0
-HasStart ranges place number = (range : Range) × (slice_get ranges number ≡ Some range) × (range.start ≡ place)
+abbrev pub HasStart : List PlacedRange → Place → ℕ → Type 0
+HasStart ranges place number = (range : PlacedRange) × (slice_get ranges number ≡ Some range) × (range.start ≡ place)
 
 -- which of the ranges behind a place start at it, where they are numbered from the first on: none, one, or several
-abbrev pub IsFollowed : ℕ → List Range → Place → Followers → Type 0
+abbrev pub IsFollowed : ℕ → List PlacedRange → Place → Followers → Type 0
 IsFollowed first behind place None = start_count place behind ≡ 0
 IsFollowed first behind place (One number) =
     (start_count place behind ≡ 1) × ((offset : ℕ) × (number ≡ first + offset) × HasStart behind place offset)
@@ -48,7 +48,7 @@ pub record GainsFollower (place : Place) (number : ℕ) (old new : TextRange) : 
 
 -- ---- making
 -- the range of a path that has so many parts before its own
-abbrev pub part_range : Place → ℕ → Range
+abbrev pub part_range : Place → ℕ → PlacedRange
 part_range path len = record {
   start = prefix_of len path;
   parts = take 1 (drop len path.parts);
@@ -56,7 +56,7 @@ part_range path len = record {
 }
 
 -- the ranges of from items whose paths stand for these places
-abbrev pub item_ranges : List FromTree → List Place → List Range
+abbrev pub item_ranges : List FromTree → List Place → List PlacedRange
 item_ranges (item ∷ items) (path ∷ paths) = from_item_ranges item.variable path ++ item_ranges items paths
 item_ranges _ _ = []
 
@@ -85,16 +85,16 @@ abbrev pub IsMarked : List TextRange → Place → Type 0
 IsMarked ranges place = (range : TextRange) × Contains ranges range × (place_tree range.place ≡ place) × (range.used ≡ true)
 
 -- a range has the place of a word, and the other place is its own or that which it starts at
-abbrev pub IsNeededAt : List Range → Place → Place → Type 0
+abbrev pub IsNeededAt : List PlacedRange → Place → Place → Type 0
 IsNeededAt ranges shown place =
-    (range : Range) × Contains ranges range × (range.place ≡ shown) × ((range.place ≡ place) ⊎ (range.start ≡ place))
+    (range : PlacedRange) × Contains ranges range × (range.place ≡ shown) × ((range.place ≡ place) ⊎ (range.start ≡ place))
 
 -- so for one of the words that cells show
-abbrev pub IsNeededOf : List Range → List CellPlace → Place → Type 0
+abbrev pub IsNeededOf : List PlacedRange → List CellPlace → Place → Type 0
 IsNeededOf ranges cells place = (shown : Place) × Contains cells (word shown) × IsNeededAt ranges shown place
 
 -- one of the paths is fixed at the place
-abbrev pub IsFixedOf : List Range → List Place → Place → Type 0
+abbrev pub IsFixedOf : List PlacedRange → List Place → Place → Type 0
 IsFixedOf ranges paths place =
     (path : Place) × (rest : List PathTree) × Contains paths path × IsFixed ranges path place rest
 

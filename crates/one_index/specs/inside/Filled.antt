@@ -3,11 +3,11 @@ use Rattle.std.specs.Prelude.{◌≡◌, ◌↔◌, ℕ, List, [], Some, length,
 use Rattle.std.specs.declared.cmp.Ordering.TheVariants.{Less}
 use Rattle.lore_base.specs.TargetSets.{ListsInOrder}
 use Rattle.one_index.specs.Types.{Oid, Label, Block}
-use Rattle.one_index.specs.Blocks.{row_cmp}
+use Rattle.one_index.specs.Blocks.{block_edge_cmp}
 
 -- the edges in order, each once
 pub record IsRowInOrder (edges row : List (Label × ℕ)) : Type 0 where
-  pub ascend : AllPairs (λ a b. row_cmp a b ≡ Less) row
+  pub ascend : AllPairs (λ a b. block_edge_cmp a b ≡ Less) row
   pub exact : (edge : Label × ℕ) → Contains row edge ↔ Contains edges edge
 
 pub record IsFilled (oids : List Oid) (edges : List (Label × ℕ)) (block : Block) : Type 0 where

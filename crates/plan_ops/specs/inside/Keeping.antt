@@ -4,7 +4,7 @@ use Rattle.lore_base.specs.Paths.{Reaches, path_tree}
 use Rattle.lore_base.specs.TargetSets.{ListsInOrder}
 use Rattle.word_walks.specs.WordWalks.{IsReachedBy}
 use Rattle.plan_ops.specs.Types.{Oid}
-use Rattle.plan_ops.specs.Steps.{StepsOver}
+use Rattle.plan_laws.specs.Steps.{StepsOver}
 use Rattle.plan_ops.specs.inside.Ready.{ReadyStep}
 use Rattle.plan_ops.specs.declared.ready_steps.ReadyStep.TheVariants as ready
 pub use Rattle.plan_ops.specs.declared.kept.Kept.{Kept}

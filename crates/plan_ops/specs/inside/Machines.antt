@@ -4,10 +4,10 @@ use Rattle.lorel_bound.specs.Plans.{StepTree}
 use Rattle.row_hints.specs.declared.told.Told.{Told}
 use Rattle.row_hints.specs.Told.{AreTold}
 use Rattle.plan_ops.specs.Types.{Oid, PartialRow, RANGES}
-use Rattle.plan_ops.specs.Steps.{StepsOver}
+use Rattle.plan_laws.specs.Steps.{StepsOver}
 use Rattle.plan_ops.specs.Rows.{IsToCome, AreApart}
-use Rattle.plan_ops.specs.inside.Orders.{AreInOrder}
-use Rattle.plan_ops.specs.inside.Ready.{ReadyStep, ready_tree, HasFound, CanBeReady}
+use Rattle.plan_laws.specs.Orders.{AreStepsInOrder, CanBeReady}
+use Rattle.plan_ops.specs.inside.Ready.{ReadyStep, ready_tree, HasFound}
 use Rattle.plan_ops.specs.inside.Keeping.{Kept, AreKeptBy}
 
 -- what is told early holds of each row that is to come of these partial rows and passes
@@ -16,7 +16,7 @@ pub record AreHinted (over : StepsOver) (Hints : List Oid → Type 0) (steps : L
 
 -- each step finds what it reads and can be taken, and no row comes of two partial rows, each of which has eight slots
 pub record IsMachine (over : StepsOver) (steps : List StepTree) (partials : List PartialRow) : Type 0 where
-  pub in_order : AreInOrder steps
+  pub in_order : AreStepsInOrder steps
   pub can : All CanBeReady steps
   pub apart : AreApart over steps partials
   pub eight : All (λ partial. length partial.row ≡ RANGES) partials

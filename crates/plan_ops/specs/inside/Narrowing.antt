@@ -2,7 +2,7 @@
 use Rattle.std.specs.Prelude.{◌≡◌, ℕ, List, Some, Contains, drop}
 use Rattle.lorel_bound.specs.Plans.{StepTree}
 use Rattle.plan_ops.specs.Types.{Oid}
-use Rattle.plan_ops.specs.Steps.{StepsOver, Finishes, slot_of}
+use Rattle.plan_laws.specs.Steps.{StepsOver, Finishes, slot_of}
 
 -- some step of these fills the slot
 abbrev pub IsFilledBy : List StepTree → ℕ → Type 0

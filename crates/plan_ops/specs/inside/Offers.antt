@@ -3,7 +3,7 @@ use Rattle.std.specs.Prelude.{◌≡◌, ◌≢◌, ◌↔◌, ℕ, ◌<◌, ◌
 use Rattle.lore_base.specs.TargetSets.{ListsInOrder}
 use Rattle.lorel_bound.specs.Plans.{StepTree}
 use Rattle.plan_ops.specs.Types.{Oid, RANGES, PartialRow}
-use Rattle.plan_ops.specs.Steps.{StepsOver, Meets, Finishes, slot_of}
+use Rattle.plan_laws.specs.Steps.{StepsOver, Meets, Finishes, slot_of}
 use Rattle.plan_ops.specs.declared.offers.Offer.{Offer}
 pub use Rattle.plan_ops.specs.declared.offers.Offer.TheVariants.{Fill, Lend, One, Keep, Reject}
 

@@ -1,7 +1,7 @@
 -- The product of a graph with a machine: objects under the states that the machine is in there.
 use Rattle.std.specs.Prelude.{◌≡◌, ℕ, List, reverse, Contains}
 use Rattle.lore_base.specs.Walks.{Walk}
-use Rattle.path_expr.specs.Machines.{Machine, Moving, Accepts, Moves, Runs, StepsTo}
+use Rattle.path_expr.specs.Machines.{Machine, Moving, Accepts, Moves, MovesThrough, StepsTo}
 use Rattle.product_walk.specs.Types.{Oid, Label, Edge, States}
 use Rattle.product_walk.specs.inside.Arcs.{WalkBy}
 
@@ -22,7 +22,7 @@ Leads labels machine goes here there =
 -- a word leads from a start to the object, and from the start's state to the state there
 abbrev pub CanBe : List (List ℕ) → Machine → (Oid → Label → Oid → Type 0) → (Oid × ℕ → Type 0) → Oid × ℕ → Type 0
 CanBe labels machine goes Starts there =
-    (start : Oid × ℕ) × (word : List Label) × Starts start × Runs labels machine start.1 word there.1 × WalkBy goes start.0 word there.0
+    (start : Oid × ℕ) × (word : List Label) × Starts start × MovesThrough labels machine start.1 word there.1 × WalkBy goes start.0 word there.0
 
 -- one of the edges leads to the object, and its label from one of the states to the state there
 abbrev pub IsNext : List (List ℕ) → Machine → (Edge → Oid) → List Edge → States → Oid × ℕ → Type 0

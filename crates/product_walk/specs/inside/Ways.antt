@@ -3,7 +3,7 @@ use Rattle.std.specs.Prelude.{◌≡◌, ◌↔◌, ℕ, ◌+◌, ◌*◌, ◌<�
 use Rattle.lore_base.specs.Lists.{ExtendsBy}
 use Rattle.lore_base.specs.Paths.{PathTree, path_tree, trees_of, step, seq, none, Fits, Spells, Reaches}
 use Rattle.lore_base.specs.declared.paths.Path.{Path}
-use Rattle.path_expr.specs.Machines.{StandsFor}
+use Rattle.path_expr.specs.Machines.{Recognises}
 use Rattle.product_walk.specs.Types.{Oid, Label, Edge, Pattern, LEAVES}
 use Rattle.product_walk.specs.ProductWalks.{IsWalked}
 use Rattle.product_walk.specs.declared.routes.Way.{Way}
@@ -28,7 +28,7 @@ IsWay path (Child pattern) = SpellAlike path (step pattern.now)
 IsWay path (InTurn parts) =
     SpellAlike path (seq (trees_of (map path_tree parts.now)))
     × All IsLabel parts.now × (2 ≤ length parts.now) × (length parts.now ≤ LEAVES)
-IsWay path (Search machine) = StandsFor machine path
+IsWay path (Search machine) = Recognises machine path
 
 -- a path is walked this way against the edges
 abbrev pub IsTurned : PathTree → Turned → Type 0

@@ -10,7 +10,7 @@ use Rattle.set_steps.specs.SetSteps.{AreSteps}
 use Rattle.set_explorer.specs.inside.Entering.{AreEntered}
 
 -- a set with the path that it was found by
-pub record Stop : Type 0 where
+pub record TrailStop : Type 0 where
   pub path : LabelPath
   pub set : List Oid
 
@@ -26,13 +26,13 @@ abbrev pub ComesUpTo : LabelPath → LabelPath → Type 0
 ComesUpTo path other = (path ≡ other) ⊎ ComesBefore path other
 
 -- the set was found by a path that comes no later
-pub record IsMet (trail : List Stop) (stop : Stop) : Type 0 where
+pub record IsMet (trail : List TrailStop) (stop : TrailStop) : Type 0 where
   pub by : LabelPath
   pub found : Contains trail (record { path = by; set = stop.set })
   pub order : ComesUpTo by stop.path
 
 -- the sets were found in this order, each by a path that leads to it
-pub record IsTrail (names : List (List ℕ × Oid)) (edges : List Edge) (trail : List Stop) (sets : List (List Oid))
+pub record IsTrail (names : List (List ℕ × Oid)) (edges : List Edge) (trail : List TrailStop) (sets : List (List Oid))
     : Type 0 where
   pub found : map (λ stop. stop.set) trail ≡ sets
   pub leads : All (λ stop. LeadsTo names edges stop.path stop.set) trail
@@ -48,7 +48,7 @@ pub record HasRow (edges : List Edge) (nodes : List GuideNode) (node : GuideNode
       → (next : Node) × Contains node.edges (label, next)
 
 -- all steps of the stop were met
-abbrev pub IsDone : List Edge → List Stop → Stop → Type 0
+abbrev pub IsDone : List Edge → List TrailStop → TrailStop → Type 0
 IsDone edges trail stop =
     (label : Label) (oid : Oid) → LeavesTo edges stop.set label oid
     → (next : List Oid) × IsStep edges stop.set label next
@@ -58,13 +58,13 @@ IsDone edges trail stop =
 -- before all that the next set leads to
 pub record IsSearched (names : List (List ℕ × Oid)) (edges : List Edge) (nodes : List GuideNode) (n : ℕ)
     : Type 0 where
-  pub trail : List Stop
+  pub trail : List TrailStop
   pub is : IsTrail names edges trail (sets_of nodes)
   pub started : All (λ named. IsMet trail (record { path = start_path named.0; set = named.1 ∷ [] })) names
-  pub done : (place : ℕ) (stop : Stop) → place < n → slice_get trail place ≡ Some stop → IsDone edges trail stop
+  pub done : (place : ℕ) (stop : TrailStop) → place < n → slice_get trail place ≡ Some stop → IsDone edges trail stop
   pub rows : (place : ℕ) (node : GuideNode) → place < n → slice_get nodes place ≡ Some node
       → HasRow edges nodes node
-  pub ahead : (stop : Stop) (label : Label) → slice_get trail n ≡ Some stop
+  pub ahead : (stop : TrailStop) (label : Label) → slice_get trail n ≡ Some stop
       → All (λ earlier. ComesBefore earlier.path (longer stop.path label)) trail
 
 -- the node at a place was given its edges: the steps of its set were entered

@@ -62,7 +62,7 @@ pub record FitsBy (edges : List Edge) (objects : List (Oid × Value)) (join : Jo
       → (oid : Oid) × (slice_get other join.slot ≡ Some oid) × Contains oids oid
 
 -- these are told by a join of the slot, from a known one
-pub record IsToldBy (edges : List Edge) (objects : List (Oid × Value)) (joins : List Join) (known : List Bool) (slot : ℕ) (row oids : List Oid)
+pub record IsToldByJoin (edges : List Edge) (objects : List (Oid × Value)) (joins : List Join) (known : List Bool) (slot : ℕ) (row oids : List Oid)
     : Type 0 where
   pub join : Join
   pub among : Contains joins join

@@ -6,6 +6,7 @@ use Rattle.statements.specs.Types.refusals
 use Rattle.lore_base.specs.Databases.{Database}
 use Rattle.lorel_trees.specs.Trees.{SelectTree}
 use Rattle.lorel_bind.specs.Refusals as binding
+pub use Rattle.lorel_bind.specs.Refusals.{bind_order}
 use Rattle.oem_text.specs.declared.parts.Part.{Part}
 use Rattle.statements.specs.declared.stops.Stop.{Stop}
 use Rattle.statements.specs.Statements.{HasTooManyRows}
@@ -14,12 +15,9 @@ use Rattle.statements.specs.Stops.{told}
 -- the cause of each refusal of a select
 abbrev pub ReadCause : Database → SelectTree → Refusal → Type 0
 ReadCause db query refusals.TooManyRows = HasTooManyRows db query
-ReadCause db query refusal = binding.Cause db.graph.names query refusal
+ReadCause db query refusal = binding.BindCause db.graph.names query refusal
 
--- what a select is refused for before its rows are found, and with them
-abbrev pub bind_order : List Refusal
-bind_order = binding.order
-
+-- what a select is refused for, with its rows
 abbrev pub read_order : List Refusal
 read_order = bind_order ++ refusals.TooManyRows ∷ []
 

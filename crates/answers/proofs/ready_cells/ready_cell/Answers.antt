@@ -1,7 +1,7 @@
 use Rattle.std.proofs.Common.{◌≡◌, ◌<◌, List, length, get_or, Some, subst, sym, refl, ◌∙◌, arith}
 use Rattle.std.specs.List.{slice_get}
 use Rattle.std.proofs.lemmas.Option.{slice_get_read}
-use Rattle.plan_ops.proofs.DescribeLawsRows.{within_more}
+use Rattle.plan_laws.proofs.DescribeLawsRows.{within_more}
 use Rattle.lorel_bound.specs.declared.bound.Range.{Range}
 use Rattle.lorel_bound.specs.Runnable.{IsWithin, IsCellWithin}
 use Rattle.answers.specs.Types.{CellOf, RANGES}

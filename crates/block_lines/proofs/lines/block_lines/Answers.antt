@@ -1,10 +1,10 @@
 use Rattle.std.proofs.Common.{[], ◌∷◌, ◌++◌, ap, ◌∙◌}
-use Rattle.block_lines.specs.BlockLines.{count_line}
+use Rattle.block_lines.specs.BlockLines.{block_count_line}
 use Rattle.block_lines.proofs.lines.block_lines.Goals as goal
 
 pub returns : goal.returns
 returns c graph are =
-    let last = c.in_ok-last_line.ensures ∙ ap count_line c.len.ensures in
+    let last = c.in_ok-last_line.ensures ∙ ap block_count_line c.len.ensures in
     record {
       blocks = c.args.blocks.now;
       of_graph = are;

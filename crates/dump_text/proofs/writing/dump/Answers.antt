@@ -1,7 +1,7 @@
 use Rattle.std.proofs.Common.{◌≡◌, ◌∙◌, ℕ, List, [], ◌∷◌, ◌++◌, map, ap, sym}
 use Rattle.std.specs.Prelude.{pos, codes}
 use Rattle.dump_text.specs.Types.{Oid, Edge}
-use Rattle.dump_text.specs.Dumps.{label_line, name_line, object_line, edge_line, spelled_edge, head_lines, lines_text}
+use Rattle.dump_text.specs.Dumps.{label_line, name_line, object_line, edge_line, spelled_edge, head_lines, ended_lines}
 use Rattle.std.proofs.lemmas.Simd.{map-map}
 use Rattle.dump_text.proofs.LineLaws.{goes_on}
 use Rattle.dump_text.proofs.writing.dump.Goals as goal
@@ -15,11 +15,11 @@ returns c =
     let line : Edge → List ℕ = λ (edge : Edge). edge_line (spelled_edge labels edge) in
     let spelled : map line c.as_slice.result.now ≡ map edge_line (map (spelled_edge labels) graph.edges) =
     ap (λ (l : List Edge). map line l) (c.as_slice.ensures ∙ c.requires.edges) ∙ sym (map-map edge_line (spelled_edge labels) graph.edges) in
-    let head : c.put_head.new.dump ≡ lines_text first =
+    let head : c.put_head.new.dump ≡ ended_lines first =
     c.in_ok-put_head.ensures
-    ∙ (λ i. c.new-dump.ensures i ++ lines_text (head_lines (pos 2) (pos (c.next.ensures.number i)) (pos c.args.nodes) c.args.mode)) in
-    let names = c.in_ok-put_names.ensures ∙ ap (λ (l : List (List ℕ × Oid)). c.put_labels.new.dump ++ lines_text (map name_line l)) c.names.ensures in
-    let edges = c.in_ok-put_edges.ensures ∙ ap (λ (l : List (List ℕ)). c.put_objects.new.dump ++ lines_text l) spelled in
+    ∙ (λ i. c.new-dump.ensures i ++ ended_lines (head_lines (pos 2) (pos (c.next.ensures.number i)) (pos c.args.nodes) c.args.mode)) in
+    let names = c.in_ok-put_names.ensures ∙ ap (λ (l : List (List ℕ × Oid)). c.put_labels.new.dump ++ ended_lines (map name_line l)) c.names.ensures in
+    let edges = c.in_ok-put_edges.ensures ∙ ap (λ (l : List (List ℕ)). c.put_objects.new.dump ++ ended_lines l) spelled in
     goes_on [] c.put_head.new.dump all first _ head
     (goes_on c.put_head.new.dump c.put_labels.new.dump all (map label_line labels) _ c.in_ok-put_labels.ensures
     (goes_on c.put_labels.new.dump c.put_names.new.dump all (map name_line graph.names) _ names

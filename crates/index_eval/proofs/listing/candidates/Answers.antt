@@ -1,5 +1,5 @@
 use Rattle.std.proofs.Common.{◌∙◌}
-use Rattle.plan_ops.proofs.OfferLaws.{some_candidates, no_candidates}
+use Rattle.plan_laws.proofs.CandidateLaws.{some_candidates, no_candidates}
 use Rattle.index_eval.proofs.listing.candidates.Goals as goal
 use Rattle.index_eval.proofs.listing.candidates.Goals.{in-Some+in_ok-probe, in_default}
 

@@ -1,11 +1,11 @@
 use Rattle.std.proofs.Common.{◌≡◌, ◌<◌, ◌∷◌, [], ◌++◌, length, get_or, map, refl, sym, ◌∙◌, arith}
 use Rattle.std.proofs.lemmas.List.{take_more}
 use Rattle.doem_history.specs.Types.{Complex}
-use Rattle.dump_text.proofs.LineLaws.{object_at, object_here, object_live}
+use Rattle.oem_graph.proofs.ObjectLaws.{object_at, object_here, object_live}
 use Rattle.kept_history.proofs.objects.all_objects.Goals as goal
 
-pub value_in-requires : goal.value_in-requires
-value_in-requires c =
+pub live_value-requires : goal.live_value-requires
+live_value-requires c =
     let objects = c.args.graph.now.graph.objects in
     let place = c.places.place in
     let oid = c.oid_at-oid.result in
@@ -25,7 +25,7 @@ places-preserved c =
     let low : place < length objects = omega (arith, count, inside) in
     let here = object_at oids place oid oid c.oid_at-oid.ensures in
     let at = get_or objects place (oid, Complex) in
-    let value = c.in_ok-value.ensures ∙ c.value_in.ensures at.1 (object_live objects oids place oid oid Complex refl low here) in
+    let value = c.in_ok-value.ensures ∙ c.live_value.ensures at.1 (object_live objects oids place oid oid Complex refl low here) in
     let number = object_here objects oids place oid oid Complex refl low here in
     let is : (oid, c.in_ok-value.value) ≡ at = λ k. (number k, value k) in
     c.in_ok-push.ensures.ok ∙ (λ k. c.places.invariant k ++ is k ∷ []) ∙ sym (take_more objects place (oid, Complex) low)

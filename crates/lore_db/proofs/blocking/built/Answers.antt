@@ -2,7 +2,7 @@ use Rattle.std.proofs.Common.{◌≡◌, List, length, map, sym, ap, subst, ◌�
 use Rattle.std.proofs.lemmas.List.{length-map}
 use Rattle.std.specs.Prelude.{◌↔◌, Contains, IfOk}
 use Rattle.lore_base.specs.Databases.{OemGraph}
-use Rattle.one_index.specs.Blocks.{NamedGraph, graph_of, IsSound, AreBlocksOf}
+use Rattle.one_index.specs.Blocks.{NamedGraph, named_graph_of, IsSound, AreBlocksOf}
 use Rattle.statements.specs.Types.{Edge}
 use Rattle.statements.specs.Blocks.{named_graph}
 use Rattle.statements.proofs.BlockLaws.{sound_graph}
@@ -15,8 +15,8 @@ build-requires-clause-sound g c =
     let names = c.names.ensures ∙ ap (λ (graph : OemGraph). graph.names) drawn in
     let objects = c.in_ok-objects.ensures ∙ ap (λ (graph : OemGraph). map (λ object. object.0) graph.objects) drawn in
     let edges = ap (λ (graph : OemGraph). graph.edges) drawn in
-    let same : named_graph db ≡ graph_of c.names.result.now c.in_ok-objects.objects c.graph-graph.result.now.graph.edges =
-    λ i. graph_of (sym names i) (sym objects i) (sym edges i) in
+    let same : named_graph db ≡ named_graph_of c.names.result.now c.in_ok-objects.objects c.graph-graph.result.now.graph.edges =
+    λ i. named_graph_of (sym names i) (sym objects i) (sym edges i) in
     subst IsSound same (sound_graph db c.graph-graph.ensures.valid)
 
 pub build-requires-clause-same : goal.build-requires-clause-same
@@ -39,6 +39,6 @@ returns g c =
     let names = c.names.ensures ∙ ap (λ (graph : OemGraph). graph.names) drawn in
     let objects = c.in_ok-objects.ensures ∙ ap (λ (graph : OemGraph). map (λ object. object.0) graph.objects) drawn in
     let edges = ap (λ (graph : OemGraph). graph.edges) drawn in
-    let same : graph_of c.names.result.now c.in_ok-objects.objects c.graph-graph.result.now.graph.edges ≡ named_graph db =
-    λ i. graph_of (names i) (objects i) (edges i) in
+    let same : named_graph_of c.names.result.now c.in_ok-objects.objects c.graph-graph.result.now.graph.edges ≡ named_graph db =
+    λ i. named_graph_of (names i) (objects i) (edges i) in
     subst (λ (graph : NamedGraph). IfOk c.build.result (AreBlocksOf graph)) same c.build.ensures.blocks

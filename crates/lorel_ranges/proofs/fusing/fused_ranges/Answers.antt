@@ -1,6 +1,6 @@
 use Rattle.std.proofs.Common.{List, [], ◌∙◌, subst, sym, ap}
 use Rattle.lorel_trees.specs.Trees.{select_tree}
-use Rattle.lorel_ranges.specs.Ranges.{Range, places, AreFused, IsUsed}
+use Rattle.lorel_ranges.specs.Ranges.{PlacedRange, places, AreFused, IsUsed}
 use Rattle.lorel_ranges.specs.inside.Orders.{AreOrdered}
 use Rattle.lorel_ranges.specs.Views.{ranges_of}
 use Rattle.lorel_ranges.specs.inside.SelectRanges.{IsMarked}
@@ -29,6 +29,6 @@ returns c =
       places = ap places (sym marked.ranges) ∙ sym marked.linked.same;
       fuses = fused_alike (IsMarked c.mark_used.new.self.fused.items) (IsUsed query plain) plain (ranges_of c.fuse.new.ranges.items)
           (λ place there. marked.marked query place c.requires there)
-          (subst (λ (ranges : List Range). AreFused (IsMarked c.mark_used.new.self.fused.items) ranges (ranges_of c.fuse.new.ranges.items)) marked.ranges
+          (subst (λ (ranges : List PlacedRange). AreFused (IsMarked c.mark_used.new.self.fused.items) ranges (ranges_of c.fuse.new.ranges.items)) marked.ranges
           c.in_ok-fuse.ensures);
     }

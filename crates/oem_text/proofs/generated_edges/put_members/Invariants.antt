@@ -1,7 +1,7 @@
 use Rattle.std.proofs.Common.{◌≡◌, ◌+◌, ◌-◌, ◌%◌, ◌≤◌, ◌++◌, ℕ, List, map, codes}
 use Rattle.oem_labels.specs.Labels.{label_in}
 use Rattle.oem_text.specs.Layouts.{edge_from}
-use Rattle.oem_text.specs.Generated.{member_arc, members_of}
+use Rattle.oem_text.specs.Generated.{member_arc, club_members}
 use Rattle.oem_text.proofs.GeneratedClubs.{members_from}
 use Rattle.oem_text.proofs.generated_edges.put_members.Given as goal
 
@@ -11,7 +11,7 @@ invariant-members l = record {
   some : 1 ≤ l.i;
   edges : (table : List (List ℕ)) → l.label ≡ label_in table (codes "member")
       → l.edges ++ map (edge_from l.next table) (map (member_arc l.count l.c) (members_from l.count l.c l.i))
-      ≡ l.fn.edges ++ map (edge_from l.next table) (map (member_arc l.count l.c) (members_of l.count l.c));
+      ≡ l.fn.edges ++ map (edge_from l.next table) (map (member_arc l.count l.c) (club_members l.count l.c));
 }
 
 abbrev pub decreases-members : goal.decreases-members

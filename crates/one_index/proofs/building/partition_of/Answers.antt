@@ -1,7 +1,7 @@
 use Rattle.std.proofs.Common.{ℕ, List, length, sym, subst, ap, ◌∙◌}
 use Rattle.block_rounds.specs.Partitions.{AreWithin, AreBlocks, IsNumbered}
 use Rattle.one_index.specs.Types.{Oid}
-use Rattle.one_index.specs.Blocks.{graph_of}
+use Rattle.one_index.specs.Blocks.{named_graph_of}
 use Rattle.one_index.specs.inside.Kinds.{AreKinds}
 use Rattle.one_index.proofs.TransferLaws.{rows_every, rows_within, IsParted-told}
 use Rattle.one_index.proofs.building.partition_of.Goals as goal
@@ -19,7 +19,7 @@ refined-requires-clause-every g c =
 
 pub returns-clause-parted : goal.returns-clause-parted
 returns-clause-parted g c edges same sound =
-    let graph = graph_of c.args.names.now c.args.objects.now edges in
+    let graph = named_graph_of c.args.names.now c.args.objects.now edges in
     let rows = c.in_ok-rows.rows.items in
     let kinds = c.in_ok-kinds.kinds.items in
     let numbers = c.in_ok-partition.partition.numbers.items in

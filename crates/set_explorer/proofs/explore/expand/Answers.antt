@@ -5,6 +5,7 @@ use Rattle.set_explorer.specs.Nodes.{sets_of}
 use Rattle.lore_base.specs.GuideLimits.{KeepLimits}
 use Rattle.set_explorer.specs.inside.Founds.{found_sets, IsHalted}
 use Rattle.set_explorer.proofs.ExpandLaws.{found-at, expanded, halted, place-stays}
+use Rattle.set_explorer.proofs.LossLaws.{change-of}
 use Rattle.set_explorer.proofs.explore.expand.Goals as goal
 
 pub returns-clause-fit : goal.returns-clause-fit
@@ -51,3 +52,9 @@ put_edges-requires-clause-place g c =
     place-stays c.args.change.now.guide.nodes.now c.args.limit c.args.found.now c.enter_all.new.found
     c.in_ok-targets.targets.items
     c.in_ok-row.row c.args.place c.in_ok-row.ensures.entered c.requires.place
+
+pub note_bases-requires : goal.note_bases-requires
+note_bases-requires g c =
+    let change = c.args.change.now in
+    change-of change.guide.nodes.now change.lost.now change.fresh.now (g.A.Adjacent.edges change.after.now) change.told.now
+    change.entering.now change.dirty.now change.grown.now change.back.now c.requires.told

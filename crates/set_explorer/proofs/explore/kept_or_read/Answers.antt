@@ -8,6 +8,7 @@ use Rattle.set_explorer.specs.PlannedNodes.{origin_set}
 use Rattle.set_steps.specs.SetSteps.{AreSteps}
 use Rattle.set_explorer.specs.inside.Founds.{steps_of, Costs}
 use Rattle.set_explorer.proofs.ReadLaws.{kept-is, clean-untouched}
+use Rattle.set_explorer.proofs.LossLaws.{change-of}
 use Rattle.set_explorer.proofs.explore.kept_or_read.Goals as goal
 
 pub returns-then-meets-clause-steps : goal.returns-then-meets-clause-steps
@@ -16,20 +17,26 @@ returns-then-meets-clause-steps g c =
     subst (λ (s : List Oid). AreSteps (g.A.Adjacent.edges c.args.change.now.after.now) s
     (steps_of kept c.in_ok-targets.targets.items))
     (sym (kept-is kept c.args.node c.node_of-there.result.now c.requires.there c.node_of-there.ensures))
-    (c.in_ok-targets.ensures.steps kept)
+    c.in_ok-targets.ensures.steps
 
-pub returns-then-meets-clause-there : goal.returns-then-meets-clause-there
-returns-then-meets-clause-there g c = c.in_ok-targets.ensures.there c.args.change.now.guide.nodes.now
+pub told_or_read-requires-clause-there : goal.told_or_read-requires-clause-there
+told_or_read-requires-clause-there g c =
+    Contains-from_place c.args.change.now.guide.nodes.now c.args.node.0 c.node_of-there.result.now c.node_of-there.ensures
 
 pub returns-then-meets-clause-reads : goal.returns-then-meets-clause-reads
 returns-then-meets-clause-reads g c =
     let kept = c.args.change.now.guide.nodes.now in
     let edges = g.A.Adjacent.edges c.args.change.now.after.now in
-    let there = c.node_of-there.result.now in
     subst (λ (s : List Oid). Costs (sets_of kept) c.args.change.now.dirty.now c.args.change.now.grown.now edges s c.args.steps.now
-    c.read_targets.new.steps)
+    c.told_or_read.new.steps)
     (sym (kept-is kept c.args.node c.node_of-there.result.now c.requires.there c.node_of-there.ensures))
-    (inl (inr (c.meets.ensures.0 c.if-meets.true), (there.set, inl refl, c.in_ok-targets.ensures.reads)))
+    (inl (inr (c.meets.ensures.0 c.if-meets.true), c.in_ok-targets.ensures.reads))
+
+pub kept_or_grown-requires-clause-stood : goal.kept_or_grown-requires-clause-stood
+kept_or_grown-requires-clause-stood g c =
+    let change = c.args.change.now in
+    change-of change.guide.nodes.now change.lost.now change.fresh.now (g.A.Adjacent.edges change.after.now) change.told.now
+    change.entering.now change.dirty.now change.grown.now change.back.now c.requires.told
 
 pub kept_or_grown-requires-clause-there : goal.kept_or_grown-requires-clause-there
 kept_or_grown-requires-clause-there g c =

@@ -1,4 +1,4 @@
-use Rattle.std.proofs.Common.{List, Option, IfSome, inr, subst}
+use Rattle.std.proofs.Common.{List, Option, IfSome, inl, inr, subst}
 use Rattle.list_laws.proofs.MemberLaws.{Contains-map}
 use Rattle.set_explorer.specs.Types.{Oid, GuideNode}
 use Rattle.set_explorer.specs.Touched.{IsExtended}
@@ -20,7 +20,7 @@ returns-in-Some-2-clause-reads g c =
     (λ more. IsExtended change.dirty.now change.grown.now there.set more c.args.set.now)) c.in-Some-2.is
     c.in_ok-more.ensures in
     let stood = Contains-map (λ (n : GuideNode). n.set) change.guide.nodes.now there c.in-Some.ensures in
-    (c.in-Some-2.more, inr (c.requires.new, (there.set, stood, extended)), c.in_ok-targets.ensures.reads)
+    (c.in-Some-2.more, inr (inl (c.requires.new, (there.set, stood, extended))), c.in_ok-targets.ensures.reads)
 
 pub returns-clause-steps : goal.returns-clause-steps
 returns-clause-steps g c = c.in_ok-targets-2.ensures.steps c.args.change.now.guide.nodes.now

@@ -4,6 +4,7 @@ use Rattle.set_explorer.specs.Nodes.{sets_of}
 use Rattle.set_steps.specs.SetSteps.{AreSteps}
 use Rattle.set_explorer.specs.inside.Founds.{steps_of, Costs}
 use Rattle.set_explorer.proofs.ReadLaws.{origin-is, origin-within, fresh-touched}
+use Rattle.set_explorer.proofs.LossLaws.{change-of}
 use Rattle.set_explorer.proofs.explore.targets_at.Goals as goal
 
 pub returns-in-Fresh-clause-steps : goal.returns-in-Fresh-clause-steps
@@ -52,3 +53,9 @@ pub read_or_extended-requires-clause-new : goal.read_or_extended-requires-clause
 read_or_extended-requires-clause-new g c =
     fresh-touched c.args.change.now.guide.nodes.now c.args.found.now c.requires.found c.args.place c.in-Fresh.set
     (c.origin_at.ensures ∙ ap Some c.in-Fresh.is)
+
+pub read_or_extended-requires-clause-stood : goal.read_or_extended-requires-clause-stood
+read_or_extended-requires-clause-stood g c =
+    let change = c.args.change.now in
+    change-of change.guide.nodes.now change.lost.now change.fresh.now (g.A.Adjacent.edges change.after.now) change.told.now
+    change.entering.now change.dirty.now change.grown.now change.back.now c.requires.told

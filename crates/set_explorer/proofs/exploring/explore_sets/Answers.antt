@@ -213,7 +213,7 @@ returns-clause-ascend g c =
 
 pub expand-requires : goal.expand-requires
 expand-requires g c = record {
-  stood = c.requires.stood;
+  told = c.requires.told;
   hashed = c.requires.hashed;
   found = c.nodes.invariant.found;
   fit = c.nodes.invariant.fit;

@@ -10,12 +10,12 @@ use Rattle.slot_joins.proofs.members.join_by.Goals as goal
 
 pub returns : goal.returns
 returns g c =
-    let sources = c.args.sources.now in
-    let labels = sources.labels.now in
-    let links = g.K.Links.edges sources.links.now in
-    let entries = g.V.Values.entries sources.values.now in
+    let indexed = c.args.indexed.now in
+    let labels = indexed.labels.now in
+    let links = g.K.Links.edges indexed.links.now in
+    let entries = g.V.Values.entries indexed.values.now in
     let own = subst (λ (found : Option OnlyWord). IfSome found (IsItsWord labels (path_tree c.args.own.now.rest))) c.in-Some-2.is c.in_ok-word.ensures.word in
     let table = subst (λ (found : Option (List (ℤ × Oid))). IfSome found (IsTableOf labels links entries (path_tree c.args.sought.now.rest))) c.in-Some-3.is
     c.in_ok-table.ensures in
-    joins_paths labels (g.G.Adjacent.edges sources.graph.now) (g.G.ValueOf.objects sources.graph.now) links entries (bound_path c.args.own.now)
+    joins_paths labels (g.G.Adjacent.edges indexed.graph.now) (g.G.ValueOf.objects indexed.graph.now) links entries (bound_path c.args.own.now)
     (bound_path c.args.sought.now) _ c.requires.indexes c.in-Some.ensures.own c.in-Some.ensures.sought own table

@@ -9,10 +9,10 @@ members-init g c = λ whole follows all. all
 
 pub members-preserved : goal.members-preserved
 members-preserved g c =
-    let sources = c.args.sources.now in
-    let labels = sources.labels.now in
-    let edges = g.G.Adjacent.edges sources.graph.now in
-    let objects = g.G.ValueOf.objects sources.graph.now in
+    let indexed = c.args.indexed.now in
+    let labels = indexed.labels.now in
+    let edges = g.G.Adjacent.edges indexed.graph.now in
+    let objects = g.G.ValueOf.objects indexed.graph.now in
     let members = c.args.members.now in
     adds_more labels edges objects (and (conds_from (map bound_cond members))) c.args.joins.now.items c.members.joins.items c.push_join.new.joins.items
     c.members.invariant

@@ -6,5 +6,5 @@ use Rattle.slot_joins.proofs.members.push_each.Given as goal
 
 abbrev pub invariant-members : goal.invariant-members
 invariant-members g l =
-    AddsJoins l.sources.labels.now (g.G.Adjacent.edges l.sources.graph.now) (g.G.ValueOf.objects l.sources.graph.now)
+    AddsJoins l.indexed.labels.now (g.G.Adjacent.edges l.indexed.graph.now) (g.G.ValueOf.objects l.indexed.graph.now)
     (and (conds_from (map bound_cond l.members))) l.fn.joins.items l.joins.items

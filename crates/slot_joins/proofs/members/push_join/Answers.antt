@@ -9,10 +9,10 @@ use Rattle.slot_joins.proofs.members.push_join.Goals as goal
 
 pub returns : goal.returns
 returns g c =
-    let sources = c.args.sources.now in
-    let labels = sources.labels.now in
-    let edges = g.G.Adjacent.edges sources.graph.now in
-    let objects = g.G.ValueOf.objects sources.graph.now in
+    let indexed = c.args.indexed.now in
+    let labels = indexed.labels.now in
+    let edges = g.G.Adjacent.edges indexed.graph.now in
+    let objects = g.G.ValueOf.objects indexed.graph.now in
     let asked = compare (at (bound_path c.in-Some.left.now)) Eq (at (bound_path c.in-Some.right.now)) in
     let join = subst (λ (found : Option Join). IfSome found (IsJoinIn labels edges objects (Some asked))) c.in-Some-2.is c.in_ok-join.ensures in
     adds_same labels edges objects asked (bound_cond c.args.cond.now) c.args.joins.now.items c.push.new.self.items (sym c.in-Some.ensures)

@@ -7,10 +7,10 @@ use Rattle.slot_joins.proofs.members.push_joins.Goals as goal
 
 pub returns-in-And : goal.returns-in-And
 returns-in-And g c =
-    let sources = c.args.sources.now in
-    let edges = g.G.Adjacent.edges sources.graph.now in
-    let objects = g.G.ValueOf.objects sources.graph.now in
+    let indexed = c.args.indexed.now in
+    let edges = g.G.Adjacent.edges indexed.graph.now in
+    let objects = g.G.ValueOf.objects indexed.graph.now in
     let whole : and (conds_from (map bound_cond c.as_slice.result.now)) ≡ bound_cond c.args.cond.now =
     ap (λ (l : List (CondOf BoundPathTree)). and (conds_from l)) c.as_slice.ensures.trees ∙ sym (and_cond c.args.cond.now c.in-And.members c.in-And.is) in
-    subst (λ (w : CondOf BoundPathTree). OnOk c.push_each.result (AddsJoins sources.labels.now edges objects w c.args.joins.now.items c.push_each.new.joins.items)) whole
+    subst (λ (w : CondOf BoundPathTree). OnOk c.push_each.result (AddsJoins indexed.labels.now edges objects w c.args.joins.now.items c.push_each.new.joins.items)) whole
     c.push_each.ensures

@@ -5,11 +5,11 @@ use Rattle.lorel_bound.specs.Bound.{bound_tree}
 use Rattle.lorel_bound.specs.Plans.{steps_of}
 use Rattle.lorel_bound.specs.SlotRows.{IsSlotRow}
 use Rattle.answers.specs.Asked.{AreRows, AreTooMany}
+use Rattle.select_rows.specs.Views.{view_over, IsRowOf, ReadsNone}
 use Rattle.statements.specs.Types.refusals
 use Rattle.statements.specs.Uncounted.{IsPlain}
 use Rattle.statements.specs.Stops.{told}
-use Rattle.statements.specs.inside.Views.{view_over, IsRowOf, ReadsNone}
-use Rattle.statements.proofs.StopLaws.{on_reply_weaker}
+use Rattle.statements.proofs.StopLaws.{on_reply_weaker, answered_rows, answered_stop, answered_quiet}
 use Rattle.statements.proofs.ViewLaws.{its_rows, its_stop, its_view, its_plain}
 use Rattle.statements.proofs.selects.found_by.Goals as goal
 
@@ -28,8 +28,9 @@ returns-clause-rows g c =
     let tree = bound_tree c.args.bound.now in
     let labels = c.labels-labels.result.now in
     let graph = c.graph-graph.result.now.graph in
-    IfOk-weaker c.rows_over.result (AreRows (IsRowOf labels graph.edges graph.objects tree)) (AreRows (IsSlotRow db tree))
-    (its_rows db tree labels graph c.labels-labels.ensures c.graph-graph.ensures.graph) c.rows_over.ensures.rows
+    IfOk-weaker c.answer_of.result (AreRows (IsRowOf labels graph.edges graph.objects tree)) (AreRows (IsSlotRow db tree))
+    (its_rows db tree labels graph c.labels-labels.ensures c.graph-graph.ensures.graph)
+    (answered_rows c.rows_over.result (IsRowOf labels graph.edges graph.objects tree) c.answer_of.result c.answer_of.ensures.ok c.rows_over.ensures.rows)
 
 pub returns-clause-refused : goal.returns-clause-refused
 returns-clause-refused g c =
@@ -37,11 +38,11 @@ returns-clause-refused g c =
     let tree = bound_tree c.args.bound.now in
     let labels = c.labels-labels.result.now in
     let graph = c.graph-graph.result.now.graph in
-    IfErr-weaker c.rows_over.result
+    IfErr-weaker c.answer_of.result
     (λ stop. IfSome (told stop) (λ refusal. (refusal ≡ refusals.TooManyRows) × AreTooMany (IsRowOf labels graph.edges graph.objects tree)))
     (λ stop. IfSome (told stop) (λ refusal. (refusal ≡ refusals.TooManyRows) × AreTooMany (IsSlotRow db tree)))
     (λ stop h. its_stop db tree labels graph c.labels-labels.ensures c.graph-graph.ensures.graph (told stop) h)
-    c.rows_over.ensures.refused
+    (answered_stop c.rows_over.result (IsRowOf labels graph.edges graph.objects tree) c.answer_of.result c.answer_of.ensures.refused c.rows_over.ensures.rows)
 
 pub returns-clause-quiet : goal.returns-clause-quiet
 returns-clause-quiet g c =
@@ -53,10 +54,10 @@ returns-clause-quiet g c =
     let links = c.links.result.now.links in
     let entries = c.values.result.now.entries in
     let reaches = g.P.Paths.reaches c.args.paths.now in
-    on_reply_weaker c.rows_over.result
-    (ReadsNone (view_over labels graph.edges graph.objects links entries reaches tree) tree (steps_of plan)
-    → c.rows_over.new.steps ≡ c.args.steps.now)
-    (IsPlain tree → c.rows_over.new.steps ≡ c.args.steps.now)
+    let over = view_over labels graph.edges graph.objects links entries reaches tree in
+    let Same = c.rows_over.new.steps ≡ c.args.steps.now in
+    on_reply_weaker c.answer_of.result (ReadsNone over tree (steps_of plan) → Same) (IsPlain tree → Same)
     (λ same plain. same (its_plain db tree labels graph c.labels-labels.ensures c.graph-graph.ensures.graph c.requires.named links c.links.ensures
     entries c.values.ensures reaches c.requires.tells c.requires.runnable plan c.in_ok-plan.ensures.kind (c.in_ok-plan.ensures.steps db.labels) plain))
-    c.rows_over.ensures.quiet
+    (answered_quiet c.rows_over.result c.answer_of.result c.answer_of.ensures.ok c.answer_of.ensures.refused (ReadsNone over tree (steps_of plan) → Same)
+    c.rows_over.ensures.quiet)

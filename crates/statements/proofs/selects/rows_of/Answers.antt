@@ -12,7 +12,6 @@ use Rattle.statements.specs.Uncounted.{IsQuietBound, IsQuietSelect}
 use Rattle.statements.specs.Stops.{told}
 use Rattle.statements.specs.inside.Stages.{ReadCause, read_order}
 use Rattle.statements.proofs.SelectLaws.{rows_answer, rows_clear, rows_told}
-use Rattle.statements.proofs.StageLaws.{on_ok}
 use Rattle.statements.proofs.StopLaws.{on_reply_weaker}
 use Rattle.statements.proofs.QuietPlanLaws.{bound_quiet}
 use Rattle.statements.proofs.selects.rows_of.Goals as goal
@@ -30,7 +29,7 @@ returns-clause-ok g c =
     let db = c.args.store.now.db in
     let query = select_tree c.args.query.now in
     let tree = bound_tree c.in_ok-bound.bound in
-    on_ok c.found-found.result (AreRows (IsSlotRow db tree)) (IsClear (ReadCause db query) read_order)
+    IfOk-weaker c.found-found.result (AreRows (IsSlotRow db tree)) (λ answer. IsClear (ReadCause db query) read_order)
     (rows_clear db query tree c.in_ok-bound.ensures.binding c.in_ok-bound.ensures.ok) c.found-found.ensures.rows
 
 pub returns-clause-refused : goal.returns-clause-refused

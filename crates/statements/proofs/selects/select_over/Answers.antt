@@ -6,13 +6,13 @@ use Rattle.lorel_trees.specs.Trees.{select_tree, select}
 use Rattle.lorel_bind.specs.Faults.{refusal_of}
 use Rattle.lorel_bound.specs.Bound.{bound_tree}
 use Rattle.answers.specs.Asked.{AreRows, AreTooMany}
+use Rattle.select_rows.specs.Views.{IsRowOf}
 use Rattle.statements.specs.Types.{Rows}
 use Rattle.statements.specs.Types.refusals
 use Rattle.statements.specs.Pasts.{database_over}
 use Rattle.statements.specs.Statements.{Cause, cause_order, Executes}
 use Rattle.statements.specs.Stops.{told}
 use Rattle.statements.specs.inside.Stages.{ReadCause, bind_order}
-use Rattle.statements.specs.inside.Views.{IsRowOf}
 use Rattle.statements.proofs.ExecutionLaws.{select_performs, select_told}
 use Rattle.statements.proofs.OrderLaws.{told_left}
 use Rattle.statements.proofs.ReadLaws.{bind_told}

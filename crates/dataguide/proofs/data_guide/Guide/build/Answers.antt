@@ -8,7 +8,7 @@ use Rattle.dataguide.specs.Guides.{GuideGraph, StandsFor}
 use Rattle.set_explorer.specs.Nodes.{sets_of}
 use Rattle.set_explorer.specs.Touched.{ReadsTouched, ReadsSome}
 use Rattle.dataguide.specs.Deltas.{guide_then}
-use Rattle.dataguide.proofs.ChangeLaws.{stood-new, reads-all, reads-at_most}
+use Rattle.dataguide.proofs.ChangeLaws.{stood-new, tells-nothing, reads-all, reads-at_most}
 use Rattle.dataguide.proofs.data_guide.Guide.build.Goals as goal
 
 pub plan-requires : goal.plan-requires
@@ -16,6 +16,9 @@ plan-requires g c = record {
   stood = stood-new c.new-guide.result (g.A.Adjacent.edges c.args.graph.now) c.new-guide.ensures.nodes
       c.new-guide.ensures.entries;
   ascend = λ i j d less within. absurd (omega (arith, within));
+  lost_ascend = λ i j d less within. absurd (omega (arith, within));
+  tells = tells-nothing (g.A.Adjacent.edges c.args.graph.now) c.from_ascending-none.result
+      (c.from_ascending-none.ensures ∙ c.new.ensures);
 }
 
 pub returns-clause-guide : goal.returns-clause-guide

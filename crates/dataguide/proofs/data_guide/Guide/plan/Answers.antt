@@ -8,12 +8,12 @@ use Rattle.set_explorer.specs.Nodes.{sets_of, IsEntry}
 use Rattle.set_explorer.specs.Touched.{ReadsTouched, ReadsSome, parents_of}
 use Rattle.set_explorer.specs.PlannedNodes.{node_then, nodes_then}
 use Rattle.set_explorer.specs.HashedNodes.{IsHashed}
-use Rattle.set_explorer.specs.Changes.{IsChange}
+use Rattle.set_explorer.specs.Changes.{IsToldChange}
 use Rattle.dataguide.specs.Guides.{StandsFor}
 use Rattle.dataguide.specs.Deltas.{guide_then, IsReady}
 use Rattle.set_explorer.proofs.CountLaws.{fit-counted}
 use Rattle.set_explorer.proofs.FillLaws.{planned-ascend}
-use Rattle.dataguide.proofs.ChangeLaws.{stood-change, reads-same, some-same}
+use Rattle.dataguide.proofs.ChangeLaws.{told-change, reads-same, some-same}
 use Rattle.dataguide.proofs.data_guide.Guide.plan.Goals as goal
 
 pub explore_sets-requires : goal.explore_sets-requires
@@ -21,9 +21,11 @@ explore_sets-requires g c =
     let edges = g.A.Adjacent.edges c.args.after.now in
     let same = sym c.table-guide.ensures.nodes in
     record {
-      stood = subst (λ (l : List GuideNode). IsChange l c.in_ok-dirty.dirty c.in_ok-grown.grown c.args.fresh.now edges) same
-          (stood-change c.args.self.now c.args.lost.now c.args.fresh.now edges c.in_ok-dirty.dirty c.in_ok-grown.grown
-          c.requires.stood c.requires.ascend c.in_ok-dirty.ensures c.in_ok-grown.ensures);
+      told = subst (λ (l : List GuideNode). IsToldChange l c.args.lost.now c.args.fresh.now edges c.args.entered.now.oids.now
+          c.args.entered.now.edges.now c.in_ok-dirty.dirty c.in_ok-grown.grown c.in_ok-back.back) same
+          (told-change c.args.self.now c.args.lost.now c.args.fresh.now edges c.args.entered.now.oids.now c.args.entered.now.edges.now
+          c.in_ok-dirty.dirty c.in_ok-grown.grown c.in_ok-back.back c.requires.stood c.requires.lost_ascend c.requires.ascend
+          c.requires.tells c.in_ok-dirty.ensures c.in_ok-grown.ensures c.in_ok-back.ensures);
       hashed = subst (λ (l : List GuideNode). IsHashed c.table-guide.result.by_hash.now l) same
           c.table-guide.ensures.hashed;
     }

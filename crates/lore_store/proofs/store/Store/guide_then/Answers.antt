@@ -1,7 +1,10 @@
-use Rattle.std.proofs.Common.{sym, ap, subst, ◌∙◌}
+use Rattle.std.proofs.Common.{List, sym, ap, subst, ◌∙◌}
 use Rattle.std.proofs.lemmas.Result.{err_from_is_err_and}
 use Rattle.lore_base.specs.GuideLimits.{FitsGuide}
 use Rattle.lore_base.specs.ChangeSets.{FitsGraph, IsGraphAfter}
+use Rattle.lore_base.specs.declared.edges.Edge.{Edge}
+use Rattle.lore_base.specs.Databases.{AreAscendingEdges}
+use Rattle.dataguide.specs.Changes.{TellsEntering}
 use Rattle.dataguide.specs.Deltas.{IsReady}
 use Rattle.dataguide.specs.Deltas as guides
 use Rattle.lore_base.specs.declared.deltas.Delta.{Delta}
@@ -68,7 +71,16 @@ plan-requires g c =
     let before = stood_before graph (graph_then graph plan) c.self.inside.guide c.self.invariant.guided plan.delta differ
     c.then-then.result.edges c.as_slice-lost.result.now c.as_slice-fresh.result.now c.then-then.ensures.edges
     (c.as_slice-lost.ensures ∙ ap (λ (d : Delta). d.edges_gone) c.delta-delta.ensures) (c.as_slice-fresh.ensures ∙ ap (λ (d : Delta). d.edges_come) c.delta-delta.ensures) in
-    record { stood = before.0; ascend = before.1 }
+    let gone = c.as_slice-lost.ensures ∙ ap (λ (d : Delta). d.edges_gone) c.delta-delta.ensures in
+    let tells = subst (λ (s : RoomyDatabase). TellsEntering (graph_then s.db.graph plan).edges c.args.cut.now.oids c.args.cut.now.edges)
+    (sym c.self.view_is) c.requires.tells in
+    record {
+      stood = before.0;
+      ascend = before.1;
+      lost_ascend = subst AreAscendingEdges (sym gone) differ.edges_ascend.0;
+      tells = subst (λ (l : List Edge). TellsEntering c.then-then.result.edges c.args.cut.now.oids l) (sym c.as_slice-edges.ensures)
+          (subst (λ (l : List Edge). TellsEntering l c.args.cut.now.oids c.args.cut.now.edges) (sym c.then-then.ensures.edges) tells);
+    }
 
 pub returns-clause-guided : goal.returns-clause-guided
 returns-clause-guided g c =

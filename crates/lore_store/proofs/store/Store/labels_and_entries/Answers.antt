@@ -8,7 +8,7 @@ use Rattle.oem_labels.specs.Labels.{first_uses, LeadsFrom}
 use Rattle.oem_graph.specs.Plans.{graph_then}
 use Rattle.value_changes.specs.Reads.{ReadsChanged}
 use Rattle.lore_store.specs.Indexes.{AreIndexed}
-use Rattle.lore_store.specs.Stores.{RoomyDatabase, database_of, order}
+use Rattle.lore_store.specs.Stores.{RoomyDatabase, database_of, store_order}
 use Rattle.lore_store.specs.inside.Sizes.{SizeCause}
 use Rattle.lore_store.proofs.ReadLaws.{edges_read}
 use Rattle.lore_store.proofs.PreparedLaws.{labels_fit}
@@ -54,7 +54,7 @@ planned_indexes-requires-clause-read g c =
 
 pub planned_indexes-requires-clause-few : goal.planned_indexes-requires-clause-few
 planned_indexes-requires-clause-few g c =
-    let sized = subst (λ (store : RoomyDatabase). IsClear (SizeCause (graph_then store.db.graph c.args.plan.now)) order) (sym c.self.view_is) c.requires.sized in
+    let sized = subst (λ (store : RoomyDatabase). IsClear (SizeCause (graph_then store.db.graph c.args.plan.now)) store_order) (sym c.self.view_is) c.requires.sized in
     omega (arith, sized.1.1.0)
 
 pub returns-in-Ok-clause-come : goal.returns-in-Ok-clause-come

@@ -41,7 +41,7 @@ returns-in_err-guide-clause-refused g c =
     let answered = err_from_is_err_and c.from_residual-in_err-guide.result c.from_residual-in_err-guide.ensures.1 in
     rw (answered.1, answered.2) (λ other first searched.
     explored_within db.graph changes overlay.edges overlay.lost overlay.fresh (rooted_graph db c.graph-valid.ensures.valid) c.requires.fits.graph c.requires.overlay
-    (graph_then db.graph c.args.plan.now) c.requires.after first _ _ searched (c.in_err-guide.ensures.refused other))
+    (graph_then db.graph c.args.plan.now) c.requires.after first _ _ _ searched c.in_ok-cut.ensures.spent (c.in_err-guide.ensures.refused other))
 
 pub returns-in-Ok-clause-after : goal.returns-in-Ok-clause-after
 returns-in-Ok-clause-after g c =
@@ -72,4 +72,5 @@ returns-in-Ok-clause-reads g c = λ first searched.
     let overlay = c.args.overlay.now in
     let plan = c.args.plan.now in
     prepared_within db.graph changes overlay.edges overlay.lost overlay.fresh (rooted_graph db c.graph-valid.ensures.valid) c.requires.fits.graph c.requires.overlay
-    (graph_then db.graph plan) c.requires.after plan.delta c.requires.delta first _ _ _ searched c.in_ok-guide.ensures.spent c.in-Ok.ensures.reads
+    (graph_then db.graph plan) c.requires.after plan.delta c.requires.delta first _ _ _ _ searched c.in_ok-cut.ensures.spent c.in_ok-guide.ensures.spent
+    c.in-Ok.ensures.reads

@@ -1,7 +1,7 @@
 use Rattle.std.proofs.Common.{◌≤◌, ℕ, List, All, [], length, map, take, sym, ap, subst, ◌∙◌, arith, append-nil}
 use Rattle.std.proofs.lemmas.List.{take_all, length-map}
 use Rattle.oem_text.specs.declared.flat.Link.{Link}
-use Rattle.oem_text.specs.Layouts.{LaidOut, IsBelow, table_of, edge_from}
+use Rattle.oem_text.specs.Layouts.{LaidOut, JoinsBelow, table_of, edge_from}
 use Rattle.oem_text.specs.inside.Views.{placed_of, laid_out}
 use Rattle.oem_text.proofs.LaidLaws.{arc_here, link_below, edge_own, numbers_more, edges_more, labels_past, few_more, few_all}
 use Rattle.oem_text.proofs.layouts.Layout.edges.Goals as goal
@@ -17,7 +17,7 @@ returns-in_default-clause-none c =
 pub edge_at-requires-clause-parent : goal.edge_at-requires-clause-parent
 edge_at-requires-clause-parent c =
     let count = ap (λ (l : LaidOut). length l.values) c.self.view_is in
-    let all = subst (λ (l : List Link). All (IsBelow (length (laid_out c.self.inside.literals.items c.self.inside.links.items).values)) (map placed_of l))
+    let all = subst (λ (l : List Link). All (JoinsBelow (length (laid_out c.self.inside.literals.items c.self.inside.links.items).values)) (map placed_of l))
     (sym c.deref-link-items.ensures.value) c.self.invariant.joined in
     let below = link_below c.deref-link-items.result.now (length (laid_out c.self.inside.literals.items c.self.inside.links.items).values) c.links.link-index
     c.link-item.result all (omega arith) c.link-item.is in
@@ -27,7 +27,7 @@ edge_at-requires-clause-parent c =
 pub edge_at-requires-clause-child : goal.edge_at-requires-clause-child
 edge_at-requires-clause-child c =
     let count = ap (λ (l : LaidOut). length l.values) c.self.view_is in
-    let all = subst (λ (l : List Link). All (IsBelow (length (laid_out c.self.inside.literals.items c.self.inside.links.items).values)) (map placed_of l))
+    let all = subst (λ (l : List Link). All (JoinsBelow (length (laid_out c.self.inside.literals.items c.self.inside.links.items).values)) (map placed_of l))
     (sym c.deref-link-items.ensures.value) c.self.invariant.joined in
     let below = link_below c.deref-link-items.result.now (length (laid_out c.self.inside.literals.items c.self.inside.links.items).values) c.links.link-index
     c.link-item.result all (omega arith) c.link-item.is in

@@ -3,7 +3,7 @@ use Rattle.std.specs.List.{sum_by}
 use Rattle.read_costs.specs.ReadCosts.{out_reads, in_reads}
 use Rattle.block_rounds.specs.Partitions.{IsNumbered}
 use Rattle.one_index.specs.Types.{Oid, Edge}
-use Rattle.one_index.specs.Blocks.{graph_of, IsSound}
+use Rattle.one_index.specs.Blocks.{named_graph_of, IsSound}
 use Rattle.one_index.specs.inside.Parted.{IsParted}
 use Rattle.one_index.proofs.BuildLaws.{AreBlocksOf-built, members-shown, edges-shown, few_blocks, cost_both}
 use Rattle.one_index.proofs.blocks.Blocks.build.Goals as goal
@@ -50,7 +50,7 @@ returns-clause-blocks g c =
     subst (λ (l : List Oid). IsNumbered (length l) numbers heads) c.as_slice-oids.ensures c.in_ok-partition.ensures.numbered in
     let every : length blocks ≡ length heads = omega (arith, c.in_ok-blocks.ensures.every, c.len.ensures, c.in_ok-partition.partition.heads.ok.0) in
     let parted =
-    subst (λ (l : List Oid). IsSound (graph_of names l edges) → IsParted (graph_of names l edges) numbers) c.as_slice-oids.ensures
+    subst (λ (l : List Oid). IsSound (named_graph_of names l edges) → IsParted (named_graph_of names l edges) numbers) c.as_slice-oids.ensures
     (c.in_ok-partition.ensures.parted edges c.requires.same) c.requires.sound in
     let members =
     members-shown c.as_slice-oids.result.now objects c.as_slice.result.now numbers blocks c.as_slice-oids.ensures c.as_slice.ensures.value
@@ -58,7 +58,7 @@ returns-clause-blocks g c =
     let linked =
     edges-shown edges c.as_slice-oids.result.now objects c.as_slice.result.now numbers blocks c.as_slice-oids.ensures
     c.as_slice.ensures.value c.in_ok-blocks.ensures.edges in
-    AreBlocksOf-built (graph_of names objects edges) numbers heads blocks c.requires.sound parted numbered c.in_ok-partition.ensures.order
+    AreBlocksOf-built (named_graph_of names objects edges) numbers heads blocks c.requires.sound parted numbered c.in_ok-partition.ensures.order
     every members c.in_ok-blocks.ensures.ordered linked
 
 pub returns-clause-few : goal.returns-clause-few

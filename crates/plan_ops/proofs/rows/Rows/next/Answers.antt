@@ -1,7 +1,7 @@
 use Rattle.std.proofs.Common.{◌≡◌, List, map, All, IfOk, OnOk, OnErr, sym, ap, ◌∙◌, subst}
 use Rattle.lorel_bound.specs.Plans.{StepTree, steps_of}
 use Rattle.plan_ops.specs.Types.{Oid}
-use Rattle.plan_ops.specs.Steps.{steps_over}
+use Rattle.plan_laws.specs.Steps.{steps_over}
 use Rattle.plan_ops.specs.Rows.{IsToCome, AreSame, AnswersNext, ReadNothing}
 use Rattle.plan_ops.specs.inside.Ready.{ReadyStep, ready_tree, HasFound}
 use Rattle.plan_ops.specs.inside.Keeping.{AreKeptBy}

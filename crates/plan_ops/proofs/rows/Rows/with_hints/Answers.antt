@@ -3,8 +3,8 @@ use Rattle.lorel_bound.specs.Bound.{bound_tree}
 use Rattle.lorel_bound.specs.declared.plans.PlanStep.{PlanStep}
 use Rattle.lorel_bound.specs.Plans.{step_tree, steps_of}
 use Rattle.plan_ops.specs.Types.{Oid}
-use Rattle.plan_ops.specs.Steps.{steps_over}
-use Rattle.plan_ops.specs.inside.Ready.{CanBeReady}
+use Rattle.plan_laws.specs.Steps.{steps_over}
+use Rattle.plan_laws.specs.Orders.{CanBeReady}
 use Rattle.plan_ops.proofs.ReadyLaws.{steps_can, first_of, first_machine}
 use Rattle.plan_ops.proofs.KeptLaws.{none_by}
 use Rattle.plan_ops.proofs.DescribeLawsToCome.{top_to_come, sought_to_come}

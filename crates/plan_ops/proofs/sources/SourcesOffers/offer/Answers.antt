@@ -1,5 +1,5 @@
 use Rattle.std.proofs.Common.{refl}
-use Rattle.plan_ops.specs.Steps.{steps_over}
+use Rattle.plan_laws.specs.Steps.{steps_over}
 use Rattle.std.proofs.lemmas.Result.{IfOk-weaker}
 use Rattle.plan_ops.proofs.OfferLaws.{route_offers, word_offers, guide_offers, lent, value_offers, none_found, back_offers, test_offers, check_tells}
 use Rattle.plan_ops.proofs.sources.SourcesOffers.offer.Goals as goal

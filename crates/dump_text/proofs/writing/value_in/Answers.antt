@@ -1,5 +1,0 @@
-use Rattle.std.proofs.lemmas.Option.{same_Some}
-use Rattle.dump_text.proofs.writing.value_in.Goals as goal
-
-pub returns : goal.returns
-returns c = λ value at. same_Some c.in-Some.value.now value (c.in-Some.ensures.only value at)

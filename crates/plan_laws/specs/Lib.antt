@@ -1,0 +1,4 @@
+pub mod Types
+pub mod Steps
+pub mod Orders
+pub mod Laws

@@ -1,5 +1,0 @@
-use Rattle.plan_ops.proofs.DescribeLaws.{steps_describe_rows}
-use Rattle.plan_ops.proofs.laws.steps_describe_rows.Goals as goal
-
-pub returns : goal.returns
-returns c = steps_describe_rows

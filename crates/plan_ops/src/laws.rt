@@ -1,8 +1,0 @@
-//! Laws of plans.
-
-ghost use Rattle.plan_ops.specs.Laws.{StepsDescribeRows};
-
-/// Over one database the steps of each kind describe the same rows.
-pub fn steps_describe_rows()
-    ensures { StepsDescribeRows }
-{}

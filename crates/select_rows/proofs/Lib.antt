@@ -1,0 +1,4 @@
+pub mod SlotLaws
+pub mod StageLaws
+pub mod HintedLaws
+pub mod SomeReadLaws
